@@ -12,7 +12,7 @@ use Rattle.starts_core.specs.declared.starts.StartPlace.{StartPlace}
 use Rattle.starts_core.specs.declared.starts.StartPlace.TheVariants.{Dormant, Live, Ended}
 use Rattle.sync_model.specs.Log.{after, Follows}
 use Rattle.starts_core.specs.StartsMachine.{StartsState, begun, first_place, next, made, callers_of, place_of, is_live, is_any_live, left_from, with_place, started, ended}
-use Rattle.starts_core.specs.StartsEdges.{goes, is_made}
+use Rattle.starts_core.specs.StartsEdges.{goes, is_made, starts_releases}
 use Rattle.starts_core.specs.StartsLaws.{Log, leave_by, is_start_of, starts, is_going, IsByLive, StartsByLive}
 use Rattle.starts_core.proofs.Standing.{other_write}
 
@@ -190,3 +190,13 @@ never-for-good apart dormant before rest w follows by =
     let parts = apart (begun dormant) before (leave_by w Never ∷ rest) follows in
     let same : (next s w Leave).0 ≡ s = same_if (nat_lt w (callers_of s)) s w in
     nobody_goes s rest (never_if (nat_lt w (callers_of s)) s w parts.1.0) (subst (λ (t : StartsState). Follows next t rest) same parts.1.1) by
+
+-- a start that was made releases
+second : (a b : Bool) → (a && b) ≡ true → b ≡ true
+second true b is = is
+second false b is = no is
+
+pub start-releases : (w : ℕ) (event : StartEvent) (reply : StartReply) → (is_start_of w event && is_made reply) ≡ true → starts_releases event reply ≡ true
+start-releases w (Start other) reply is = second (other == w) (is_made reply) is
+start-releases w End reply is = no is
+start-releases w Leave reply is = no is

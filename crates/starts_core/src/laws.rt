@@ -4,7 +4,7 @@ ghost use Rattle.std.specs.List.{list_any};
 ghost use Rattle.starts_core.specs.StartsEdges.{starts_releases, starts_acquires};
 ghost use Rattle.starts_core.specs.StartsMachine.{StartsState, begun, next, callers_of, place_of, is_any_live};
 ghost use Rattle.starts_core.specs.StartsStanding.{may_make, moved};
-ghost use Rattle.starts_core.specs.StartsLaws.{Log, IsLog, state_after, leave_by, starts, is_going, stands_by, StartInTurn, StartsByLive};
+ghost use Rattle.starts_core.specs.StartsLaws.{StartsEntry, Log, IsLog, state_after, leave_by, starts, is_going, stands_by, StartInTurn, StartsByLive};
 
 use crate::starts::{StartEvent, StartPlace, StartReply, StartsCore};
 use sync_model::laws::logs::logs_go_on;
@@ -74,10 +74,11 @@ pub fn still()
     ensures unmade { (state : StartsState) (caller : ℕ) (event : StartEvent) → IsFalse (may_make state caller event) → next state caller event ≡ (state, StartReply.Still) }
 {}
 
-/// A start that was made releases, and so does an end; a going acquires. So a worker that goes knows what the one knew that started it.
+/// A start that was made releases, and so does an end; a going acquires. So a worker that goes knows what the one knew that started
+/// it (`goes_when_started`).
 /// Whoever is told to wait, or that it never goes, learns nothing.
 pub fn synchronizes()
-    ensures starts { (worker : ℕ) → IsTrue (starts_releases (StartEvent.Start worker) StartReply.Done) }
+    ensures starts { (worker : ℕ) (e : StartsEntry) → IsTrue (starts worker e) → IsTrue (starts_releases e.event e.reply) }
     ensures ends { IsTrue (starts_releases StartEvent.End StartReply.Done) }
     ensures goes { IsTrue (starts_acquires StartEvent.Leave StartReply.Go) }
     ensures unmoved { (event : StartEvent) → IsFalse (starts_releases event StartReply.Still) × IsFalse (starts_acquires event StartReply.Still) }
