@@ -1,0 +1,9 @@
+pub mod AtomicCallers
+pub mod CondCallers
+pub mod GroupCallers
+pub mod Made
+pub mod MapCallers
+pub mod MutexCallers
+pub mod OnceCallers
+pub mod Renewing
+pub mod RwCallers

@@ -1,0 +1,63 @@
+//! Go's `sync.Cond`: a cond, and the callers that threads wait and signal by.
+ghost use Rattle.std.specs.Prelude.{◌<◌, ◌≤◌, All, IfOk};
+ghost use Rattle.go_waits.specs.Conds.{IsPassOf};
+
+mod calls;
+
+use go_waits::{Cond, CondPass};
+use ruled_object::MAX_CALLS;
+use std::alloc::{AllocError, Global};
+use sync_model::NoNote;
+use sync_outside::Clock;
+
+/// What a cond keeps of its threads, one for each. `cond_callers` makes callers of them.
+pub type CondPasses = Vec<CondPass<NoNote>>;
+
+/// A cond at which nobody waits, for so many threads, 64 at most.
+pub fn new_cond(alloc: Global, threads: u32) -> Result<(Cond<NoNote>, CondPasses), AllocError>
+    requires { (0 < threads) × (threads ≤ 64) }
+    ensures { IfOk result (λ made. All (IsPassOf made.0) made.1.items) }
+{
+    let (cond, passes) = Cond::new(alloc, threads, MAX_CALLS, NoNote)?;
+    Ok((cond, passes))
+}
+
+/// A caller for each thread.
+pub fn cond_callers<'a, C: Clock>(
+    alloc: Global,
+    cond: &'a Cond<NoNote>,
+    clock: &'a C,
+    mut passes: CondPasses,
+) -> Result<Vec<CondCaller<'a, C>>, AllocError>
+    requires { All (IsPassOf cond.now) passes.items }
+{
+    let mut callers = Vec::with_capacity(alloc, passes.len())?;
+    for _ in 0..passes.len() {
+        if let Some(caller) = CondCaller::last(cond, clock, &mut passes) {
+            callers.push(caller)?;
+        }
+    }
+    Ok(callers)
+}
+
+/// What one thread waits and signals at a cond by.
+///
+/// In the words of Go's memory model: a `signal` or `broadcast` synchronizes before the return of any `wait` that it unblocks.
+#[derive(Drop)]
+pub struct CondCaller<'a, C: Clock> {
+    cond: &'a Cond<NoNote>,
+    clock: &'a C,
+    pass: CondPass<NoNote>,
+    ghost is: { IsPassOf cond.now pass },
+}
+
+impl<'a, C: Clock> CondCaller<'a, C> {
+    /// The caller of the last of these passes.
+    pub fn last(cond: &'a Cond<NoNote>, clock: &'a C, passes: &mut CondPasses) -> Option<Self>
+        requires { All (IsPassOf cond.now) passes.old.items }
+        ensures { All (IsPassOf cond.now) passes.new.items }
+    {
+        let pass = passes.pop()?;
+        Some(CondCaller { cond, clock, pass })
+    }
+}

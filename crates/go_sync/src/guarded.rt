@@ -1,0 +1,97 @@
+//! Data that only the holder of a mutex reaches.
+ghost use Rattle.std.specs.Prelude.{◌<◌, ◌≤◌, All, IfOk, IfSome};
+ghost use Rattle.sync_model.specs.declared.answer.Answer.TheVariants.{Done};
+ghost use Rattle.go_locks.specs.MutexCalls.{Unlocks};
+ghost use Rattle.go_locks.specs.Mutexes.{IsPassOfMutex};
+ghost use Rattle.go_sync.specs.MutexCallers.{LocksSoon, Makes};
+ghost use Rattle.std.specs.Fn.{FnOnceReturnsAtMut};
+
+use crate::mutex::{MutexCaller, MutexPasses, mutex_callers, new_mutex};
+use go_locks::Mutex;
+use std::alloc::{AllocError, Global};
+use std::sync::{Mutex as Cell, Wait};
+use sync_model::{Answer, NoNote};
+use sync_outside::Clock;
+
+/// A value and the mutex that guards it.
+#[derive(Drop)]
+pub struct Guarded<T: Drop> {
+    mutex: Mutex<NoNote>,
+    value: Cell<T>,
+}
+
+impl<T: Drop> Guarded<T> {
+    /// The value, guarded, for so many threads, 64 at most, with their passes.
+    pub fn new(alloc: Global, threads: u32, value: T) -> Result<(Self, MutexPasses), AllocError>
+        requires { (0 < threads) × (threads ≤ 64) }
+        ensures { IfOk result (λ made. All (IsPassOfMutex made.0.mutex) made.1.items) }
+    {
+        let (mutex, passes) = new_mutex(alloc, threads)?;
+        Ok((
+            Guarded {
+                mutex,
+                value: Cell::new(value),
+            },
+            passes,
+        ))
+    }
+
+    /// A caller for each thread.
+    pub fn callers<'a, C: Clock>(
+        &'a self,
+        alloc: Global,
+        clock: &'a C,
+        passes: MutexPasses,
+    ) -> Result<Vec<GuardedCaller<'a, T, C>>, AllocError>
+        requires { All (IsPassOfMutex self.now.mutex) passes.items }
+    {
+        let mut members = Vec::with_capacity(alloc, passes.len())?;
+        for caller in mutex_callers(alloc, &self.mutex, clock, passes)? {
+            members.push(GuardedCaller {
+                caller,
+                value: &self.value,
+            })?;
+        }
+        Ok(members)
+    }
+
+    /// The value, once no caller is left.
+    pub fn into_inner(self) -> T {
+        self.value.into_inner()
+    }
+}
+
+/// What one thread reaches the value by.
+#[derive(Drop)]
+pub struct GuardedCaller<'a, T: Drop, C: Clock> {
+    caller: MutexCaller<'a, C>,
+    value: &'a Cell<T>,
+}
+
+impl<T: Drop, C: Clock> GuardedCaller<'_, T, C> {
+    /// Locks the mutex, changes the value, and unlocks. `None` where the mutex was
+    /// halted.
+    pub fn with<A, F: FnOnce(&mut T) -> A, R: Wait>(&mut self, rt: &R, change: F) -> Option<A>
+        requires { F.IsAlwaysCallable change }
+        ensures held { IfSome result (λ answer. (mid : _) × (end : _) × LocksSoon C.shows self.old.caller (Done tt) mid × Makes Unlocks (C.shows mid.clock.now) mid end self.new.caller) }
+        ensures changed { IfSome result (λ answer. (before after : T) × FnOnceReturnsAtMut F.FnOnce change before answer after) }
+    {
+        let Answer::Done(()) = self.caller.lock_soon(rt) else {
+            return None;
+        };
+        let answer = {
+            let mut held = self.value.lock(rt);
+            changed(&mut *held, change)
+        };
+        self.caller.unlock(rt);
+        Some(answer)
+    }
+}
+
+// What the change answers.
+fn changed<T, A, F: FnOnce(&mut T) -> A>(value: &mut T, change: F) -> A
+    requires { F.IsAlwaysCallable change }
+    ensures { FnOnceReturnsAtMut F.FnOnce change value.old result value.new }
+{
+    change(value)
+}

@@ -1,0 +1,27 @@
+//! Go's `sync` as a program uses it: each thread has one value for each object, its *caller*, which carries all that a call needs.
+//!
+//! A call has no condition and never runs out; it answers as Go's call of that name does. An object is made for a number of threads,
+//! 64 at most, and gives a caller to each. A program moves the callers into its threads. `docs/library.md` has a page for each type.
+#![tactic(auto)]
+
+pub mod atomic;
+pub mod cond;
+pub mod group;
+pub mod guarded;
+pub mod map;
+pub mod mutex;
+pub mod once;
+pub mod rw_mutex;
+
+pub use atomic::{AtomicCaller, atomic_callers, new_atomic};
+pub use cond::{CondCaller, CondPasses, cond_callers, new_cond};
+pub use group::{GroupCaller, GroupPasses, group_callers, new_group};
+pub use guarded::{Guarded, GuardedCaller};
+pub use map::{MapCaller, TableCallers, map_callers, new_map};
+pub use mutex::{MutexCaller, MutexPasses, mutex_callers, new_mutex};
+pub use once::{OnceCaller, OncePasses, new_once, once_callers};
+pub use rw_mutex::{RwCaller, RwPasses, new_rw_mutex, rw_callers};
+pub use shared_table::SharedTable;
+pub use sync_model::Answer;
+pub use sync_outside::Clock;
+pub use sync_types::Misuse;

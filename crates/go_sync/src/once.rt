@@ -1,0 +1,63 @@
+//! Go's `sync.Once`: a once, and the callers that threads come to it by.
+ghost use Rattle.std.specs.Prelude.{◌<◌, ◌≤◌, All, IfOk};
+ghost use Rattle.go_waits.specs.Onces.{IsPassOf};
+
+mod calls;
+
+use go_waits::{Once, OncePass};
+use ruled_object::MAX_CALLS;
+use std::alloc::{AllocError, Global};
+use sync_model::NoNote;
+use sync_outside::Clock;
+
+/// What a once keeps of its threads, one for each. `once_callers` makes callers of them.
+pub type OncePasses = Vec<OncePass<(), NoNote>>;
+
+/// A once that hasn't run, for so many threads, 64 at most.
+pub fn new_once(alloc: Global, threads: u32) -> Result<(Once<(), NoNote>, OncePasses), AllocError>
+    requires { (0 < threads) × (threads ≤ 64) }
+    ensures { IfOk result (λ made. All (IsPassOf made.0) made.1.items) }
+{
+    let (once, passes) = Once::new(alloc, threads, MAX_CALLS, NoNote)?;
+    Ok((once, passes))
+}
+
+/// A caller for each thread.
+pub fn once_callers<'a, C: Clock>(
+    alloc: Global,
+    once: &'a Once<(), NoNote>,
+    clock: &'a C,
+    mut passes: OncePasses,
+) -> Result<Vec<OnceCaller<'a, C>>, AllocError>
+    requires { All (IsPassOf once.now) passes.items }
+{
+    let mut callers = Vec::with_capacity(alloc, passes.len())?;
+    for _ in 0..passes.len() {
+        if let Some(caller) = OnceCaller::last(once, clock, &mut passes) {
+            callers.push(caller)?;
+        }
+    }
+    Ok(callers)
+}
+
+/// What one thread comes to a once by.
+///
+/// In the words of Go's memory model: the return from the function synchronizes before the return of each call on the once.
+#[derive(Drop)]
+pub struct OnceCaller<'a, C: Clock> {
+    once: &'a Once<(), NoNote>,
+    clock: &'a C,
+    pass: OncePass<(), NoNote>,
+    ghost is: { IsPassOf once.now pass },
+}
+
+impl<'a, C: Clock> OnceCaller<'a, C> {
+    /// The caller of the last of these passes.
+    pub fn last(once: &'a Once<(), NoNote>, clock: &'a C, passes: &mut OncePasses) -> Option<Self>
+        requires { All (IsPassOf once.now) passes.old.items }
+        ensures { All (IsPassOf once.now) passes.new.items }
+    {
+        let pass = passes.pop()?;
+        Some(OnceCaller { once, clock, pass })
+    }
+}

@@ -1,0 +1,64 @@
+//! Go's `sync.RWMutex`: a reader/writer lock, and the callers that threads lock it by.
+ghost use Rattle.std.specs.Prelude.{◌<◌, ◌≤◌, All, IfOk};
+ghost use Rattle.go_locks.specs.RwMutexes.{IsPassOfRwMutex};
+
+mod calls;
+
+use go_locks::{RwMutex, RwPass};
+use ruled_object::MAX_CALLS;
+use std::alloc::{AllocError, Global};
+use sync_model::NoNote;
+use sync_outside::Clock;
+
+/// What a reader/writer lock keeps of its threads, one for each. `rw_callers` makes callers of them.
+pub type RwPasses = Vec<RwPass<NoNote>>;
+
+/// An unlocked reader/writer lock for so many threads, 64 at most.
+pub fn new_rw_mutex(alloc: Global, threads: u32) -> Result<(RwMutex<NoNote>, RwPasses), AllocError>
+    requires { (0 < threads) × (threads ≤ 64) }
+    ensures { IfOk result (λ made. All (IsPassOfRwMutex made.0) made.1.items) }
+{
+    let (lock, passes) = RwMutex::new(alloc, threads, MAX_CALLS, NoNote)?;
+    Ok((lock, passes))
+}
+
+/// A caller for each thread.
+pub fn rw_callers<'a, C: Clock>(
+    alloc: Global,
+    lock: &'a RwMutex<NoNote>,
+    clock: &'a C,
+    mut passes: RwPasses,
+) -> Result<Vec<RwCaller<'a, C>>, AllocError>
+    requires { All (IsPassOfRwMutex lock.now) passes.items }
+{
+    let mut callers = Vec::with_capacity(alloc, passes.len())?;
+    for _ in 0..passes.len() {
+        if let Some(caller) = RwCaller::last(lock, clock, &mut passes) {
+            callers.push(caller)?;
+        }
+    }
+    Ok(callers)
+}
+
+/// What one thread locks a reader/writer lock by: any number of readers hold it, or one writer.
+///
+/// In the words of Go's memory model: an `unlock` or `r_unlock` is synchronized before each later `lock` and `r_lock`, and before each
+/// later try that succeeds.
+#[derive(Drop)]
+pub struct RwCaller<'a, C: Clock> {
+    lock: &'a RwMutex<NoNote>,
+    clock: &'a C,
+    pass: RwPass<NoNote>,
+    ghost is: { IsPassOfRwMutex lock.now pass },
+}
+
+impl<'a, C: Clock> RwCaller<'a, C> {
+    /// The caller of the last of these passes.
+    pub fn last(lock: &'a RwMutex<NoNote>, clock: &'a C, passes: &mut RwPasses) -> Option<Self>
+        requires { All (IsPassOfRwMutex lock.now) passes.old.items }
+        ensures { All (IsPassOfRwMutex lock.now) passes.new.items }
+    {
+        let pass = passes.pop()?;
+        Some(RwCaller { lock, clock, pass })
+    }
+}
