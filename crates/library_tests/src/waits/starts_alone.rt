@@ -126,7 +126,7 @@ fn a_go_takes_one_call_off_both_passes_however_it_ends(rt: HostRuntime) -> Resul
         live.make(&rt, call);
         let (member, worker) = live.left();
         assert!(rt; live.make(&rt, Call::Go(1)) == wanted);
-        assert!(rt; live.left() == (member - 1, worker - 1));
+        assert!(rt; live.left() == (member.saturating_sub(1), worker.saturating_sub(1)));
         assert!(rt; worker == MAX_CALLS);
     }
     Ok(())
