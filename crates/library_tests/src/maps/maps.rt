@@ -12,7 +12,6 @@ mod merged;
 mod race;
 mod ranges;
 mod shared;
-mod started;
 mod threads;
 
 use go_map::Map;
