@@ -74,11 +74,19 @@ const HALTED_STARTS: [Row; 6] = [
 fn first_other<R: Wait>(rt: &R, alloc: Global, rows: &[Row]) -> Result<Option<usize>, AllocError> {
     let (group, mut members) = group(alloc, 3)?;
     let (starts, mut passes) = workers(alloc, 3, &[false, true, true])?;
+    let last = Worker::last(&group, &starts, &mut members, &mut passes, knows(0));
+    let middle = Worker::last(&group, &starts, &mut members, &mut passes, knows(0));
+    let first = Worker::last(&group, &starts, &mut members, &mut passes, knows(0));
     let mut all = Vec::with_capacity(alloc, 3)?;
-    while let Some(worker) = Worker::last(&group, &starts, &mut members, &mut passes, knows(0)) {
+    if let Some(worker) = first {
         all.push(worker)?;
     }
-    all.reverse();
+    if let Some(worker) = middle {
+        all.push(worker)?;
+    }
+    if let Some(worker) = last {
+        all.push(worker)?;
+    }
     for (at, &(worker, call, wanted)) in rows.iter().enumerate() {
         let made = match all.get_mut(worker) {
             Some(worker) => worker.make(rt, call),
