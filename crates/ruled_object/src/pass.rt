@@ -39,7 +39,8 @@ impl<S, N, E, R> Pass<S, N, E, R> {
         self.left
     }
 
-    /// How often it has taken the turn, or the last value of the type where that is more.
+    /// How often it has taken the turn, or the last value of the type where that is more. It counts for a Mutex alone: the word
+    /// of any other object tells nothing of its state, so each event is made at once, and the number stays 0.
     pub fn turns(&self) -> u64
         ensures { result ≡ turns_of self.now }
     {
