@@ -8,6 +8,7 @@ use Rattle.rw_core.specs.declared.event.RwEvent.TheVariants as event
 use Rattle.rw_core.specs.declared.reply.RwReply.{RwReply}
 use Rattle.rw_core.specs.declared.reply.RwReply.TheVariants.{Arrived, Tried, Unlocked, Resumed, Left, Still}
 use Rattle.rw_core.specs.declared.reply.Arrival.TheVariants as arrival
+use Rattle.rw_core.specs.declared.reply.Resumption.{Resumption}
 use Rattle.rw_core.specs.declared.reply.Resumption.TheVariants as resumption
 use Rattle.rw_core.specs.declared.reply.Unlocking.TheVariants as unlocking
 use Rattle.rw_core.specs.RwMachine.{State, start}
@@ -24,6 +25,8 @@ rw_event stage.TryLock now = event.WriteTry
 rw_event stage.Unlock now = event.WriteUnlock
 rw_event stage.Resume now = event.WriteWoken now
 rw_event stage.LeaveWriting now = event.Leave
+rw_event stage.Inner now = event.WriteWoken now
+rw_event stage.Behind now = event.Leave
 rw_event stage.RLock now = event.ReadArrive
 rw_event stage.TryRLock now = event.ReadTry
 rw_event stage.RUnlock now = event.ReadUnlock
@@ -69,16 +72,29 @@ unlock_meaning (Resumed resumption) = Never
 unlock_meaning Left = Never
 unlock_meaning Still = Never
 
--- A writer that waits goes on at the inner mutex: it acquires the lock, or waits on. Where it wasn't told to go on there, it may have been granted the lock, and leaves at once.
+-- A writer that was told to go on at the inner mutex acquires the lock, or waits on: behind readers, where it has that mutex, and there, where it lost it against a newcomer.
+abbrev pub went_on_meaning : Resumption → Step RwMutexStage LockReply
+went_on_meaning resumption.Acquired = Finished outcome.Done
+went_on_meaning resumption.Queued = Waits stage.Behind
+went_on_meaning resumption.Requeued = Waits stage.Inner
+
+-- A writer that was queued goes on at the inner mutex. Where it wasn't told to go on there, it may wait behind readers and have been granted the lock, and leaves at once.
 abbrev pub resume_meaning : RwReply → Step RwMutexStage LockReply
-resume_meaning (Resumed resumption.Acquired) = Finished outcome.Done
-resume_meaning (Resumed resumption.Queued) = Waits stage.Resume
-resume_meaning (Resumed resumption.Requeued) = Waits stage.Resume
+resume_meaning (Resumed resumption) = went_on_meaning resumption
 resume_meaning Still = Next stage.LeaveWriting
 resume_meaning (Arrived arrival) = Never
 resume_meaning (Tried acquired) = Never
 resume_meaning (Unlocked unlocking) = Never
 resume_meaning Left = Never
+
+-- A writer that waits at the inner mutex goes on there alone.
+abbrev pub inner_meaning : RwReply → Step RwMutexStage LockReply
+inner_meaning (Resumed resumption) = went_on_meaning resumption
+inner_meaning Still = Waits stage.Inner
+inner_meaning (Arrived arrival) = Never
+inner_meaning (Tried acquired) = Never
+inner_meaning (Unlocked unlocking) = Never
+inner_meaning Left = Never
 
 -- a caller leaves where it was granted the lock or admitted, and else waits on, and goes on by this stage
 abbrev pub leave_meaning : RwMutexStage → RwReply → Step RwMutexStage LockReply
@@ -95,6 +111,8 @@ rw_meaning stage.TryLock reply = try_meaning reply
 rw_meaning stage.Unlock reply = unlock_meaning reply
 rw_meaning stage.Resume reply = resume_meaning reply
 rw_meaning stage.LeaveWriting reply = leave_meaning stage.Resume reply
+rw_meaning stage.Inner reply = inner_meaning reply
+rw_meaning stage.Behind reply = leave_meaning stage.Behind reply
 rw_meaning stage.RLock reply = arrive_meaning stage.LeaveReading reply
 rw_meaning stage.TryRLock reply = try_meaning reply
 rw_meaning stage.RUnlock reply = unlock_meaning reply
@@ -111,6 +129,8 @@ goes_on stage.TryLock = false
 goes_on stage.Unlock = false
 goes_on stage.Resume = true
 goes_on stage.LeaveWriting = true
+goes_on stage.Inner = true
+goes_on stage.Behind = true
 goes_on stage.RLock = false
 goes_on stage.TryRLock = false
 goes_on stage.RUnlock = false
@@ -143,6 +163,8 @@ rw_gives stage.TryLock given = try_gives given
 rw_gives stage.Unlock given = unlock_gives given
 rw_gives stage.Resume given = lock_gives given
 rw_gives stage.LeaveWriting given = lock_gives given
+rw_gives stage.Inner given = lock_gives given
+rw_gives stage.Behind given = lock_gives given
 rw_gives stage.RLock given = lock_gives given
 rw_gives stage.TryRLock given = try_gives given
 rw_gives stage.RUnlock given = unlock_gives given
@@ -160,6 +182,8 @@ rw_gains stage.TryLock reply = has_taken reply
 rw_gains stage.Unlock reply = false
 rw_gains stage.Resume reply = true
 rw_gains stage.LeaveWriting reply = true
+rw_gains stage.Inner reply = true
+rw_gains stage.Behind reply = true
 rw_gains stage.RLock reply = true
 rw_gains stage.TryRLock reply = has_taken reply
 rw_gains stage.RUnlock reply = false

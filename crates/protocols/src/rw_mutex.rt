@@ -1,6 +1,6 @@
 //! The calls of a reader/writer mutex.
 ghost use Rattle.std.specs.Prelude.{◌≡◌, false};
-ghost use Rattle.protocols.specs.RwMutexStages.{arrive_meaning, try_meaning, unlock_meaning, resume_meaning, leave_meaning, rw_event, rw_moment, rw_meaning, rw_stands, rw_allows, rw_gives, rw_gains, RwMutexBegins};
+ghost use Rattle.protocols.specs.RwMutexStages.{arrive_meaning, try_meaning, unlock_meaning, went_on_meaning, resume_meaning, inner_meaning, leave_meaning, rw_event, rw_moment, rw_meaning, rw_stands, rw_allows, rw_gives, rw_gains, RwMutexBegins};
 
 use crate::protocol::Protocol;
 use crate::step::Step;
@@ -16,10 +16,15 @@ pub enum RwMutexStage {
     TryLock,
     /// `Unlock`.
     Unlock,
-    /// A writer that waits goes on at the mutex that writers go through.
+    /// A writer that was queued goes on. Its arrival didn't tell whether it waits at the mutex that writers go through, or
+    /// behind readers: it tries the first.
     Resume,
-    /// A writer that waits leaves, where it was granted the lock.
+    /// It wasn't told to go on at that mutex, and leaves, where it was granted the lock.
     LeaveWriting,
+    /// A writer that lost that mutex against a newcomer goes on there.
+    Inner,
+    /// A writer that has that mutex and waits behind readers leaves, where it was granted the lock.
+    Behind,
     /// `RLock` arrives.
     RLock,
     /// `TryRLock`.
@@ -60,13 +65,34 @@ fn unlocked(reply: &RwReply) -> Step<RwMutexStage, LockReply>
     }
 }
 
+// How a writer goes on that was told to go on at the inner mutex. From here on it knows where it waits.
+fn went_on(resumption: Resumption) -> Step<RwMutexStage, LockReply>
+    ensures { result ≡ went_on_meaning resumption }
+{
+    match resumption {
+        Resumption::Acquired => Step::Finished(LockReply::Done),
+        Resumption::Queued => Step::Waits(RwMutexStage::Behind),
+        Resumption::Requeued => Step::Waits(RwMutexStage::Inner),
+    }
+}
+
 fn resumed(reply: &RwReply) -> Step<RwMutexStage, LockReply>
     ensures { result ≡ resume_meaning reply.now }
 {
     match reply {
-        RwReply::Resumed(Resumption::Acquired) => Step::Finished(LockReply::Done),
-        RwReply::Resumed(_) => Step::Waits(RwMutexStage::Resume),
+        RwReply::Resumed(resumption) => went_on(*resumption),
         RwReply::Still => Step::Next(RwMutexStage::LeaveWriting),
+        _ => Step::Never,
+    }
+}
+
+// The same for one that is known to wait at the inner mutex.
+fn resumed_there(reply: &RwReply) -> Step<RwMutexStage, LockReply>
+    ensures { result ≡ inner_meaning reply.now }
+{
+    match reply {
+        RwReply::Resumed(resumption) => went_on(*resumption),
+        RwReply::Still => Step::Waits(RwMutexStage::Inner),
         _ => Step::Never,
     }
 }
@@ -115,16 +141,20 @@ impl Protocol for RwCore {
             RwMutexStage::Lock => RwEvent::WriteArrive { now },
             RwMutexStage::TryLock => RwEvent::WriteTry,
             RwMutexStage::Unlock => RwEvent::WriteUnlock,
-            RwMutexStage::Resume => RwEvent::WriteWoken { now },
+            RwMutexStage::Resume | RwMutexStage::Inner => RwEvent::WriteWoken { now },
             RwMutexStage::RLock => RwEvent::ReadArrive,
             RwMutexStage::TryRLock => RwEvent::ReadTry,
             RwMutexStage::RUnlock => RwEvent::ReadUnlock,
-            RwMutexStage::LeaveWriting | RwMutexStage::LeaveReading => RwEvent::Leave,
+            RwMutexStage::LeaveWriting | RwMutexStage::Behind | RwMutexStage::LeaveReading =>
+                RwEvent::Leave,
         }
     }
 
     fn is_timed(stage: RwMutexStage) -> bool {
-        matches!(stage, RwMutexStage::Lock | RwMutexStage::Resume)
+        matches!(
+            stage,
+            RwMutexStage::Lock | RwMutexStage::Resume | RwMutexStage::Inner
+        )
     }
 
     fn meaning(stage: RwMutexStage, reply: &RwReply) -> Step<RwMutexStage, LockReply> {
@@ -135,6 +165,8 @@ impl Protocol for RwCore {
             RwMutexStage::Unlock | RwMutexStage::RUnlock => unlocked(reply),
             RwMutexStage::Resume => resumed(reply),
             RwMutexStage::LeaveWriting => leaving(reply, RwMutexStage::Resume),
+            RwMutexStage::Inner => resumed_there(reply),
+            RwMutexStage::Behind => leaving(reply, RwMutexStage::Behind),
             RwMutexStage::LeaveReading => leaving(reply, RwMutexStage::LeaveReading),
         }
     }
