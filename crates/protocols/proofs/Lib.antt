@@ -2,3 +2,4 @@ pub mod Endings
 pub mod Expected
 pub mod StandLemmas
 mod Gains
+pub mod RwExpected

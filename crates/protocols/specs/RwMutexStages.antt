@@ -8,7 +8,6 @@ use Rattle.rw_core.specs.declared.event.RwEvent.TheVariants as event
 use Rattle.rw_core.specs.declared.reply.RwReply.{RwReply}
 use Rattle.rw_core.specs.declared.reply.RwReply.TheVariants.{Arrived, Tried, Unlocked, Resumed, Left, Still}
 use Rattle.rw_core.specs.declared.reply.Arrival.TheVariants as arrival
-use Rattle.rw_core.specs.declared.reply.Resumption.{Resumption}
 use Rattle.rw_core.specs.declared.reply.Resumption.TheVariants as resumption
 use Rattle.rw_core.specs.declared.reply.Unlocking.TheVariants as unlocking
 use Rattle.rw_core.specs.RwMachine.{State, start}
@@ -72,25 +71,21 @@ unlock_meaning (Resumed resumption) = Never
 unlock_meaning Left = Never
 unlock_meaning Still = Never
 
--- A writer that was told to go on at the inner mutex acquires the lock, or waits on: behind readers, where it has that mutex, and there, where it lost it against a newcomer.
-abbrev pub went_on_meaning : Resumption → Step RwMutexStage LockReply
-went_on_meaning resumption.Acquired = Finished outcome.Done
-went_on_meaning resumption.Queued = Waits stage.Behind
-went_on_meaning resumption.Requeued = Waits stage.Inner
-
--- A writer that was queued goes on at the inner mutex. Where it wasn't told to go on there, it may wait behind readers and have been granted the lock, and leaves at once.
+-- A writer that was queued goes on at the inner mutex: it acquires the lock, or waits on behind readers, where it has that mutex, or at that mutex, where it lost it against a newcomer. Where it wasn't told to go on there, it may have been granted the lock, and leaves at once.
 abbrev pub resume_meaning : RwReply → Step RwMutexStage LockReply
-resume_meaning (Resumed resumption) = went_on_meaning resumption
+resume_meaning (Resumed resumption.Acquired) = Finished outcome.Done
+resume_meaning (Resumed resumption.Queued) = Waits stage.Behind
+resume_meaning (Resumed resumption.Requeued) = Waits stage.Inner
 resume_meaning Still = Next stage.LeaveWriting
 resume_meaning (Arrived arrival) = Never
 resume_meaning (Tried acquired) = Never
 resume_meaning (Unlocked unlocking) = Never
 resume_meaning Left = Never
 
--- A writer that waits at the inner mutex goes on there alone.
+-- a writer that is known to wait at the inner mutex goes on so, and only there
 abbrev pub inner_meaning : RwReply → Step RwMutexStage LockReply
-inner_meaning (Resumed resumption) = went_on_meaning resumption
 inner_meaning Still = Waits stage.Inner
+inner_meaning (Resumed resumption) = resume_meaning (Resumed resumption)
 inner_meaning (Arrived arrival) = Never
 inner_meaning (Tried acquired) = Never
 inner_meaning (Unlocked unlocking) = Never

@@ -1,6 +1,6 @@
 //! The calls of a reader/writer mutex.
 ghost use Rattle.std.specs.Prelude.{◌≡◌, false};
-ghost use Rattle.protocols.specs.RwMutexStages.{arrive_meaning, try_meaning, unlock_meaning, went_on_meaning, resume_meaning, inner_meaning, leave_meaning, rw_event, rw_moment, rw_meaning, rw_stands, rw_allows, rw_gives, rw_gains, RwMutexBegins};
+ghost use Rattle.protocols.specs.RwMutexStages.{arrive_meaning, try_meaning, unlock_meaning, resume_meaning, inner_meaning, leave_meaning, rw_event, rw_moment, rw_meaning, rw_stands, rw_allows, rw_gives, rw_gains, RwMutexBegins};
 
 use crate::protocol::Protocol;
 use crate::step::Step;
@@ -65,22 +65,14 @@ fn unlocked(reply: &RwReply) -> Step<RwMutexStage, LockReply>
     }
 }
 
-// How a writer goes on that was told to go on at the inner mutex. From here on it knows where it waits.
-fn went_on(resumption: Resumption) -> Step<RwMutexStage, LockReply>
-    ensures { result ≡ went_on_meaning resumption }
-{
-    match resumption {
-        Resumption::Acquired => Step::Finished(LockReply::Done),
-        Resumption::Queued => Step::Waits(RwMutexStage::Behind),
-        Resumption::Requeued => Step::Waits(RwMutexStage::Inner),
-    }
-}
-
+// How a writer goes on that was queued. Where it was told to go on at the inner mutex, it knows from here on where it waits.
 fn resumed(reply: &RwReply) -> Step<RwMutexStage, LockReply>
     ensures { result ≡ resume_meaning reply.now }
 {
     match reply {
-        RwReply::Resumed(resumption) => went_on(*resumption),
+        RwReply::Resumed(Resumption::Acquired) => Step::Finished(LockReply::Done),
+        RwReply::Resumed(Resumption::Queued) => Step::Waits(RwMutexStage::Behind),
+        RwReply::Resumed(Resumption::Requeued) => Step::Waits(RwMutexStage::Inner),
         RwReply::Still => Step::Next(RwMutexStage::LeaveWriting),
         _ => Step::Never,
     }
@@ -91,9 +83,8 @@ fn resumed_there(reply: &RwReply) -> Step<RwMutexStage, LockReply>
     ensures { result ≡ inner_meaning reply.now }
 {
     match reply {
-        RwReply::Resumed(resumption) => went_on(*resumption),
         RwReply::Still => Step::Waits(RwMutexStage::Inner),
-        _ => Step::Never,
+        _ => resumed(reply),
     }
 }
 
@@ -174,5 +165,6 @@ impl Protocol for RwCore {
     fn laws() {
         laws::validity();
         laws::standing();
+        laws::still();
     }
 }
