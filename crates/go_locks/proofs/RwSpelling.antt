@@ -1,6 +1,5 @@
 -- The spelling of a reader/writer mutex's protocol, in the words of this crate.
 use Rattle.std.proofs.Common.{◌≡◌, ℕ, Bool, true, false, List, [], ◌∷◌, ◌++◌, Result, Ok, Err, refl, sym, subst, ◌∙◌}
-use Rattle.std.specs.Prelude.{if◌then◌else◌}
 use Rattle.std.proofs.lemmas.List.{append_assoc}
 use Rattle.sync_types.specs.declared.misuse.Misuse.{Misuse}
 use Rattle.sync_model.specs.declared.answer.Answer.{Answer}
@@ -27,54 +26,96 @@ use Rattle.protocols.specs.Steps.{IsAt}
 use Rattle.call_loop.specs.Calls as running
 use Rattle.go_locks.specs.Calls.{Did}
 use Rattle.go_locks.specs.MutexAnswers.{lock_of, try_of, unlock_of, lock_answer, try_answer, unlock_answer}
-use Rattle.go_locks.specs.RwCalls.{RwDeed, WriteWaits, queued, requeued, announced, unwoken, ungranted, WriteLocks, at_once, refused, acquired, granted, halted_woken, halted_leaving, ReadWaits, unadmitted, ReadLocks, admitted, halted, Tries, tried, Unlocks, unlocked, answer_of, IsTimed, IsClocked, AreClocked}
+use Rattle.go_locks.specs.RwCalls.{RwDeed, WriterAt, anywhere, leaving, inner, behind, WriteWaits, queued, requeued, announced, unwoken, ungranted, WriteLocks, at_once, refused, acquired, granted, halted_woken, halted_leaving, ReadWaits, unadmitted, ReadLocks, admitted, halted, Tries, tried, Unlocks, unlocked, answer_of, IsTimed, IsClocked, AreClocked}
 
 -- the only deed of a call, or its last one, and its answer
 last : {A : Type 0} (P : List RwDeed → Answer A → Type 0) (f : CallAnswer LockReply → Answer A) (earlier : List RwDeed) (made : RwDeed) (rest : List RwDeed) (answer given : CallAnswer LockReply) → rest ≡ [] → answer ≡ given → P (earlier ++ made ∷ []) (f given) → P (earlier ++ made ∷ rest) (f answer)
 last P f earlier made rest answer given none is holds = subst (λ (r : List RwDeed). P (earlier ++ made ∷ r) (f answer)) (sym none) (subst (λ (a : CallAnswer LockReply). P (earlier ++ made ∷ []) (f a)) (sym is) holds)
 
--- a writer that waits, whose next stage goes on at the inner mutex, or leaves
-writes : (waited : List RwDeed) → WriteWaits waited → (leaving : Bool) (deeds : List RwDeed) (answer : CallAnswer LockReply) → Spells rw_event rw_meaning (if leaving then stage.LeaveWriting else stage.Resume) deeds answer → WriteLocks (waited ++ deeds) (lock_answer answer)
-writes waited waits true [] answer spelt = absurd spelt
-writes waited waits false [] answer spelt = absurd spelt
-writes waited waits false (Event e (Resumed Acquired) ∷ rest) answer (of, ends) =
+-- the stage of a writer that waits so
+abbrev stage_at : WriterAt → RwMutexStage
+stage_at anywhere = stage.Resume
+stage_at leaving = stage.LeaveWriting
+stage_at inner = stage.Inner
+stage_at behind = stage.Behind
+
+-- a writer that waits, and goes on at its stage
+writes : (at : WriterAt) (waited : List RwDeed) → WriteWaits at waited → (deeds : List RwDeed) (answer : CallAnswer LockReply) → Spells rw_event rw_meaning (stage_at at) deeds answer → WriteLocks (waited ++ deeds) (lock_answer answer)
+writes anywhere waited waits [] answer spelt = absurd spelt
+writes anywhere waited waits (Event e (Resumed Acquired) ∷ rest) answer (of, ends) =
     subst (λ (x : RwEvent). WriteLocks (waited ++ Event x (Resumed Acquired) ∷ rest) (lock_answer answer)) (sym of.1)
-    (last WriteLocks lock_answer waited (Event (WriteWoken of.0) (Resumed Acquired)) rest answer (Done (Ok outcome.Done)) ends.0 ends.1 (acquired waited of.0 waits))
-writes waited waits false (Event e (Resumed Announced) ∷ rest) answer (of, on) =
+    (last WriteLocks lock_answer waited (Event (WriteWoken of.0) (Resumed Acquired)) rest answer (Done (Ok outcome.Done)) ends.0 ends.1 (acquired anywhere waited of.0 refl waits))
+writes anywhere waited waits (Event e (Resumed Announced) ∷ rest) answer (of, on) =
     subst (λ (x : RwEvent). WriteLocks (waited ++ Event x (Resumed Announced) ∷ rest) (lock_answer answer)) (sym of.1)
-    (subst (λ (ds : List RwDeed). WriteLocks ds (lock_answer answer)) (append_assoc waited (Event (WriteWoken of.0) (Resumed Announced) ∷ []) rest) (writes (waited ++ Event (WriteWoken of.0) (Resumed Announced) ∷ []) (announced waited of.0 waits) false rest answer on))
-writes waited waits false (Event e (Resumed Requeued) ∷ rest) answer (of, on) =
+    (subst (λ (ds : List RwDeed). WriteLocks ds (lock_answer answer)) (append_assoc waited (Event (WriteWoken of.0) (Resumed Announced) ∷ []) rest) (writes behind (waited ++ Event (WriteWoken of.0) (Resumed Announced) ∷ []) (announced anywhere waited of.0 refl waits) rest answer on))
+writes anywhere waited waits (Event e (Resumed Requeued) ∷ rest) answer (of, on) =
     subst (λ (x : RwEvent). WriteLocks (waited ++ Event x (Resumed Requeued) ∷ rest) (lock_answer answer)) (sym of.1)
-    (subst (λ (ds : List RwDeed). WriteLocks ds (lock_answer answer)) (append_assoc waited (Event (WriteWoken of.0) (Resumed Requeued) ∷ []) rest) (writes (waited ++ Event (WriteWoken of.0) (Resumed Requeued) ∷ []) (requeued waited of.0 waits) false rest answer on))
-writes waited waits false (Event e Still ∷ rest) answer (of, on) =
+    (subst (λ (ds : List RwDeed). WriteLocks ds (lock_answer answer)) (append_assoc waited (Event (WriteWoken of.0) (Resumed Requeued) ∷ []) rest) (writes inner (waited ++ Event (WriteWoken of.0) (Resumed Requeued) ∷ []) (requeued anywhere waited of.0 refl waits) rest answer on))
+writes anywhere waited waits (Event e Still ∷ rest) answer (of, on) =
     subst (λ (x : RwEvent). WriteLocks (waited ++ Event x Still ∷ rest) (lock_answer answer)) (sym of.1)
-    (subst (λ (ds : List RwDeed). WriteLocks ds (lock_answer answer)) (append_assoc waited (Event (WriteWoken of.0) Still ∷ []) rest) (writes (waited ++ Event (WriteWoken of.0) Still ∷ []) (unwoken waited of.0 waits) true rest answer on))
-writes waited waits false (Event e (Arrived _) ∷ rest) answer (of, on) = absurd on
-writes waited waits false (Event e (Tried _) ∷ rest) answer (of, on) = absurd on
-writes waited waits false (Event e (Unlocked _) ∷ rest) answer (of, on) = absurd on
-writes waited waits false (Event e Left ∷ rest) answer (of, on) = absurd on
-writes waited waits false (Refused e m ∷ rest) answer (of, none, is) =
-    subst (λ (x : RwEvent). WriteLocks (waited ++ Refused x m ∷ rest) (lock_answer answer)) (sym of.1) (last WriteLocks lock_answer waited (Refused (WriteWoken of.0) m) rest answer (Halted m) none is (halted_woken waited of.0 m waits))
-writes waited waits true (Event e Left ∷ rest) answer (of, ends) =
-    subst (λ (x : RwEvent). WriteLocks (waited ++ Event x Left ∷ rest) (lock_answer answer)) (sym of.1) (last WriteLocks lock_answer waited (Event Leave Left) rest answer (Done (Ok outcome.Done)) ends.0 ends.1 (granted waited waits))
-writes waited waits true (Event e Still ∷ rest) answer (of, on) =
+    (subst (λ (ds : List RwDeed). WriteLocks ds (lock_answer answer)) (append_assoc waited (Event (WriteWoken of.0) Still ∷ []) rest) (writes leaving (waited ++ Event (WriteWoken of.0) Still ∷ []) (unwoken anywhere waited of.0 refl waits) rest answer on))
+writes anywhere waited waits (Event e (Arrived _) ∷ rest) answer (of, on) = absurd on
+writes anywhere waited waits (Event e (Tried _) ∷ rest) answer (of, on) = absurd on
+writes anywhere waited waits (Event e (Unlocked _) ∷ rest) answer (of, on) = absurd on
+writes anywhere waited waits (Event e Left ∷ rest) answer (of, on) = absurd on
+writes anywhere waited waits (Refused e m ∷ rest) answer (of, none, is) =
+    subst (λ (x : RwEvent). WriteLocks (waited ++ Refused x m ∷ rest) (lock_answer answer)) (sym of.1) (last WriteLocks lock_answer waited (Refused (WriteWoken of.0) m) rest answer (Halted m) none is (halted_woken anywhere waited of.0 m refl waits))
+writes anywhere waited waits (Halt m ∷ rest) answer spelt = absurd spelt
+writes leaving waited waits [] answer spelt = absurd spelt
+writes leaving waited waits (Event e Left ∷ rest) answer (of, ends) =
+    subst (λ (x : RwEvent). WriteLocks (waited ++ Event x Left ∷ rest) (lock_answer answer)) (sym of.1)
+    (last WriteLocks lock_answer waited (Event Leave Left) rest answer (Done (Ok outcome.Done)) ends.0 ends.1 (granted leaving waited refl waits))
+writes leaving waited waits (Event e Still ∷ rest) answer (of, on) =
     subst (λ (x : RwEvent). WriteLocks (waited ++ Event x Still ∷ rest) (lock_answer answer)) (sym of.1)
-    (subst (λ (ds : List RwDeed). WriteLocks ds (lock_answer answer)) (append_assoc waited (Event Leave Still ∷ []) rest) (writes (waited ++ Event Leave Still ∷ []) (ungranted waited waits) false rest answer on))
-writes waited waits true (Event e (Arrived _) ∷ rest) answer (of, on) = absurd on
-writes waited waits true (Event e (Tried _) ∷ rest) answer (of, on) = absurd on
-writes waited waits true (Event e (Unlocked _) ∷ rest) answer (of, on) = absurd on
-writes waited waits true (Event e (Resumed _) ∷ rest) answer (of, on) = absurd on
-writes waited waits true (Refused e m ∷ rest) answer (of, none, is) =
-    subst (λ (x : RwEvent). WriteLocks (waited ++ Refused x m ∷ rest) (lock_answer answer)) (sym of.1) (last WriteLocks lock_answer waited (Refused Leave m) rest answer (Halted m) none is (halted_leaving waited m waits))
-writes waited waits true (Halt m ∷ rest) answer spelt = absurd spelt
-writes waited waits false (Halt m ∷ rest) answer spelt = absurd spelt
+    (subst (λ (ds : List RwDeed). WriteLocks ds (lock_answer answer)) (append_assoc waited (Event Leave Still ∷ []) rest) (writes anywhere (waited ++ Event Leave Still ∷ []) (ungranted leaving waited refl waits) rest answer on))
+writes leaving waited waits (Event e (Arrived _) ∷ rest) answer (of, on) = absurd on
+writes leaving waited waits (Event e (Tried _) ∷ rest) answer (of, on) = absurd on
+writes leaving waited waits (Event e (Unlocked _) ∷ rest) answer (of, on) = absurd on
+writes leaving waited waits (Event e (Resumed _) ∷ rest) answer (of, on) = absurd on
+writes leaving waited waits (Refused e m ∷ rest) answer (of, none, is) =
+    subst (λ (x : RwEvent). WriteLocks (waited ++ Refused x m ∷ rest) (lock_answer answer)) (sym of.1) (last WriteLocks lock_answer waited (Refused Leave m) rest answer (Halted m) none is (halted_leaving leaving waited m refl waits))
+writes leaving waited waits (Halt m ∷ rest) answer spelt = absurd spelt
+writes inner waited waits [] answer spelt = absurd spelt
+writes inner waited waits (Event e (Resumed Acquired) ∷ rest) answer (of, ends) =
+    subst (λ (x : RwEvent). WriteLocks (waited ++ Event x (Resumed Acquired) ∷ rest) (lock_answer answer)) (sym of.1)
+    (last WriteLocks lock_answer waited (Event (WriteWoken of.0) (Resumed Acquired)) rest answer (Done (Ok outcome.Done)) ends.0 ends.1 (acquired inner waited of.0 refl waits))
+writes inner waited waits (Event e (Resumed Announced) ∷ rest) answer (of, on) =
+    subst (λ (x : RwEvent). WriteLocks (waited ++ Event x (Resumed Announced) ∷ rest) (lock_answer answer)) (sym of.1)
+    (subst (λ (ds : List RwDeed). WriteLocks ds (lock_answer answer)) (append_assoc waited (Event (WriteWoken of.0) (Resumed Announced) ∷ []) rest) (writes behind (waited ++ Event (WriteWoken of.0) (Resumed Announced) ∷ []) (announced inner waited of.0 refl waits) rest answer on))
+writes inner waited waits (Event e (Resumed Requeued) ∷ rest) answer (of, on) =
+    subst (λ (x : RwEvent). WriteLocks (waited ++ Event x (Resumed Requeued) ∷ rest) (lock_answer answer)) (sym of.1)
+    (subst (λ (ds : List RwDeed). WriteLocks ds (lock_answer answer)) (append_assoc waited (Event (WriteWoken of.0) (Resumed Requeued) ∷ []) rest) (writes inner (waited ++ Event (WriteWoken of.0) (Resumed Requeued) ∷ []) (requeued inner waited of.0 refl waits) rest answer on))
+writes inner waited waits (Event e Still ∷ rest) answer (of, on) =
+    subst (λ (x : RwEvent). WriteLocks (waited ++ Event x Still ∷ rest) (lock_answer answer)) (sym of.1)
+    (subst (λ (ds : List RwDeed). WriteLocks ds (lock_answer answer)) (append_assoc waited (Event (WriteWoken of.0) Still ∷ []) rest) (writes inner (waited ++ Event (WriteWoken of.0) Still ∷ []) (unwoken inner waited of.0 refl waits) rest answer on))
+writes inner waited waits (Event e (Arrived _) ∷ rest) answer (of, on) = absurd on
+writes inner waited waits (Event e (Tried _) ∷ rest) answer (of, on) = absurd on
+writes inner waited waits (Event e (Unlocked _) ∷ rest) answer (of, on) = absurd on
+writes inner waited waits (Event e Left ∷ rest) answer (of, on) = absurd on
+writes inner waited waits (Refused e m ∷ rest) answer (of, none, is) =
+    subst (λ (x : RwEvent). WriteLocks (waited ++ Refused x m ∷ rest) (lock_answer answer)) (sym of.1) (last WriteLocks lock_answer waited (Refused (WriteWoken of.0) m) rest answer (Halted m) none is (halted_woken inner waited of.0 m refl waits))
+writes inner waited waits (Halt m ∷ rest) answer spelt = absurd spelt
+writes behind waited waits [] answer spelt = absurd spelt
+writes behind waited waits (Event e Left ∷ rest) answer (of, ends) =
+    subst (λ (x : RwEvent). WriteLocks (waited ++ Event x Left ∷ rest) (lock_answer answer)) (sym of.1)
+    (last WriteLocks lock_answer waited (Event Leave Left) rest answer (Done (Ok outcome.Done)) ends.0 ends.1 (granted behind waited refl waits))
+writes behind waited waits (Event e Still ∷ rest) answer (of, on) =
+    subst (λ (x : RwEvent). WriteLocks (waited ++ Event x Still ∷ rest) (lock_answer answer)) (sym of.1)
+    (subst (λ (ds : List RwDeed). WriteLocks ds (lock_answer answer)) (append_assoc waited (Event Leave Still ∷ []) rest) (writes behind (waited ++ Event Leave Still ∷ []) (ungranted behind waited refl waits) rest answer on))
+writes behind waited waits (Event e (Arrived _) ∷ rest) answer (of, on) = absurd on
+writes behind waited waits (Event e (Tried _) ∷ rest) answer (of, on) = absurd on
+writes behind waited waits (Event e (Unlocked _) ∷ rest) answer (of, on) = absurd on
+writes behind waited waits (Event e (Resumed _) ∷ rest) answer (of, on) = absurd on
+writes behind waited waits (Refused e m ∷ rest) answer (of, none, is) =
+    subst (λ (x : RwEvent). WriteLocks (waited ++ Refused x m ∷ rest) (lock_answer answer)) (sym of.1) (last WriteLocks lock_answer waited (Refused Leave m) rest answer (Halted m) none is (halted_leaving behind waited m refl waits))
+writes behind waited waits (Halt m ∷ rest) answer spelt = absurd spelt
 
 write_locks_by : (deeds : List RwDeed) (answer : CallAnswer LockReply) → Spells rw_event rw_meaning stage.Lock deeds answer → WriteLocks deeds (lock_answer answer)
 write_locks_by [] answer spelt = absurd spelt
 write_locks_by (Event e (Arrived AtOnce) ∷ rest) answer (of, ends) =
     subst (λ (x : RwEvent). WriteLocks (Event x (Arrived AtOnce) ∷ rest) (lock_answer answer)) (sym of.1) (last WriteLocks lock_answer [] (Event (WriteArrive of.0) (Arrived AtOnce)) rest answer (Done (Ok outcome.Done)) ends.0 ends.1 (at_once of.0))
 write_locks_by (Event e (Arrived Queued) ∷ rest) answer (of, on) =
-    subst (λ (x : RwEvent). WriteLocks (Event x (Arrived Queued) ∷ rest) (lock_answer answer)) (sym of.1) (writes (Event (WriteArrive of.0) (Arrived Queued) ∷ []) (queued of.0) false rest answer on)
+    subst (λ (x : RwEvent). WriteLocks (Event x (Arrived Queued) ∷ rest) (lock_answer answer)) (sym of.1) (writes anywhere (Event (WriteArrive of.0) (Arrived Queued) ∷ []) (queued of.0) rest answer on)
 write_locks_by (Event e (Tried _) ∷ rest) answer (of, on) = absurd on
 write_locks_by (Event e (Unlocked _) ∷ rest) answer (of, on) = absurd on
 write_locks_by (Event e (Resumed _) ∷ rest) answer (of, on) = absurd on

@@ -1,5 +1,5 @@
 -- Which events each call of a running RWMutex makes, and what it then answers.
-use Rattle.std.specs.Prelude.{ℕ, Bool, List, [], ◌∷◌, ◌++◌, Result, Ok, Err}
+use Rattle.std.specs.Prelude.{◌≡◌, ℕ, Bool, true, false, List, [], ◌∷◌, ◌++◌, Result, Ok, Err}
 use Rattle.std.specs.List.{AllByRecursion}
 use Rattle.sync_types.specs.declared.misuse.Misuse.{Misuse}
 use Rattle.sync_model.specs.declared.answer.Answer.{Answer}
@@ -18,22 +18,43 @@ use Rattle.rw_core.specs.declared.reply.Unlocking.TheVariants.{Done as IsDone, M
 abbrev pub RwDeed : Type 0
 RwDeed = Deed RwEvent RwReply
 
--- A `lock` so far that waits: an arrival that was queued; goings-on that lost against a newcomer, that made the caller the next writer behind readers, or that nobody had woken; and leavings that nobody had granted.
-pub data WriteWaits : List RwDeed → Type 0 where
-  queued : (now : ℕ) → WriteWaits (Event (WriteArrive now) (Arrived Queued) ∷ [])
-  requeued : (deeds : List RwDeed) (now : ℕ) → WriteWaits deeds → WriteWaits (deeds ++ Event (WriteWoken now) (Resumed Requeued) ∷ [])
-  announced : (deeds : List RwDeed) (now : ℕ) → WriteWaits deeds → WriteWaits (deeds ++ Event (WriteWoken now) (Resumed Announced) ∷ [])
-  unwoken : (deeds : List RwDeed) (now : ℕ) → WriteWaits deeds → WriteWaits (deeds ++ Event (WriteWoken now) Still ∷ [])
-  ungranted : (deeds : List RwDeed) → WriteWaits deeds → WriteWaits (deeds ++ Event Leave Still ∷ [])
+-- Where a writer waits, as far as its own answers tell: its arrival was queued, which may be at the inner mutex or behind readers; it then wasn't told to go on at that mutex, and leaves; it waits at that mutex; it has it, and waits behind readers.
+pub data WriterAt : Type 0 where
+  anywhere : WriterAt
+  leaving : WriterAt
+  inner : WriterAt
+  behind : WriterAt
+
+-- whether it goes on at the inner mutex next, and else it leaves next
+abbrev pub goes_on : WriterAt → Bool
+goes_on anywhere = true
+goes_on leaving = false
+goes_on inner = true
+goes_on behind = false
+
+-- where it then waits on that was answered `Still`: behind a going-on of which it doesn't know where it waits it leaves
+abbrev pub stays : WriterAt → WriterAt
+stays anywhere = leaving
+stays leaving = anywhere
+stays inner = inner
+stays behind = behind
+
+-- A `lock` so far that waits, and where: an arrival that was queued; goings-on that lost against a newcomer, that made the caller the next writer behind readers, or that nobody had woken; and leavings that nobody had granted.
+pub data WriteWaits : WriterAt → List RwDeed → Type 0 where
+  queued : (now : ℕ) → WriteWaits anywhere (Event (WriteArrive now) (Arrived Queued) ∷ [])
+  requeued : (at : WriterAt) (deeds : List RwDeed) (now : ℕ) → goes_on at ≡ true → WriteWaits at deeds → WriteWaits inner (deeds ++ Event (WriteWoken now) (Resumed Requeued) ∷ [])
+  announced : (at : WriterAt) (deeds : List RwDeed) (now : ℕ) → goes_on at ≡ true → WriteWaits at deeds → WriteWaits behind (deeds ++ Event (WriteWoken now) (Resumed Announced) ∷ [])
+  unwoken : (at : WriterAt) (deeds : List RwDeed) (now : ℕ) → goes_on at ≡ true → WriteWaits at deeds → WriteWaits (stays at) (deeds ++ Event (WriteWoken now) Still ∷ [])
+  ungranted : (at : WriterAt) (deeds : List RwDeed) → goes_on at ≡ false → WriteWaits at deeds → WriteWaits (stays at) (deeds ++ Event Leave Still ∷ [])
 
 -- `lock`: it is acquired on arrival, or after waiting at the inner mutex, or was granted by the last reader. A halt ends it.
 pub data WriteLocks : List RwDeed → Answer (Unit {0}) → Type 0 where
   at_once : (now : ℕ) → WriteLocks (Event (WriteArrive now) (Arrived AtOnce) ∷ []) (Done tt)
   refused : (now : ℕ) (m : Misuse) → WriteLocks (Refused (WriteArrive now) m ∷ []) (Halted m)
-  acquired : (deeds : List RwDeed) (now : ℕ) → WriteWaits deeds → WriteLocks (deeds ++ Event (WriteWoken now) (Resumed Acquired) ∷ []) (Done tt)
-  granted : (deeds : List RwDeed) → WriteWaits deeds → WriteLocks (deeds ++ Event Leave Left ∷ []) (Done tt)
-  halted_woken : (deeds : List RwDeed) (now : ℕ) (m : Misuse) → WriteWaits deeds → WriteLocks (deeds ++ Refused (WriteWoken now) m ∷ []) (Halted m)
-  halted_leaving : (deeds : List RwDeed) (m : Misuse) → WriteWaits deeds → WriteLocks (deeds ++ Refused Leave m ∷ []) (Halted m)
+  acquired : (at : WriterAt) (deeds : List RwDeed) (now : ℕ) → goes_on at ≡ true → WriteWaits at deeds → WriteLocks (deeds ++ Event (WriteWoken now) (Resumed Acquired) ∷ []) (Done tt)
+  granted : (at : WriterAt) (deeds : List RwDeed) → goes_on at ≡ false → WriteWaits at deeds → WriteLocks (deeds ++ Event Leave Left ∷ []) (Done tt)
+  halted_woken : (at : WriterAt) (deeds : List RwDeed) (now : ℕ) (m : Misuse) → goes_on at ≡ true → WriteWaits at deeds → WriteLocks (deeds ++ Refused (WriteWoken now) m ∷ []) (Halted m)
+  halted_leaving : (at : WriterAt) (deeds : List RwDeed) (m : Misuse) → goes_on at ≡ false → WriteWaits at deeds → WriteLocks (deeds ++ Refused Leave m ∷ []) (Halted m)
 
 -- an `r_lock` so far that waits: an arrival that was queued, and leavings that nobody had admitted
 pub data ReadWaits : List RwDeed → Type 0 where
