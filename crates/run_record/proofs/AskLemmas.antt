@@ -89,6 +89,7 @@ module _ (P : SharedCall → Type 0) where
       read = λ O Q f part one. by_read f part one;
       mutex = λ object stage. by_stages event.Mutex reply.Mutex object _ _ stage;
       rw_mutex = λ object stage. by_stages event.RwMutex reply.RwMutex object _ _ stage;
+      writes = λ object items answer locks. subst (Each Asks) (sym locks.1) (by_entries event.RwMutex reply.RwMutex object locks.0);
       cond = λ object stage. by_stages event.Cond reply.Cond object _ _ stage;
       wait_group = λ object stage. by_stages event.WaitGroup reply.WaitGroup object _ _ stage;
       once = λ object stage. by_stages event.Once reply.Once object _ _ stage;

@@ -1,5 +1,5 @@
 -- What the items of each call of a workload are.
-use Rattle.std.proofs.Common.{ℕ, ℤ, List}
+use Rattle.std.proofs.Common.{ℕ, ℤ, List, map}
 use Rattle.script_calls.specs.declared.call.Call.{Call}
 use Rattle.script_calls.specs.declared.call.Reply.TheVariants as replies
 use Rattle.sync_model.specs.declared.journal.Deed.{Deed}
@@ -16,7 +16,8 @@ use Rattle.run_record.specs.declared.entered.ObjectEvent.TheVariants as event
 use Rattle.run_record.specs.declared.entered.ObjectReply.TheVariants as reply
 use Rattle.run_record.specs.Calls.{SpellsCall}
 use Rattle.run_record.proofs.CallParts.{HoldsOfParts, holds_of_call}
-use Rattle.run_record.proofs.PartLemmas.{IsSound, of_returns, of_never, of_and_then, of_read_as, of_places, of_stages}
+use Rattle.run_record.proofs.PartLemmas.{IsSound, of_returns, of_never, of_and_then, of_read_as, of_places, of_entries, of_stages}
+use Rattle.run_record.proofs.WriteLocks.{lock_ends}
 
 -- each call of a protocol ends as calls do
 abbrev pub EndsAlike : {G O E R : Type 0} → (G → ℕ → E) → (G → R → Step G O) → Type 0
@@ -39,6 +40,7 @@ sound alike = record {
   read = λ O P f part one. of_read_as f part one;
   mutex = λ object stage. of_stages event.Mutex reply.Mutex object mutex_event mutex_meaning stage (alike.mutex stage);
   rw_mutex = λ object stage. of_stages event.RwMutex reply.RwMutex object rw_event rw_meaning stage (alike.rw_mutex stage);
+  writes = λ object items answer locks. of_entries event.RwMutex reply.RwMutex object locks.0 items answer locks.1 (lock_ends (map (λ entry. entry.deed) locks.0) answer locks.2);
   cond = λ object stage. of_stages event.Cond reply.Cond object cond_event cond_meaning stage (alike.cond stage);
   wait_group = λ object stage. of_stages event.WaitGroup reply.WaitGroup object group_event group_meaning stage (alike.wait_group stage);
   once = λ object stage. of_stages event.Once reply.Once object once_event once_meaning stage (alike.once stage);

@@ -8,6 +8,8 @@ use Rattle.script_calls.specs.declared.call.Operation.TheVariants as operations
 use Rattle.script_calls.specs.declared.call.Reply.{Reply}
 use Rattle.script_calls.specs.declared.call.Reply.TheVariants as replies
 use Rattle.sync_types.specs.declared.lock_call.LockReply.{LockReply}
+use Rattle.sync_types.specs.declared.lock_call.RwMutexCall.{RwMutexCall}
+use Rattle.sync_types.specs.declared.lock_call.RwMutexCall.TheVariants as rw_calls
 use Rattle.sync_types.specs.declared.map_object.MapCall.{MapCall}
 use Rattle.sync_types.specs.declared.once_call.DoReply.TheVariants as do_replies
 use Rattle.sync_types.specs.declared.pool_call.PoolCall.{PoolCall}
@@ -32,6 +34,7 @@ use Rattle.protocols.specs.declared.pool.PoolOutcome.TheVariants.{Kept, Dropped,
 use Rattle.protocols.specs.declared.pool.PoolStage.{PoolStage}
 use Rattle.protocols.specs.declared.pool.PoolStage.TheVariants as pool_stage
 use Rattle.protocols.specs.declared.rw_mutex.RwMutexStage.{RwMutexStage}
+use Rattle.protocols.specs.declared.rw_mutex.RwMutexStage.TheVariants as rw_stage
 use Rattle.protocols.specs.declared.wait_group.GroupStage.{GroupStage}
 use Rattle.workload.specs.declared.object.ObjectKind.{ObjectKind}
 use Rattle.workload.specs.declared.object.ObjectKind.TheVariants as kinds
@@ -47,6 +50,7 @@ use Rattle.run_record.specs.MapKind.{map_call, range_call}
 use Rattle.run_record.specs.MutexKind.{mutex_part}
 use Rattle.run_record.specs.OnceKind.{goes_on_once, once_part, do_call, func_call, value_call, failure}
 use Rattle.run_record.specs.Parts.{Part, returns, never, and_then, read_as, stages}
+use Rattle.run_record.specs.RwMutexKind.{rw_part, write_part}
 use Rattle.run_record.specs.PoolKind.{pool_part, pool_call, part_of, found_by, found_or, looks_of, stage_of, swept_by}
 
 -- it holds of each part, and goes on from parts to what they are put together to; of calls on maps nothing is said
@@ -57,6 +61,7 @@ pub record HoldsOfParts (Q : (O : Type 0) → Part O → Type 0) : Type 1 where
   pub read : (O P : Type 0) (f : O → P) (part : Part O) → Q O part → Q P (read_as f part)
   pub mutex : (object : ℕ) (stage : MutexStage) → Q LockReply (mutex_part object stage)
   pub rw_mutex : (object : ℕ) (stage : RwMutexStage) → Q LockReply (stages event.RwMutex reply.RwMutex rw_event rw_meaning object stage)
+  pub writes : (object : ℕ) → Q LockReply (write_part object)
   pub cond : (object : ℕ) (stage : CondStage) → Q (Unit {0}) (cond_part object stage)
   pub wait_group : (object : ℕ) (stage : GroupStage) → Q (Unit {0}) (stages event.WaitGroup reply.WaitGroup group_event group_meaning object stage)
   pub once : (object : ℕ) (stage : OnceStage ℤ) → Q (OnceOutcome ℤ) (stages event.Once reply.Once once_event once_meaning object stage)
@@ -73,6 +78,14 @@ module _ (Q : (O : Type 0) → Part O → Type 0) (holds : HoldsOfParts Q) where
       holds.behind _ _ _ _ (holds.mutex mutex mutex_stages.Unlock) (λ unlocked.
       holds.behind _ _ _ _ (holds.cond object cond_stage.Leave) (λ left.
       holds.read _ _ (λ locked. replies.Returned) _ (holds.mutex mutex mutex_stages.Lock))))
+
+  of_rw_part : (object : ℕ) (call : RwMutexCall) → Q LockReply (rw_part object call)
+  of_rw_part object rw_calls.Lock = holds.writes object
+  of_rw_part object rw_calls.Unlock = holds.rw_mutex object rw_stage.Unlock
+  of_rw_part object rw_calls.TryLock = holds.rw_mutex object rw_stage.TryLock
+  of_rw_part object rw_calls.RLock = holds.rw_mutex object rw_stage.RLock
+  of_rw_part object rw_calls.RUnlock = holds.rw_mutex object rw_stage.RUnlock
+  of_rw_part object rw_calls.TryRLock = holds.rw_mutex object rw_stage.TryRLock
 
   of_cond_call : (object mutex : ℕ) (call : CondCall) → Q (Reply ℕ) (cond_call object mutex call)
   of_cond_call object mutex cond_calls.Wait = of_wait object mutex
@@ -128,7 +141,7 @@ module _ (Q : (O : Type 0) → Part O → Type 0) (holds : HoldsOfParts Q) where
     of_call_on place kinds.Map operations.Range on_map = holds.range _ _ before
     of_call_on place (kinds.Atomic type) (operations.Atomic call) on_map = holds.atomic _ call
     of_call_on place kinds.Mutex (operations.Mutex call) on_map = holds.read _ _ replies.Lock _ (holds.mutex _ _)
-    of_call_on place kinds.RwMutex (operations.RwMutex call) on_map = holds.read _ _ replies.Lock _ (holds.rw_mutex _ _)
+    of_call_on place kinds.RwMutex (operations.RwMutex call) on_map = holds.read _ _ replies.Lock _ (of_rw_part _ call)
     of_call_on place (kinds.Cond mutex) (operations.Cond call) on_map = of_cond_call _ _ call
     of_call_on place (kinds.WaitGroup start) (operations.WaitGroup call) on_map = holds.read _ _ (λ done. replies.Returned) _ (holds.wait_group _ _)
     of_call_on place (kinds.Once atomic delta) operations.Once on_map = of_do _ _ delta

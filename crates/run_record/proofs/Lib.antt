@@ -28,3 +28,5 @@ mod RwReturns
 mod TwoCalls
 mod WaitLemmas
 mod WaitReturns
+mod WriteLocks
+mod WriterWaits

@@ -117,8 +117,10 @@ module _ {E R : Type 0} (event : E → ObjectEvent) (reply : R → ObjectReply) 
         let rest = entries_sound (y ∷ entries) answer ends.1 in
         ((calm_deed x.deed ends.0, rest.0), refuses_on (entered x) (map entered (y ∷ entries)) answer rest.1)
 
+  pub of_entries : {O : Type 0} (entries : List (Entry E R)) (items : List Made) (answer : CallAnswer O) → items ≡ map entered entries → Ends (map (λ entry. entry.deed) entries) answer → IsSoundBy items answer
+  of_entries entries items answer is ends = subst (λ (xs : List Made). IsSoundBy xs answer) (sym is) (entries_sound entries answer ends)
+
   pub of_stages : {G O : Type 0} (event_of : G → ℕ → E) (meaning : G → R → Step G O) (stage : G)
       → ((deeds : List (Deed E R)) (answer : CallAnswer O) → Spells event_of meaning stage deeds answer → Ends deeds answer)
       → IsSound (stages event reply event_of meaning object stage)
-  of_stages event_of meaning stage endings items answer (entries, is, spelt) =
-      subst (λ (xs : List Made). IsSoundBy xs answer) (sym is) (entries_sound entries answer (endings (map (λ entry. entry.deed) entries) answer spelt))
+  of_stages event_of meaning stage endings items answer (entries, is, spelt) = of_entries entries items answer is (endings (map (λ entry. entry.deed) entries) answer spelt)

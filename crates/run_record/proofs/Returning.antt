@@ -121,7 +121,7 @@ module _ {E R G O : Type 0} (event : E → ObjectEvent) (reply : R → ObjectRep
     on_first : (first : Entry E R) (items : List Made) → EndsTaking object items → EndsTaking object (Entered object (lifted event reply first) ∷ items)
     on_first first items ends = record { earlier = Entered object (lifted event reply first) ∷ ends.earlier; last = ends.last; are = ap (λ rest. Entered object (lifted event reply first) ∷ rest) ends.are; takes_in = ends.takes_in }
 
-    taking : (entries : List (Entry E R)) → TakesInLast own true (map (λ entry. entry.deed) entries) → EndsTaking object (map (λ entry. Entered object (lifted event reply entry)) entries)
+    pub taking : (entries : List (Entry E R)) → TakesInLast own true (map (λ entry. entry.deed) entries) → EndsTaking object (map (λ entry. Entered object (lifted event reply entry)) entries)
     taking [] last = absurd last
     taking (entry ∷ []) last = record { earlier = []; last = lifted event reply entry; are = refl; takes_in = such entry.deed last }
     taking (entry ∷ (next ∷ rest)) last = on_first entry (map (λ entry. Entered object (lifted event reply entry)) (next ∷ rest)) (taking (next ∷ rest) last.1)

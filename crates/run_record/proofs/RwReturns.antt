@@ -1,5 +1,5 @@
 -- What a reader/writer mutex's calls have done when they return.
-use Rattle.std.proofs.Common.{◌≡◌, ℕ, Bool, true, List, [], Ok, Result, refl, sym, ap, subst}
+use Rattle.std.proofs.Common.{◌≡◌, ℕ, Bool, true, List, [], ◌∷◌, map, get_or, Ok, Result, refl, sym, ap, subst}
 use Rattle.script_calls.specs.declared.call.Reply.{Reply}
 use Rattle.script_calls.specs.declared.call.Reply.TheVariants as replies
 use Rattle.sync_types.specs.declared.lock_call.LockReply.{LockReply}
@@ -9,7 +9,10 @@ use Rattle.sync_types.specs.declared.lock_call.RwMutexCall.TheVariants as calls
 use Rattle.sync_types.specs.declared.misuse.Misuse.{Misuse}
 use Rattle.sync_model.specs.declared.answer.Answer.TheVariants.{Done}
 use Rattle.sync_model.specs.declared.journal.Deed.{Deed}
+use Rattle.sync_model.specs.declared.journal.Deed.TheVariants.{Event}
+use Rattle.sync_model.specs.declared.journal.Entry.{Entry}
 use Rattle.rw_core.specs.declared.event.RwEvent.{RwEvent}
+use Rattle.rw_core.specs.declared.event.RwEvent.TheVariants.{WriteArrive}
 use Rattle.rw_core.specs.declared.reply.RwReply.{RwReply}
 use Rattle.rw_core.specs.declared.reply.RwReply.TheVariants as rw_answers
 use Rattle.rw_core.specs.declared.reply.Unlocking.TheVariants as unlocking
@@ -21,10 +24,12 @@ use Rattle.protocols.specs.Spelling.{Rest, Spells, TakesInLast}
 use Rattle.run_record.specs.declared.entered.ObjectEvent.TheVariants as event
 use Rattle.run_record.specs.declared.entered.ObjectReply.TheVariants as reply
 use Rattle.run_record.specs.declared.made.Made.{Made}
-use Rattle.run_record.specs.Parts.{stages}
-use Rattle.run_record.specs.RwMutexKind.{rw_mutex_stage, rw_mutex_call}
-use Rattle.run_record.specs.Returns.{IsOnce, EndsTaking, RwMutexReturns}
-use Rattle.run_record.proofs.Returning.{read_off, one_event, first_event, last_event}
+use Rattle.run_record.specs.declared.made.Made.TheVariants.{Entered}
+use Rattle.run_record.specs.Parts.{lifted, lifted_deed, stages}
+use Rattle.run_record.specs.RwMutexKind.{RwDeed, rw_part, rw_mutex_call}
+use Rattle.run_record.specs.Returns.{IsOnce, BeginsBy, EndsTaking, RwMutexReturns}
+use Rattle.run_record.proofs.Returning.{read_off, one_event, first_event, last_event, taking}
+use Rattle.run_record.proofs.WriteLocks.{lock_begins, lock_takes}
 
 -- what a reader/writer mutex's protocol keeps
 pub record RwLaws : Type 0 where
@@ -76,10 +81,26 @@ module _ (object : ℕ) where
         last_event event.RwMutex reply.RwMutex rw_event rw_meaning object (λ e r. rw.acquires r) (λ e r. refl) from items (Ok given)
         (λ deeds spelt. subst (λ b. TakesInLast (λ (e : RwEvent) r. rw.acquires r) b deeds) gains (laws.gains from deeds given spelt)) made
 
-    by_part : (of : RwMutexCall) (items : List Made) (given : LockReply) → part (rw_mutex_stage of) items given → RwMutexReturns object of items (replies.Lock given)
-    by_part calls.Lock items given made =
-        let first = first_event event.RwMutex reply.RwMutex rw_event rw_meaning object stage.Lock items (Ok given) made in
-        (first.0, ap replies.Lock (is_done given (laws.gives stage.Lock _ (Ok given) made.2)), first.1, locks stage.Lock items given refl made)
+    begins : (entries : List (Entry RwEvent RwReply)) (items : List Made) (now : ℕ) (r : RwReply) (more : List RwDeed) → items ≡ map (λ entry. Entered object (lifted event.RwMutex reply.RwMutex entry)) entries
+        → map (λ entry. entry.deed) entries ≡ Event (WriteArrive now) r ∷ more → BeginsBy object (event.RwMutex (WriteArrive now)) items
+    begins [] items now r more is deeds = absurd cc
+    begins (entry ∷ entries) items now r more is deeds = record {
+      entry = lifted event.RwMutex reply.RwMutex entry;
+      rest = map (λ entry. Entered object (lifted event.RwMutex reply.RwMutex entry)) entries;
+      answer = reply.RwMutex r;
+      are = is;
+      deed = ap (lifted_deed event.RwMutex reply.RwMutex) (ap (λ (l : List RwDeed). get_or l 0 entry.deed) deeds);
+    }
+
+    by_part : (of : RwMutexCall) (items : List Made) (given : LockReply) → rw_part object of items (Done (Ok given)) → RwMutexReturns object of items (replies.Lock given)
+    by_part calls.Lock items given (entries, is, writes) =
+        let deeds : List RwDeed = map (λ (entry : Entry RwEvent RwReply). entry.deed) entries in
+        let first = lock_begins deeds (Ok given) writes in (
+          first.0,
+          ap replies.Lock (is_done given (laws.gives stage.Lock writes.0 (Ok given) writes.2)),
+          begins entries items first.0 first.1 first.2 is first.3,
+          subst (λ (made : List Made). EndsTaking object made) (sym is) (taking event.RwMutex reply.RwMutex rw_event rw_meaning object (λ e r. rw.acquires r) (λ e r. refl) entries (lock_takes deeds given writes)),
+        )
     by_part calls.RLock items given made =
         let first = first_event event.RwMutex reply.RwMutex rw_event rw_meaning object stage.RLock items (Ok given) made in
         (ap replies.Lock (is_done given (laws.gives stage.RLock _ (Ok given) made.2)), first.1, locks stage.RLock items given refl made)
@@ -91,4 +112,4 @@ module _ (object : ℕ) where
     pub rw_mutex_returns : (of : RwMutexCall) (items : List Made) (answer : Reply ℕ) → rw_mutex_call object of items (Done (Ok answer)) → RwMutexReturns object of items answer
     rw_mutex_returns of items answer (given, made, e) =
         let off = read_off replies.Lock given answer e in
-        subst (λ a. RwMutexReturns object of items a) (sym off.read) (by_part of items off.outcome (subst (stages event.RwMutex reply.RwMutex rw_event rw_meaning object (rw_mutex_stage of) items) off.is made))
+        subst (λ a. RwMutexReturns object of items a) (sym off.read) (by_part of items off.outcome (subst (rw_part object of items) off.is made))

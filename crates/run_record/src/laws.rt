@@ -10,3 +10,4 @@ pub mod ranges;
 pub mod returns;
 pub mod spelling;
 pub mod waits;
+pub mod writers;
