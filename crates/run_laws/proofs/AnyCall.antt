@@ -21,9 +21,10 @@ use Rattle.run_laws.specs.OneSpelling.{IsCertain}
 use Rattle.run_laws.proofs.CallsOneWay.{map_certain, atomic_certain, mutex_certain, rw_mutex_certain, cond_certain, wait_group_certain, do_certain, func_certain, value_certain, pool_certain}
 use Rattle.run_laws.proofs.LinesOneWay.{AreCertain}
 use Rattle.run_laws.proofs.OneWay.{never_certain}
+use Rattle.run_laws.proofs.WritesOneWay.{LocksEnd}
 use Rattle.run_laws.proofs.PlainCalls.{list_all_at}
 
-module _ (plan : Plan) (worker before place : ℕ) where
+module _ (law : LocksEnd) (plan : Plan) (worker before place : ℕ) where
   on_kind : (kind : ObjectKind) (operation : Operation) → is_no_range operation ≡ true → IsCertain (call_on plan worker before place kind operation)
   on_kind kinds.Map (operations.Map of) none = map_certain (keys_in plan.scripts) (map_number plan.objects place) of
   on_kind kinds.Map operations.Range none = absurd (false≢true none)
@@ -62,7 +63,7 @@ module _ (plan : Plan) (worker before place : ℕ) where
   on_kind kinds.RwMutex operations.Range none = never_certain
   on_kind kinds.RwMutex (operations.Atomic of) none = never_certain
   on_kind kinds.RwMutex (operations.Mutex of) none = never_certain
-  on_kind kinds.RwMutex (operations.RwMutex of) none = rw_mutex_certain (object_number place) of
+  on_kind kinds.RwMutex (operations.RwMutex of) none = rw_mutex_certain law (object_number place) of
   on_kind kinds.RwMutex (operations.Cond of) none = never_certain
   on_kind kinds.RwMutex (operations.WaitGroup of) none = never_certain
   on_kind kinds.RwMutex operations.Once none = never_certain
@@ -140,11 +141,11 @@ module _ (plan : Plan) (worker before place : ℕ) where
   on_object None operation none = never_certain
   on_object (Some object) operation none = on_kind object.kind operation none
 
-pub any_certain : (plan : Plan) (worker before : ℕ) (call : Call) → is_no_range call.operation ≡ true → IsCertain (SpellsCall plan worker before call)
-any_certain plan worker before call none = on_object plan worker before call.object (slice_get plan.objects call.object) call.operation none
+pub any_certain : LocksEnd → (plan : Plan) (worker before : ℕ) (call : Call) → is_no_range call.operation ≡ true → IsCertain (SpellsCall plan worker before call)
+any_certain law plan worker before call none = on_object law plan worker before call.object (slice_get plan.objects call.object) call.operation none
 
-pub all_certain : (plan : Plan) (worker : ℕ) (script : List Call) → list_all (λ (call : Call). is_no_range call.operation) script ≡ true → AreCertain plan worker script
-all_certain plan worker script none i before call at = any_certain plan worker before call (list_all_at (λ (c : Call). is_no_range c.operation) script i call none at)
+pub all_certain : LocksEnd → (plan : Plan) (worker : ℕ) (script : List Call) → list_all (λ (call : Call). is_no_range call.operation) script ≡ true → AreCertain plan worker script
+all_certain law plan worker script none i before call at = any_certain law plan worker before call (list_all_at (λ (c : Call). is_no_range c.operation) script i call none at)
 
 all_later : (s : SpeltCall) (spelt : List SpeltCall) → list_all (λ (call : SpeltCall). is_no_range call.call.operation) (s ∷ spelt) ≡ true → list_all (λ (call : SpeltCall). is_no_range call.call.operation) spelt ≡ true
 all_later s spelt none = by_first (is_no_range s.call.operation) none where
@@ -152,7 +153,7 @@ all_later s spelt none = by_first (is_no_range s.call.operation) none where
   by_first true all = all
   by_first false all = absurd (false≢true all)
 
-pub certain_calls : (plan : Plan) (worker : ℕ) (spelt : List SpeltCall) → list_all (λ (call : SpeltCall). is_no_range call.call.operation) spelt ≡ true → AreCertain plan worker (map (λ (call : SpeltCall). call.call) spelt)
-certain_calls plan worker [] none i before call at = absurd (none-some call at)
-certain_calls plan worker (s ∷ spelt) none zero before call at = any_certain plan worker before call (subst (λ (c : Call). is_no_range c.operation ≡ true) (same_Some s.call call at) (list_all_at (λ (c : SpeltCall). is_no_range c.call.operation) (s ∷ spelt) 0 s none refl))
-certain_calls plan worker (s ∷ spelt) none (suc i) before call at = certain_calls plan worker spelt (all_later s spelt none) i before call at
+pub certain_calls : LocksEnd → (plan : Plan) (worker : ℕ) (spelt : List SpeltCall) → list_all (λ (call : SpeltCall). is_no_range call.call.operation) spelt ≡ true → AreCertain plan worker (map (λ (call : SpeltCall). call.call) spelt)
+certain_calls law plan worker [] none i before call at = absurd (none-some call at)
+certain_calls law plan worker (s ∷ spelt) none zero before call at = any_certain law plan worker before call (subst (λ (c : Call). is_no_range c.operation ≡ true) (same_Some s.call call at) (list_all_at (λ (c : SpeltCall). is_no_range c.call.operation) (s ∷ spelt) 0 s none refl))
+certain_calls law plan worker (s ∷ spelt) none (suc i) before call at = certain_calls law plan worker spelt (all_later s spelt none) i before call at

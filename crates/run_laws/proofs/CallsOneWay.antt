@@ -19,6 +19,7 @@ use Rattle.protocols.specs.declared.once.OnceStage.{OnceStage}
 use Rattle.protocols.specs.declared.once.OnceStage.TheVariants as once_stage
 use Rattle.protocols.specs.declared.pool.PoolOutcome.{PoolOutcome}
 use Rattle.protocols.specs.declared.pool.PoolOutcome.TheVariants as pool_outcome
+use Rattle.protocols.specs.declared.rw_mutex.RwMutexStage.TheVariants as on_rw
 use Rattle.protocols.specs.declared.pool.PoolStage.{PoolStage}
 use Rattle.protocols.specs.declared.pool.PoolStage.TheVariants as pool_stage
 use Rattle.script_calls.specs.declared.call.Reply.{Reply}
@@ -34,6 +35,7 @@ use Rattle.sync_types.specs.declared.atomic_object.AtomicReply.TheVariants as at
 use Rattle.sync_types.specs.declared.atomic_object.Number.TheVariants.{Int64}
 use Rattle.sync_types.specs.declared.lock_call.MutexCall.{MutexCall}
 use Rattle.sync_types.specs.declared.lock_call.RwMutexCall.{RwMutexCall}
+use Rattle.sync_types.specs.declared.lock_call.RwMutexCall.TheVariants as rw_calls
 use Rattle.sync_types.specs.declared.map_object.MapCall.{MapCall}
 use Rattle.sync_types.specs.declared.map_object.MapReply.{MapReply}
 use Rattle.sync_types.specs.declared.map_object.MapReply.TheVariants as map_replies
@@ -55,10 +57,11 @@ use Rattle.run_record.specs.MutexKind.{mutex_part, mutex_stage, mutex_call}
 use Rattle.run_record.specs.OnceKind.{goes_on_once, once_part, do_call, failure, func_call, value_call}
 use Rattle.run_record.specs.Parts.{Part, and_then, read_as, returns, stages}
 use Rattle.run_record.specs.PoolKind.{pool_part, stage_of, found_or, part_of, found_by, looks_of, swept_by, pool_call}
-use Rattle.run_record.specs.RwMutexKind.{rw_mutex_stage, rw_mutex_call}
+use Rattle.run_record.specs.RwMutexKind.{rw_part, rw_mutex_call}
 use Rattle.run_record.specs.WaitGroupKind.{wait_group_stage, wait_group_call}
 use Rattle.run_laws.specs.OneSpelling.{IsCertain}
 use Rattle.run_laws.proofs.Backs.{mutex_back, is_mutex_back, rw_mutex_back, is_rw_mutex_back, cond_back, is_cond_back, wait_group_back, is_wait_group_back, once_back, is_once_back, once_func_back, is_once_func_back, once_value_back, is_once_value_back, pool_back, is_pool_back}
+use Rattle.run_laws.proofs.WritesOneWay.{LocksEnd, write_certain}
 use Rattle.run_laws.proofs.OneWay.{returns_certain, never_certain, read_as_certain, and_then_certain, place_certain, stages_certain}
 
 -- what a placed call answered
@@ -95,9 +98,16 @@ mutex_part_certain object stage = stages_certain event.Mutex reply.Mutex mutex_b
 pub mutex_certain : (object : ℕ) (call : MutexCall) → IsCertain (mutex_call object call)
 mutex_certain object call = read_as_certain replies.Lock (mutex_part object (mutex_stage call)) (mutex_part_certain object (mutex_stage call))
 
-pub rw_mutex_certain : (object : ℕ) (call : RwMutexCall) → IsCertain (rw_mutex_call object call)
-rw_mutex_certain object call =
-    read_as_certain replies.Lock (stages event.RwMutex reply.RwMutex rw_event rw_meaning object (rw_mutex_stage call)) (stages_certain event.RwMutex reply.RwMutex rw_mutex_back is_rw_mutex_back object rw_event rw_meaning (rw_mutex_stage call))
+rw_part_certain : LocksEnd → (object : ℕ) (call : RwMutexCall) → IsCertain (rw_part object call)
+rw_part_certain law object rw_calls.Lock = write_certain object law
+rw_part_certain law object rw_calls.Unlock = stages_certain event.RwMutex reply.RwMutex rw_mutex_back is_rw_mutex_back object rw_event rw_meaning on_rw.Unlock
+rw_part_certain law object rw_calls.TryLock = stages_certain event.RwMutex reply.RwMutex rw_mutex_back is_rw_mutex_back object rw_event rw_meaning on_rw.TryLock
+rw_part_certain law object rw_calls.RLock = stages_certain event.RwMutex reply.RwMutex rw_mutex_back is_rw_mutex_back object rw_event rw_meaning on_rw.RLock
+rw_part_certain law object rw_calls.RUnlock = stages_certain event.RwMutex reply.RwMutex rw_mutex_back is_rw_mutex_back object rw_event rw_meaning on_rw.RUnlock
+rw_part_certain law object rw_calls.TryRLock = stages_certain event.RwMutex reply.RwMutex rw_mutex_back is_rw_mutex_back object rw_event rw_meaning on_rw.TryRLock
+
+pub rw_mutex_certain : LocksEnd → (object : ℕ) (call : RwMutexCall) → IsCertain (rw_mutex_call object call)
+rw_mutex_certain law object call = read_as_certain replies.Lock (rw_part object call) (rw_part_certain law object call)
 
 pub wait_group_certain : (object : ℕ) (call : WaitGroupCall) → IsCertain (wait_group_call object call)
 wait_group_certain object call =

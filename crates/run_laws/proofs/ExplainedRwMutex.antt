@@ -84,7 +84,7 @@ spelt_first = (
 )
 
 spelt_second : AreSpelt plan 1 0 second
-spelt_second = ((Done (Ok lock_reply.Done), (own_write ∷ [], refl, ((0, refl), (refl, refl))), refl), tt)
+spelt_second = ((Done (Ok lock_reply.Done), (own_write ∷ [], refl, (own_write.deed ∷ [], refl, ((0, refl), (refl, refl)))), refl), tt)
 
 pub explained : Explains plan outcome one_after_the_other
 explained = record {

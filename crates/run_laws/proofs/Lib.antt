@@ -41,3 +41,4 @@ mod SmallRecords
 mod UnionAtEnd
 mod Unlifted
 mod Weaving
+mod WritesOneWay

@@ -92,12 +92,12 @@ place_certain call reply told items other rest more placed also same =
     let heads : Shared a.0 ≡ Shared b.0 = ap (λ (l : List Made). get_or l 0 (Shared a.0)) lists in
     (a.1 ∙ (ap (λ (m : Made). m ∷ []) heads ∙ sym b.1), ap (λ (l : List Made). tail_of l) lists, sym a.2 ∙ (ap (λ (l : List Made). reply_at reply l) lists ∙ b.2))
 
-abbrev deed_in : Made → Deed ObjectEvent ObjectReply
+abbrev pub deed_in : Made → Deed ObjectEvent ObjectReply
 deed_in (Shared x) = Halt UnlockOfUnlockedMutex
 deed_in (Entered object entry) = entry.deed
 
 module _ {E R : Type 0} (event : E → ObjectEvent) (reply : R → ObjectReply) (back : Deed ObjectEvent ObjectReply → Deed E R) (is_back : (d : Deed E R) → back (lifted_deed event reply d) ≡ d) (object : ℕ) where
-  abbrev item : Entry E R → Made
+  abbrev pub item : Entry E R → Made
   item x = Entered object (lifted event reply x)
 
   none_made : (es : List (Entry E R)) → map (λ (e : Entry E R). e.deed) es ≡ [] → map item es ≡ []
@@ -106,10 +106,10 @@ module _ {E R : Type 0} (event : E → ObjectEvent) (reply : R → ObjectReply) 
 
   module _ {G O : Type 0} (event_of : G → ℕ → E) (meaning : G → R → Step G O) where
     -- what is to be shown of two such beginnings
-    abbrev Same : (es fs : List (Entry E R)) (rest more : List Made) → CallAnswer O → CallAnswer O → Type 0
+    abbrev pub Same : (es fs : List (Entry E R)) (rest more : List Made) → CallAnswer O → CallAnswer O → Type 0
     Same es fs rest more answer given = (map item es ≡ map item fs) × (rest ≡ more) × (answer ≡ given)
 
-    ended : (es fs : List (Entry E R)) (rest more : List Made) (answer given came : CallAnswer O)
+    pub ended : (es fs : List (Entry E R)) (rest more : List Made) (answer given came : CallAnswer O)
         → map (λ (e : Entry E R). e.deed) es ≡ [] → map (λ (e : Entry E R). e.deed) fs ≡ [] → answer ≡ came → given ≡ came → map item es ++ rest ≡ map item fs ++ more → Same es fs rest more answer given
     ended es fs rest more answer given came none also is are same =
         (none_made es none ∙ sym (none_made fs also), after_none (map item es) (map item fs) rest more (none_made es none) (none_made fs also) same, is ∙ sym are)

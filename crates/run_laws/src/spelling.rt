@@ -11,12 +11,15 @@ ghost use Rattle.run_laws.specs.OneSpelling.{IsCertain};
 
 use run_record::Made;
 use run_record::laws::endings::{a_run_is_done_unless_it_was_misused, stop_says_how_a_run_ended};
+use run_record::laws::writers::a_writers_lock_ends_once;
 use script_calls::{Call, Outcome};
 
 /// Each call but a `range` is spelt in one way: of two beginnings of one list that spell it, both are the same, and so is what it answers.
 pub fn a_call_is_spelt_in_one_way()
     ensures { (plan : Plan) (worker before : ℕ) (call : Call) → is_no_range call.operation ≡ true → IsCertain (SpellsCall plan worker before call) }
-{}
+{
+    a_writers_lock_ends_once();
+}
 
 /// A list falls into the calls of a script in one way, where none is a `range`: the items and the reply of each call are determined,
 /// and so is what is left behind them.
@@ -26,7 +29,9 @@ pub fn a_list_falls_into_calls_in_one_way()
         → AreSpelt plan worker before spelt → AreSpelt plan worker before other
         → flat_map (λ call. call.items) spelt ++ last ≡ flat_map (λ call. call.items) other ++ more
         → (spelt ≡ other) × (last ≡ more) }
-{}
+{
+    a_writers_lock_ends_once();
+}
 
 /// A record explains at most one outcome of a workload without a `range`.
 pub fn a_record_explains_one_outcome()
@@ -34,4 +39,5 @@ pub fn a_record_explains_one_outcome()
 {
     a_run_is_done_unless_it_was_misused();
     stop_says_how_a_run_ended();
+    a_writers_lock_ends_once();
 }
