@@ -45,7 +45,6 @@ use Rattle.step_runner.specs.Items.{Item, entered, stage_items, items_on, items_
 use Rattle.step_runner.specs.Objects.{IsMachineOf}
 use Rattle.step_runner.specs.Stages.{make}
 use Rattle.step_runner.specs.TurnAtObjects.{once_made, turn_on, turn_on_both}
-use Rattle.step_runner.proofs.GrantedLemmas.{tries_unlock}
 use Rattle.step_runner.proofs.Makes.{make_moves}
 use Rattle.step_runner.specs.MachinesStand.{MutexStands, RwStands, OnceStands, MachinesStand}
 use Rattle.step_runner.proofs.OthersStand.{no}
@@ -158,10 +157,7 @@ turn_eases laws workers x by moment object (operations.Map call) (states.Map m) 
 turn_eases laws workers x by moment object operations.Range (states.Map m) is apart = (omega arith, λ was told. no told)
 turn_eases laws workers x by moment object (operations.Atomic call) (states.Atomic number) is apart = (omega arith, λ was told. no told)
 turn_eases laws workers x by moment object (operations.Mutex call) (states.Mutex m) is apart = mutex_due_eases laws.mutexes x by moment object (mutex_due call (mutex.place_of m by)) m is.0 apart
-turn_eases laws workers x by moment object (operations.RwMutex call) (states.RwMutex m) is apart =
-    let due = rw_due call (rw.place_of m by) in
-    let eases = rw_due_eases laws.rw_mutexes x by moment object due m is.0 apart in
-    (eases.0, λ was told. tries_unlock by moment object (rw.place_of m by) m (stage_items events.RwMutex answered.RwMutex rw.next rw_stages.rw_event by moment object due m) ∙ eases.1 was told)
+turn_eases laws workers x by moment object (operations.RwMutex call) (states.RwMutex m) is apart = rw_due_eases laws.rw_mutexes x by moment object (rw_due call (rw.place_of m by)) m is.0 apart
 turn_eases laws workers x by moment object (operations.WaitGroup call) (states.WaitGroup g first) is apart = (
   omega (
     arith,

@@ -104,7 +104,6 @@ use Rattle.step_runner.specs.TurnAtObjects.{once_made, turn_on, turn_on_both, co
 use Rattle.step_runner.specs.MachinesStand.{MutexStands, RwStands, CondStands, GroupStands, OnceStands, MachinesStand}
 use Rattle.step_runner.proofs.CompletesLemmas.{pool_completes}
 use Rattle.step_runner.proofs.DueLemmas.{OfDue, both_due, mutex_answer, mutex_answers, rw_answers, GroupAnswer, group_answers, OnceAnswer, once_answers}
-use Rattle.step_runner.proofs.GrantedLemmas.{tries_back}
 use Rattle.step_runner.proofs.OthersStand.{no, untold}
 
 -- ---- what a turn takes
@@ -207,6 +206,8 @@ mutex_due_takes law (Some stage) x moment object m valid of =
 abbrev RwAt : RwPlace → RwMutexStage → Type 0
 RwAt p rw_stage.Resume = (rw_told p ≡ true) × (rw_left p ≡ 1)
 RwAt p rw_stage.LeaveWriting = Unit {0}
+RwAt p rw_stage.Inner = (rw_told p ≡ true) × (rw_left p ≡ 1)
+RwAt p rw_stage.Behind = Unit {0}
 RwAt p rw_stage.LeaveReading = Unit {0}
 RwAt p stage = p ≡ rw_place.Out
 
@@ -262,6 +263,12 @@ rw_takes rw_stage.Resume now p q (rw_reply.Resumed rw_resumption.Requeued) at is
 rw_takes rw_stage.Resume now p q r at is moves = no is
 rw_takes rw_stage.LeaveWriting now p q rw_reply.Left at is moves = rw_outs p q moves
 rw_takes rw_stage.LeaveWriting now p q r at is moves = no is
+rw_takes rw_stage.Inner now p q (rw_reply.Resumed rw_resumption.Acquired) at is moves = rw_outs p q moves
+rw_takes rw_stage.Inner now p q (rw_reply.Resumed rw_resumption.Queued) at is moves = (omega (arith, at.1, ap rw_left moves), untold_now (rw_told p) (rw_told q) (ap rw_told moves))
+rw_takes rw_stage.Inner now p q (rw_reply.Resumed rw_resumption.Requeued) at is moves = (omega (arith, at.1, ap rw_left moves), (at.0, ap rw_told moves))
+rw_takes rw_stage.Inner now p q r at is moves = no is
+rw_takes rw_stage.Behind now p q rw_reply.Left at is moves = rw_outs p q moves
+rw_takes rw_stage.Behind now p q r at is moves = no is
 rw_takes rw_stage.LeaveReading now p q rw_reply.Left at is moves = rw_outs p q moves
 rw_takes rw_stage.LeaveReading now p q r at is moves = no is
 
@@ -449,11 +456,8 @@ turn_takes laws workers x moment object (operations.Mutex call) (states.Mutex m)
 turn_takes laws workers x moment object (operations.RwMutex call) (states.RwMutex m) below is =
     let due = rw_due call (rw.place_of m x) in
     let Answered : RwMutexStage → Type 0 = λ stage. rw_standing.is_answer (rw_event stage moment) (rw.next m x (rw_event stage moment)).1 ≡ true in
-    let step = turn_on (operations.RwMutex call) x moment (states.RwMutex m) in
-    let made = stage_items events.RwMutex answered.RwMutex rw.next rw_event x moment object due m in
-    subst (λ (back : Bool). TakesBy back (left_at x (states.RwMutex m)) (left_at x step.0) step.1 × TellsOwn back (told_at x (states.RwMutex m)) (told_at x step.0)) (sym (tries_back x moment object (rw.place_of m x) m made refl))
-    (rw_due_takes laws.rw_mutexes due x moment object m is.0
-    (both_due (RwAt (rw.place_of m x)) Answered due (rw_at call (rw.place_of m x)) (rw_answers laws.rw_mutexes.answered call m x moment (omega (arith, below, is.1)))))
+    rw_due_takes laws.rw_mutexes due x moment object m is.0
+    (both_due (RwAt (rw.place_of m x)) Answered due (rw_at call (rw.place_of m x)) (rw_answers laws.rw_mutexes.answered call m x moment (omega (arith, below, is.1))))
 turn_takes laws workers x moment object (operations.WaitGroup call) (states.WaitGroup g first) below is =
     let due = group_due call (group.place_of g x) in
     group_due_takes laws.groups due x moment object first g

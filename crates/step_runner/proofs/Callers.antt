@@ -14,8 +14,6 @@ use Rattle.sync_types.specs.declared.pool_call.PoolCall.{PoolCall}
 use Rattle.sync_types.specs.declared.pool_call.PoolCall.TheVariants as pool_calls
 use Rattle.mutex_core.specs.MutexMachine as mutex
 use Rattle.rw_core.specs.RwMachine as rw
-use Rattle.rw_core.specs.declared.place.Place.{Place as RwPlace}
-use Rattle.rw_core.specs.declared.place.Place.TheVariants as rw_place
 use Rattle.wait_cores.specs.NotifyMachine as notify
 use Rattle.wait_cores.specs.GroupMachine as group
 use Rattle.wait_cores.specs.OnceMachine as once
@@ -38,7 +36,7 @@ use Rattle.step_runner.specs.declared.turns.answer.Answer.{Answer}
 use Rattle.step_runner.specs.declared.turns.object_state.ObjectState.{ObjectState}
 use Rattle.step_runner.specs.declared.turns.object_state.ObjectState.TheVariants as states
 use Rattle.step_runner.specs.Due.{mutex_due, rw_due, group_due, cond_due, once_due, looks_of}
-use Rattle.step_runner.specs.Items.{Item, stage_items, tries_first, unless_found, look_items, pool_items, items_on, add_items, sum_items, items_on_both, items_by, items_at}
+use Rattle.step_runner.specs.Items.{Item, stage_items, unless_found, look_items, pool_items, items_on, add_items, sum_items, items_on_both, items_by, items_at}
 use Rattle.step_runner.specs.Objects.{kind_of}
 use Rattle.step_runner.specs.PoolTurn.{looked}
 use Rattle.step_runner.specs.TurnAtObjects.{once_made}
@@ -69,18 +67,12 @@ pool_by worker moment object (pool_calls.Put item) p = (refl, tt)
 pool_by worker moment object pool_calls.Sweep p = (refl, tt)
 pool_by worker moment object pool_calls.Get p = looks_by worker moment object (looks_of (pool.callers_of p) worker 0 (2 * pool.callers_of p)) p
 
-tries_by : (worker moment object : ℕ) (p : RwPlace) (m : rw.State) → AllBy worker (tries_first worker moment object p m)
-tries_by worker moment object rw_place.Granted m = (refl, tt)
-tries_by worker moment object p m = tt
-
 on_by : (operation : Operation) (worker moment object : ℕ) (o : ObjectState) → AllBy worker (items_on operation worker moment object o)
 on_by (operations.Map call) worker moment object (states.Map m) = (refl, tt)
 on_by operations.Range worker moment object (states.Map m) = (refl, tt)
 on_by (operations.Atomic call) worker moment object (states.Atomic number) = (refl, tt)
 on_by (operations.Mutex call) worker moment object (states.Mutex m) = stage_by events.Mutex answered.Mutex mutex.next mutex_event worker moment object (mutex_due call (mutex.place_of m worker)) m
-on_by (operations.RwMutex call) worker moment object (states.RwMutex m) =
-    both_by worker (tries_first worker moment object (rw.place_of m worker) m) (stage_items events.RwMutex answered.RwMutex rw.next rw_event worker moment object (rw_due call (rw.place_of m worker)) m)
-    (tries_by worker moment object (rw.place_of m worker) m) (stage_by events.RwMutex answered.RwMutex rw.next rw_event worker moment object (rw_due call (rw.place_of m worker)) m)
+on_by (operations.RwMutex call) worker moment object (states.RwMutex m) = stage_by events.RwMutex answered.RwMutex rw.next rw_event worker moment object (rw_due call (rw.place_of m worker)) m
 on_by (operations.WaitGroup call) worker moment object (states.WaitGroup g first) = stage_by events.WaitGroup answered.WaitGroup group.next group_event worker moment object (group_due call (group.place_of g worker)) g
 on_by operations.OnceFunc worker moment object (states.OnceFunc o code) = stage_by events.OnceFunc answered.OnceFunc once.next once_event worker moment object (once_due code (runs_at o worker) (once.place_of o worker)) o
 on_by operations.OnceValue worker moment object (states.OnceValue o value) = stage_by events.OnceValue answered.OnceValue once.next once_event worker moment object (once_due value (runs_at o worker) (once.place_of o worker)) o

@@ -1,5 +1,5 @@
 -- Whatever is left of a call can be spelt.
-use Rattle.std.proofs.Common.{◌≡◌, ℕ, ◌+◌, Bool, true, false, List, [], ◌∷◌, ◌++◌, Option, Some, None, refl, sym, subst, append-nil, arith}
+use Rattle.std.proofs.Common.{◌≡◌, ℕ, ◌+◌, Bool, true, false, List, [], ◌∷◌, ◌++◌, map, Option, Some, None, refl, sym, subst, append-nil, arith}
 use Rattle.std.specs.Prelude.{Ok}
 use Rattle.std.specs.List.{range_with_len}
 use Rattle.std.proofs.lemmas.List.Sorted.{IsPermutation-refl}
@@ -13,10 +13,12 @@ use Rattle.script_calls.specs.declared.call.Operation.{Operation}
 use Rattle.script_calls.specs.declared.call.Operation.TheVariants as operations
 use Rattle.script_calls.specs.declared.call.Reply.{Reply}
 use Rattle.script_calls.specs.declared.call.Reply.TheVariants as replies
+use Rattle.sync_model.specs.declared.journal.Entry.{Entry}
 use Rattle.sync_model.specs.declared.item.SharedCall.TheVariants as calls
 use Rattle.sync_model.specs.declared.item.SharedReply.TheVariants as shared
 use Rattle.sync_types.specs.declared.lock_call.MutexCall.{MutexCall}
 use Rattle.sync_types.specs.declared.lock_call.RwMutexCall.{RwMutexCall}
+use Rattle.sync_types.specs.declared.lock_call.RwMutexCall.TheVariants as rw_calls
 use Rattle.sync_types.specs.declared.map_object.MapReply.TheVariants as map_replies
 use Rattle.sync_types.specs.declared.misuse.Misuse.TheVariants.{UnlockOfUnlockedMutex}
 use Rattle.sync_types.specs.declared.once_call.DoReply.TheVariants as do_replies
@@ -27,6 +29,8 @@ use Rattle.sync_types.specs.declared.wait_call.WaitGroupCall.{WaitGroupCall}
 use Rattle.sync_types.specs.declared.wait_call.WaitGroupCall.TheVariants as group_calls
 use Rattle.mutex_core.specs.MutexMachine as mutex
 use Rattle.rw_core.specs.RwMachine as rw
+use Rattle.rw_core.specs.declared.event.RwEvent.{RwEvent}
+use Rattle.rw_core.specs.declared.reply.RwReply.{RwReply}
 use Rattle.wait_cores.specs.GroupStanding as group_standing
 use Rattle.wait_cores.specs.NotifyStanding.{has_ticket}
 use Rattle.wait_cores.specs.OnceStanding as once_standing
@@ -44,6 +48,8 @@ use Rattle.protocols.specs.declared.cond.CondStage.TheVariants as cond_stage
 use Rattle.protocols.specs.declared.mutex.MutexStage.TheVariants as mutex_stage
 use Rattle.protocols.specs.declared.once.OnceStage.TheVariants as once_stage
 use Rattle.protocols.specs.declared.pool.PoolStage.TheVariants as pool_stage
+use Rattle.protocols.specs.declared.rw_mutex.RwMutexStage.{RwMutexStage}
+use Rattle.protocols.specs.declared.rw_mutex.RwMutexStage.TheVariants as rw_stage
 use Rattle.protocols.specs.declared.step.Step.{Step}
 use Rattle.protocols.specs.declared.wait_group.GroupStage.TheVariants as group_stage
 use Rattle.run_record.specs.AtomicKind.{adds}
@@ -54,7 +60,7 @@ use Rattle.run_record.specs.OnceKind.{failure}
 use Rattle.run_record.specs.Parts.{Part, and_then, read_as, returns, stages}
 use Rattle.run_record.specs.PoolKind as record_pool
 use Rattle.run_record.specs.Record.{object_number}
-use Rattle.run_record.specs.RwMutexKind.{rw_mutex_stage}
+use Rattle.run_record.specs.RwMutexKind.{rw_part, write_part}
 use Rattle.run_record.specs.WaitGroupKind.{wait_group_stage, wait_group_call}
 use Rattle.run_record.specs.declared.entered.ObjectEvent.{ObjectEvent}
 use Rattle.run_record.specs.declared.entered.ObjectEvent.TheVariants as events
@@ -97,9 +103,23 @@ mutex_can : (object : ℕ) (call : MutexCall) (waits : Bool) → CanHalt (mutex_
 mutex_can object call true = read_halts replies.Lock (stages events.Mutex answered.Mutex mutex_event mutex_meaning object mutex_stage.Resume) (stage_halts events.Mutex answered.Mutex mutex_event mutex_meaning object mutex_stage.Resume)
 mutex_can object call false = read_halts replies.Lock (stages events.Mutex answered.Mutex mutex_event mutex_meaning object (mutex_first call)) (stage_halts events.Mutex answered.Mutex mutex_event mutex_meaning object (mutex_first call))
 
-rw_can : (object : ℕ) (call : RwMutexCall) (waits : Bool) → CanHalt (rw_left object call waits)
-rw_can object call true = read_halts replies.Lock (stages events.RwMutex answered.RwMutex rw_event rw_meaning object (rw_later call)) (stage_halts events.RwMutex answered.RwMutex rw_event rw_meaning object (rw_later call))
-rw_can object call false = read_halts replies.Lock (stages events.RwMutex answered.RwMutex rw_event rw_meaning object (rw_mutex_stage call)) (stage_halts events.RwMutex answered.RwMutex rw_event rw_meaning object (rw_mutex_stage call))
+-- a writer's arrival may be refused
+write_halts : (object : ℕ) → CanHalt (write_part object)
+write_halts object =
+    let one = stage_halts events.RwMutex answered.RwMutex rw_event rw_meaning object rw_stage.Lock in
+    (one.0, (one.1.0, one.1.1, (map (λ (entry : Entry RwEvent RwReply). entry.deed) one.1.0, refl, one.1.2)))
+
+rw_whole : (object : ℕ) (call : RwMutexCall) → CanHalt (rw_part object call)
+rw_whole object rw_calls.Lock = write_halts object
+rw_whole object rw_calls.Unlock = stage_halts events.RwMutex answered.RwMutex rw_event rw_meaning object rw_stage.Unlock
+rw_whole object rw_calls.TryLock = stage_halts events.RwMutex answered.RwMutex rw_event rw_meaning object rw_stage.TryLock
+rw_whole object rw_calls.RLock = stage_halts events.RwMutex answered.RwMutex rw_event rw_meaning object rw_stage.RLock
+rw_whole object rw_calls.RUnlock = stage_halts events.RwMutex answered.RwMutex rw_event rw_meaning object rw_stage.RUnlock
+rw_whole object rw_calls.TryRLock = stage_halts events.RwMutex answered.RwMutex rw_event rw_meaning object rw_stage.TryRLock
+
+rw_can : (object : ℕ) (call : RwMutexCall) (waits : Option RwMutexStage) → CanHalt (rw_left object call waits)
+rw_can object call (Some stage) = read_halts replies.Lock (stages events.RwMutex answered.RwMutex rw_event rw_meaning object (rw_later call stage)) (stage_halts events.RwMutex answered.RwMutex rw_event rw_meaning object (rw_later call stage))
+rw_can object call None = read_halts replies.Lock (rw_part object call) (rw_whole object call)
 
 group_whole : (object : ℕ) (call : WaitGroupCall) → CanHalt (wait_group_call object call)
 group_whole object call =

@@ -17,8 +17,6 @@ use Rattle.sync_types.specs.declared.pool_call.PoolCall.{PoolCall}
 use Rattle.sync_types.specs.declared.pool_call.PoolCall.TheVariants as pool_calls
 use Rattle.mutex_core.specs.MutexMachine as mutex
 use Rattle.rw_core.specs.RwMachine as rw
-use Rattle.rw_core.specs.declared.place.Place.{Place as RwPlace}
-use Rattle.rw_core.specs.declared.place.Place.TheVariants as rw_place
 use Rattle.wait_cores.specs.NotifyMachine as notify
 use Rattle.wait_cores.specs.GroupMachine as group
 use Rattle.wait_cores.specs.OnceMachine as once
@@ -46,14 +44,13 @@ use Rattle.step_runner.specs.declared.turns.object_state.ObjectState.{ObjectStat
 use Rattle.step_runner.specs.declared.turns.object_state.ObjectState.TheVariants as states
 use Rattle.step_runner.specs.LeadsTo.{on_object, told_in, told_by, FollowsTo, CallsTo, MapGoes, AtomicGoes, LeadsTo}
 use Rattle.step_runner.specs.Due.{mutex_due, rw_due, group_due, cond_due, once_due, looks_of}
-use Rattle.step_runner.specs.Items.{Item, Deed, stage_items, tries_first, once_items, pool_item, unless_found, look_items, pool_items, items_on, add_items, items_on_both, items_at}
+use Rattle.step_runner.specs.Items.{Item, Deed, stage_items, once_items, pool_item, unless_found, look_items, pool_items, items_on, add_items, items_on_both, items_at}
 use Rattle.step_runner.specs.PoolTurn.{looked, found_or, found_by, pool_step}
 use Rattle.step_runner.specs.Ready.{IsReady}
 use Rattle.step_runner.specs.Stages.{make}
 use Rattle.step_runner.specs.TurnAtObjects.{once_made, turn_on, turn_on_both, number_after, turn_at}
 use Rattle.step_runner.proofs.AtObjects.{at_ready}
 use Rattle.step_runner.proofs.CallAt.{items_alone, items_referring}
-use Rattle.step_runner.proofs.GrantedLemmas.{tries_come}
 
 -- ---- one log behind another
 
@@ -164,11 +161,7 @@ on_comes (operations.Map call) worker moment object (states.Map m) = (operations
 on_comes operations.Range worker moment object (states.Map m) = (operations.Range, _, _, refl, (refl, refl), refl)
 on_comes (operations.Atomic call) worker moment object (states.Atomic number) = (operations.Atomic call, _, _, refl, (refl, refl), refl)
 on_comes (operations.Mutex call) worker moment object (states.Mutex m) = stage_comes events.Mutex answered.Mutex mutex.next mutex_event mutex_meaning worker moment object (mutex_due call (mutex.place_of m worker)) m
-on_comes (operations.RwMutex call) worker moment object (states.RwMutex m) =
-    let due = rw_due call (rw.place_of m worker) in
-    join_logs events.RwMutex answered.RwMutex rw.next m m (make rw.next rw_event rw_meaning worker moment due m).0 (tries_first worker moment object (rw.place_of m worker) m)
-    (stage_items events.RwMutex answered.RwMutex rw.next rw_event worker moment object due m)
-    (tries_come worker moment object (rw.place_of m worker) m refl) (stage_comes events.RwMutex answered.RwMutex rw.next rw_event rw_meaning worker moment object due m)
+on_comes (operations.RwMutex call) worker moment object (states.RwMutex m) = stage_comes events.RwMutex answered.RwMutex rw.next rw_event rw_meaning worker moment object (rw_due call (rw.place_of m worker)) m
 on_comes (operations.WaitGroup call) worker moment object (states.WaitGroup g first) = stage_comes events.WaitGroup answered.WaitGroup group.next group_event group_meaning worker moment object (group_due call (group.place_of g worker)) g
 on_comes operations.OnceFunc worker moment object (states.OnceFunc o code) = once_comes events.OnceFunc answered.OnceFunc worker moment object code o
 on_comes operations.OnceValue worker moment object (states.OnceValue o value) = once_comes events.OnceValue answered.OnceValue worker moment object value o
@@ -216,12 +209,7 @@ on_at (operations.Map call) worker moment object (states.Map m) = (refl, tt)
 on_at operations.Range worker moment object (states.Map m) = (refl, tt)
 on_at (operations.Atomic call) worker moment object (states.Atomic number) = (refl, tt)
 on_at (operations.Mutex call) worker moment object (states.Mutex m) = stage_at events.Mutex answered.Mutex mutex.next mutex_event worker moment object (mutex_due call (mutex.place_of m worker)) m
-on_at (operations.RwMutex call) worker moment object (states.RwMutex m) =
-    behind_tries _ (rw.place_of m worker) (stage_at events.RwMutex answered.RwMutex rw.next rw_event worker moment object (rw_due call (rw.place_of m worker)) m)
-  where
-    behind_tries : (rest : List Item) (p : RwPlace) → AllAt object rest → AllAt object (tries_first worker moment object p m ++ rest)
-    behind_tries rest rw_place.Granted all = (refl, all)
-    behind_tries rest p all = all
+on_at (operations.RwMutex call) worker moment object (states.RwMutex m) = stage_at events.RwMutex answered.RwMutex rw.next rw_event worker moment object (rw_due call (rw.place_of m worker)) m
 on_at (operations.WaitGroup call) worker moment object (states.WaitGroup g first) = stage_at events.WaitGroup answered.WaitGroup group.next group_event worker moment object (group_due call (group.place_of g worker)) g
 on_at operations.OnceFunc worker moment object (states.OnceFunc o code) = stage_at events.OnceFunc answered.OnceFunc once.next once_event worker moment object (once_due code (runs_at o worker) (once.place_of o worker)) o
 on_at operations.OnceValue worker moment object (states.OnceValue o value) = stage_at events.OnceValue answered.OnceValue once.next once_event worker moment object (once_due value (runs_at o worker) (once.place_of o worker)) o

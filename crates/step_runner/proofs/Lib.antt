@@ -25,7 +25,6 @@ mod CallOwn
 mod AtomicTypes
 mod CompletesLemmas
 mod DueLemmas
-mod GrantedLemmas
 mod ItemLogs
 mod KeyLemmas
 mod MachineLaws
@@ -38,6 +37,7 @@ mod PlacedLemmas
 mod PoolLooks
 mod RangeLemmas
 mod RoomLemmas
+mod WriterGoesOn
 mod Writes
 pub mod OthersStand
 pub mod OwnStands

@@ -167,6 +167,12 @@ rw_leaves rw_stage.Resume now (rw_reply.Resumed rw_resumption.Requeued) old new 
 rw_leaves rw_stage.Resume now r old new is used = no is
 rw_leaves rw_stage.LeaveWriting now rw_reply.Left old new is used = omega (arith, used)
 rw_leaves rw_stage.LeaveWriting now r old new is used = no is
+rw_leaves rw_stage.Inner now (rw_reply.Resumed rw_resumption.Acquired) old new is used = omega (arith, used)
+rw_leaves rw_stage.Inner now (rw_reply.Resumed rw_resumption.Queued) old new is used = omega (arith, used)
+rw_leaves rw_stage.Inner now (rw_reply.Resumed rw_resumption.Requeued) old new is used = omega (arith, used)
+rw_leaves rw_stage.Inner now r old new is used = no is
+rw_leaves rw_stage.Behind now rw_reply.Left old new is used = omega (arith, used)
+rw_leaves rw_stage.Behind now r old new is used = no is
 rw_leaves rw_stage.LeaveReading now rw_reply.Left old new is used = omega (arith, used)
 rw_leaves rw_stage.LeaveReading now r old new is used = no is
 

@@ -234,6 +234,12 @@ rw_stage_own call rw_stage.Resume x now p n (rw_reply.Resumed rw_resumption.Requ
 rw_stage_own call rw_stage.Resume x now p n r fits is moves = no is
 rw_stage_own call rw_stage.LeaveWriting x now p n rw_reply.Left fits is moves = (fits.1, moves)
 rw_stage_own call rw_stage.LeaveWriting x now p n r fits is moves = no is
+rw_stage_own call rw_stage.Inner x now p n (rw_reply.Resumed rw_resumption.Acquired) fits is moves = (fits.1, moves)
+rw_stage_own call rw_stage.Inner x now p n (rw_reply.Resumed rw_resumption.Queued) fits is moves = (tt, λ e. no (sym e ∙ fits.0))
+rw_stage_own call rw_stage.Inner x now p n (rw_reply.Resumed rw_resumption.Requeued) fits is moves = (tt, λ e. no (sym e ∙ fits.0))
+rw_stage_own call rw_stage.Inner x now p n r fits is moves = no is
+rw_stage_own call rw_stage.Behind x now p n rw_reply.Left fits is moves = (fits.1, moves)
+rw_stage_own call rw_stage.Behind x now p n r fits is moves = no is
 rw_stage_own call rw_stage.LeaveReading x now p n rw_reply.Left fits is moves = (fits.1, moves)
 rw_stage_own call rw_stage.LeaveReading x now p n r fits is moves = no is
 

@@ -54,9 +54,9 @@ abbrev pub rw_due : RwMutexCall → RwPlace → Option RwMutexStage
 rw_due call rw_place.Out = Some (rw_mutex_stage call)
 rw_due call rw_place.Queued = None
 rw_due call rw_place.Waiting = None
-rw_due call rw_place.Woken = Some rw_stage.Resume
-rw_due call rw_place.Handed = Some rw_stage.Resume
-rw_due call rw_place.Granted = Some rw_stage.LeaveWriting
+rw_due call rw_place.Woken = Some rw_stage.Inner
+rw_due call rw_place.Handed = Some rw_stage.Inner
+rw_due call rw_place.Granted = Some rw_stage.Behind
 rw_due call rw_place.Admitted = Some rw_stage.LeaveReading
 
 -- the reply of a mutex and of a reader/writer mutex

@@ -21,8 +21,6 @@ use Rattle.mutex_core.specs.declared.reply.MutexReply.TheVariants as mutex_reply
 use Rattle.mutex_core.specs.declared.reply.Resumption.TheVariants as mutex_resumption
 use Rattle.rw_core.specs.RwMachine as rw
 use Rattle.rw_core.specs.declared.event.RwEvent.TheVariants as rw_event
-use Rattle.rw_core.specs.declared.place.Place.{Place as RwPlace}
-use Rattle.rw_core.specs.declared.place.Place.TheVariants as rw_place
 use Rattle.rw_core.specs.declared.reply.RwReply.TheVariants as rw_reply
 use Rattle.rw_core.specs.declared.reply.Resumption.TheVariants as rw_resumption
 use Rattle.wait_cores.specs.NotifyMachine as notify
@@ -42,7 +40,6 @@ use Rattle.protocols.specs.declared.once.OnceOutcome.{OnceOutcome}
 use Rattle.protocols.specs.declared.once.OnceOutcome.TheVariants.{Ended}
 use Rattle.protocols.specs.declared.pool.PoolStage.{PoolStage}
 use Rattle.protocols.specs.declared.pool.PoolStage.TheVariants as pool_stage
-use Rattle.protocols.specs.declared.rw_mutex.RwMutexStage.TheVariants as rw_stage
 use Rattle.run_record.specs.declared.entered.ObjectEvent.{ObjectEvent}
 use Rattle.run_record.specs.declared.entered.ObjectEvent.TheVariants as events
 use Rattle.run_record.specs.declared.entered.ObjectReply.{ObjectReply}
@@ -102,11 +99,6 @@ module _ (worker moment object : ℕ) where
   pool_items pool_calls.Sweep p = pool_item pool_stage.Sweep p ∷ []
   pool_items pool_calls.Get p = look_items (looks_of (pool.callers_of p) worker 0 (2 * pool.callers_of p)) p
 
--- a writer that was granted the lock isn't told so: it first tries to go on at the inner mutex, which is answered `Still` and changes nothing
-abbrev pub tries_first : ℕ → ℕ → ℕ → RwPlace → rw.State → List Item
-tries_first worker moment object rw_place.Granted m = stage_item events.RwMutex answered.RwMutex rw.next rw_stages.rw_event worker moment object rw_stage.Resume m ∷ []
-tries_first worker moment object at m = []
-
 -- ---- of a turn
 
 -- the call is placed on the map or atomic at this place
@@ -119,9 +111,7 @@ items_on (operations.Map call) worker moment object (states.Map m) = placed_at w
 items_on operations.Range worker moment object (states.Map m) = placed_at worker object operations.Range (replies.Pairs (entries m))
 items_on (operations.Atomic call) worker moment object (states.Atomic number) = placed_at worker object (operations.Atomic call) (replies.Atomic (atomic_reply call number))
 items_on (operations.Mutex call) worker moment object (states.Mutex m) = stage_items events.Mutex answered.Mutex mutex.next mutex_stages.mutex_event worker moment object (mutex_due call (mutex.place_of m worker)) m
-items_on (operations.RwMutex call) worker moment object (states.RwMutex m) =
-    tries_first worker moment object (rw.place_of m worker) m
-    ++ stage_items events.RwMutex answered.RwMutex rw.next rw_stages.rw_event worker moment object (rw_due call (rw.place_of m worker)) m
+items_on (operations.RwMutex call) worker moment object (states.RwMutex m) = stage_items events.RwMutex answered.RwMutex rw.next rw_stages.rw_event worker moment object (rw_due call (rw.place_of m worker)) m
 items_on (operations.WaitGroup call) worker moment object (states.WaitGroup g first) = stage_items events.WaitGroup answered.WaitGroup group.next group_event worker moment object (group_due call (group.place_of g worker)) g
 items_on operations.OnceFunc worker moment object (states.OnceFunc o code) = once_items events.OnceFunc answered.OnceFunc worker moment object code o
 items_on operations.OnceValue worker moment object (states.OnceValue o value) = once_items events.OnceValue answered.OnceValue worker moment object value o

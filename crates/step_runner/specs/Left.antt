@@ -59,14 +59,15 @@ mutex_waits mutex_place.Waiting = true
 mutex_waits mutex_place.Woken = true
 mutex_waits mutex_place.Handed = true
 
-abbrev pub rw_waits : RwPlace → Bool
-rw_waits rw_place.Out = false
-rw_waits rw_place.Queued = true
-rw_waits rw_place.Waiting = true
-rw_waits rw_place.Woken = true
-rw_waits rw_place.Handed = true
-rw_waits rw_place.Granted = true
-rw_waits rw_place.Admitted = true
+-- by which stage a writer goes on that waits where this place is. A reader that was admitted waits where one in the queue does
+abbrev pub rw_waits : RwPlace → Option RwMutexStage
+rw_waits rw_place.Out = None
+rw_waits rw_place.Queued = Some rw_stage.Inner
+rw_waits rw_place.Woken = Some rw_stage.Inner
+rw_waits rw_place.Handed = Some rw_stage.Inner
+rw_waits rw_place.Admitted = Some rw_stage.Inner
+rw_waits rw_place.Waiting = Some rw_stage.Behind
+rw_waits rw_place.Granted = Some rw_stage.Behind
 
 -- ---- what is left, by kind: the whole call, where the worker is out
 
@@ -75,14 +76,14 @@ abbrev pub mutex_left : ℕ → MutexCall → Bool → Part (Reply ℕ)
 mutex_left object call false = mutex_call object call
 mutex_left object call true = read_as replies.Lock (mutex_part object mutex_stage.Resume)
 
--- the stage by which one that waits goes on
-abbrev pub rw_later : RwMutexCall → RwMutexStage
-rw_later rw_calls.RLock = rw_stage.LeaveReading
-rw_later call = rw_stage.Resume
+-- a reader that waits leaves
+abbrev pub rw_later : RwMutexCall → RwMutexStage → RwMutexStage
+rw_later rw_calls.RLock stage = rw_stage.LeaveReading
+rw_later call stage = stage
 
-abbrev pub rw_left : ℕ → RwMutexCall → Bool → Part (Reply ℕ)
-rw_left object call false = rw_mutex_call object call
-rw_left object call true = read_as replies.Lock (stages events.RwMutex answered.RwMutex rw_event rw_meaning object (rw_later call))
+abbrev pub rw_left : ℕ → RwMutexCall → Option RwMutexStage → Part (Reply ℕ)
+rw_left object call None = rw_mutex_call object call
+rw_left object call (Some stage) = read_as replies.Lock (stages events.RwMutex answered.RwMutex rw_event rw_meaning object (rw_later call stage))
 
 -- a wait leaves
 abbrev pub group_left : ℕ → WaitGroupCall → Bool → Part (Reply ℕ)

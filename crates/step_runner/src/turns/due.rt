@@ -37,8 +37,8 @@ pub(crate) fn rw_due(call: RwMutexCall, place: RwPlace) -> Option<RwMutexStage>
 {
     match place {
         RwPlace::Queued | RwPlace::Waiting => None,
-        RwPlace::Woken | RwPlace::Handed => Some(RwMutexStage::Resume),
-        RwPlace::Granted => Some(RwMutexStage::LeaveWriting),
+        RwPlace::Woken | RwPlace::Handed => Some(RwMutexStage::Inner),
+        RwPlace::Granted => Some(RwMutexStage::Behind),
         RwPlace::Admitted => Some(RwMutexStage::LeaveReading),
         RwPlace::Out => Some(match call {
             RwMutexCall::Lock => RwMutexStage::Lock,
