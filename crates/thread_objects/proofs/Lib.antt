@@ -21,3 +21,4 @@ pub mod OnlyCalls
 pub mod Ranging
 pub mod SharedParts
 pub mod Spending
+pub mod RwWorking
