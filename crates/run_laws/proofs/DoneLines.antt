@@ -13,7 +13,7 @@ use Rattle.workload.specs.Plan.{Plan}
 use Rattle.run_record.specs.declared.made.Made.{Made}
 use Rattle.run_record.specs.declared.made.Made.TheVariants.{Shared, Entered}
 use Rattle.run_record.specs.Explains.{Explains}
-use Rattle.run_record.specs.Lines.{SpeltCall, Line, LineEnd, whole, script_of, items_of, EndsBy}
+use Rattle.run_record.specs.Lines.{SpeltCall, Line, LineEnd, whole, script_of, items_of, AreHalts, EndsBy}
 use Rattle.run_record.specs.Record.{Record, list_of, shared_in, calls_of}
 use Rattle.run_laws.proofs.Orderly.{get_past, get_at}
 
@@ -38,10 +38,12 @@ abbrev pub items_in : List SpeltCall → List Made
 items_in spelt = flat_map (λ call. call.items) spelt
 
 module _ (plan : Plan) (r : Record) (left : Report) (explains : Explains plan (Done left) r) where
-  ended : (worker : ℕ) (line : Line) → slice_get explains.lines worker ≡ Some line → (line.rest ≡ []) × (line.last ≡ [])
+  ended : (worker : ℕ) (line : Line) → slice_get explains.lines worker ≡ Some line → (line.rest ≡ []) × (line.last ++ line.halts ≡ [])
   ended worker line at =
       let is : line.ending ≡ whole = subst (λ (l : Line). l.ending ≡ whole) (get_or_from_slice_get explains.lines worker line line at) (explains.agrees.0 worker line (slice_get_within explains.lines worker line at)) in
-      subst (λ (e : LineEnd). EndsBy plan worker (length (shared_in (items_in line.spelt))) e line.rest line.last) is (explains.are.each worker line at).ends
+      let of = explains.are.each worker line at in
+      let ends = subst (λ (e : LineEnd). EndsBy plan worker (length (shared_in (items_in line.spelt))) e line.rest line.last) is of.ends in
+      (ends.0, ap (λ (l : List Made). l ++ line.halts) ends.1 ∙ subst (λ (e : LineEnd). AreHalts e line.halts) is of.halts)
 
   pub script_at : (worker : ℕ) (line : Line) → slice_get explains.lines worker ≡ Some line → script_of line ≡ calls_in line.spelt
   script_at worker line at = ap (λ (l : List Call). calls_in line.spelt ++ l) (ended worker line at).0 ∙ append-nil (calls_in line.spelt)

@@ -1,5 +1,5 @@
 -- A worker that keeps to its locks unlocks a mutex only where it holds it: so its list says.
-use Rattle.std.proofs.Common.{◌≡◌, ℕ, suc, ◌+◌, ◌==◌, Bool, true, false, cond, List, [], ◌∷◌, ◌++◌, map, length, refl, sym, ap, ◌∙◌, subst, arith, append_assoc}
+use Rattle.std.proofs.Common.{◌≡◌, ℕ, suc, ◌+◌, ◌==◌, Bool, true, false, cond, List, [], ◌∷◌, ◌++◌, map, length, refl, sym, ap, ◌∙◌, subst, arith, append_assoc, append-nil}
 use Rattle.std.specs.Prelude.{◌&&◌, not, All, Ok, Err}
 use Rattle.std.specs.List.{flat_map}
 use Rattle.std.proofs.lemmas.Bool.{false≢true, and_parts, eq-eqb, eqb-true, eqb-false, ne_eqb}
@@ -35,7 +35,7 @@ use Rattle.run_record.specs.declared.entered.ObjectReply.{ObjectReply}
 use Rattle.run_record.specs.declared.entered.ObjectReply.TheVariants as reply
 use Rattle.run_record.specs.declared.made.Made.{Made}
 use Rattle.run_record.specs.declared.made.Made.TheVariants.{Shared, Entered}
-use Rattle.run_record.specs.Lines.{SpeltCall, LineEnd, whole, misused, halted, unfinished, Line, script_of, items_of, IsHalt, AreSpelt, EndsBy, IsLineOf}
+use Rattle.run_record.specs.Lines.{SpeltCall, LineEnd, whole, misused, halted, unfinished, Line, script_of, items_of, IsHalt, AreHalts, AreSpelt, EndsBy, IsLineOf}
 use Rattle.run_record.specs.MutexKind.{mutex_call, mutex_stage}
 use Rattle.run_record.specs.Parts.{lifted, lifted_deed, with_outcome}
 use Rattle.run_record.specs.Record.{ObjectEntry, object_number, shared_in, entries_in}
@@ -257,23 +257,30 @@ module _ (plan : Plan) (plain : has_plain_objects plan ≡ true) (place : ℕ) (
         subst (λ (es : List ObjectEntry). OnlyHolder held es) (sym (ap (λ (es : List ObjectEntry). es ++ rest) (entries_append (object_number place) call.items later) ∙ append_assoc (entries_in (object_number place) call.items) (entries_in (object_number place) later) rest))
         (call_turns held call.call call.items (Done (Ok call.reply)) (entries_in (object_number place) later ++ rest) (plain_call plan plain worker before call.call call.items (Done (Ok call.reply)) are.0) on.0 goes)
 
-    -- the call that was cut short, or none
-    last_turns : (before : ℕ) (ending : LineEnd) (left : List Call) (last : List Made) → EndsBy plan worker before ending left last → (held : Bool) → keeps_lock place held left ≡ true → OnlyHolder held (entries_in (object_number place) last)
-    last_turns before whole left last ends held keeps = subst (λ (l : List Made). OnlyHolder held (entries_in (object_number place) l)) (sym ends.1) tt
-    last_turns before (misused m) [] last ends held keeps = absurd ends
-    last_turns before (misused m) (call ∷ left) last (items, halts, is, spelt, all) held keeps =
-        subst (λ (es : List ObjectEntry). OnlyHolder held es) (sym (ap (λ (l : List Made). entries_in (object_number place) l) is ∙ entries_append (object_number place) items halts))
-        (call_turns held call items (Done (Err m)) (entries_in (object_number place) halts) (plain_call plan plain worker before call items (Done (Err m)) spelt) (keeps_on place held call left keeps).0 (halts_only (object_number place) m halts all))
-    last_turns before (halted m) [] last ends held keeps = absurd ends
-    last_turns before (halted m) (call ∷ left) last spelt held keeps =
-        only_first held (entries_in (object_number place) last) [] (call_turns held call last (Halted m) [] (plain_call plan plain worker before call last (Halted m) spelt) (keeps_on place held call left keeps).0 (behind_nothing {O = Reply ℕ} (Halted m) (next_held place held call)))
-    last_turns before unfinished [] last ends held keeps = absurd ends
-    last_turns before unfinished (call ∷ left) last (later, answer, spelt) held keeps =
-        only_first held (entries_in (object_number place) last) (entries_in (object_number place) later) (subst (λ (es : List ObjectEntry). OnlyHolder held es) (entries_append (object_number place) last later)
-        (only_first held (entries_in (object_number place) (last ++ later)) [] (call_turns held call (last ++ later) answer [] (plain_call plan plain worker before call (last ++ later) answer spelt) (keeps_on place held call left keeps).0 (behind_nothing answer (next_held place held call)))))
+    -- the call that was cut short, or none, and the halts behind it
+    unhalted : (halts : List Made) → halts ≡ [] → (held : Bool) → OnlyHolder held (entries_in (object_number place) halts)
+    unhalted halts none held = subst (λ (l : List Made). OnlyHolder held (entries_in (object_number place) l)) (sym none) tt
+
+    last_turns : (before : ℕ) (ending : LineEnd) (left : List Call) (last halts : List Made) → EndsBy plan worker before ending left last → AreHalts ending halts → (held : Bool) → keeps_lock place held left ≡ true
+        → OnlyHolder held (entries_in (object_number place) last ++ entries_in (object_number place) halts)
+    last_turns before whole left last halts ends none held keeps = subst (λ (l : List Made). OnlyHolder held (entries_in (object_number place) l ++ entries_in (object_number place) halts)) (sym ends.1) (unhalted halts none held)
+    last_turns before (misused m) [] last halts ends all held keeps = absurd ends
+    last_turns before (misused m) (call ∷ left) last halts spelt all held keeps =
+        call_turns held call last (Done (Err m)) (entries_in (object_number place) halts) (plain_call plan plain worker before call last (Done (Err m)) spelt) (keeps_on place held call left keeps).0 (halts_only (object_number place) m halts all)
+    last_turns before (halted m) [] last halts ends none held keeps = absurd ends
+    last_turns before (halted m) (call ∷ left) last halts spelt none held keeps =
+        call_turns held call last (Halted m) (entries_in (object_number place) halts) (plain_call plan plain worker before call last (Halted m) spelt) (keeps_on place held call left keeps).0 (unhalted halts none)
+    last_turns before unfinished [] last halts ends none held keeps = absurd ends
+    last_turns before unfinished (call ∷ left) last halts (later, answer, spelt) none held keeps =
+        subst (λ (l : List Made). OnlyHolder held (entries_in (object_number place) last ++ entries_in (object_number place) l)) (sym none)
+        (subst (λ (es : List ObjectEntry). OnlyHolder held es) (sym (append-nil (entries_in (object_number place) last)))
+        (only_first held (entries_in (object_number place) last) (entries_in (object_number place) later) (subst (λ (es : List ObjectEntry). OnlyHolder held es) (entries_append (object_number place) last later)
+        (only_first held (entries_in (object_number place) (last ++ later)) [] (call_turns held call (last ++ later) answer [] (plain_call plan plain worker before call (last ++ later) answer spelt) (keeps_on place held call left keeps).0 (behind_nothing answer (next_held place held call)))))))
 
     -- the whole list
     pub line_turns : (line : Line) → IsLineOf plan worker line → keeps_lock place false (script_of line) ≡ true → OnlyHolder false (entries_in (object_number place) (items_of line))
     line_turns line is keeps =
-        subst (λ (es : List ObjectEntry). OnlyHolder false es) (sym (entries_append (object_number place) (flat_map (λ spelt. spelt.items) line.spelt) line.last))
-        (spelt_turns 0 line.spelt line.rest false (entries_in (object_number place) line.last) is.calls keeps (λ h left. last_turns _ line.ending line.rest line.last is.ends h left))
+        let first = flat_map (λ spelt. spelt.items) line.spelt in
+        subst (λ (es : List ObjectEntry). OnlyHolder false es)
+        (sym (entries_append (object_number place) first (line.last ++ line.halts) ∙ ap (λ (es : List ObjectEntry). entries_in (object_number place) first ++ es) (entries_append (object_number place) line.last line.halts)))
+        (spelt_turns 0 line.spelt line.rest false (entries_in (object_number place) line.last ++ entries_in (object_number place) line.halts) is.calls keeps (λ h left. last_turns _ line.ending line.rest line.last line.halts is.ends is.halts h left))

@@ -1,5 +1,5 @@
 -- That a record explains one outcome, where each call is spelt in one way.
-use Rattle.std.proofs.Common.{◌≡◌, ◌≢◌, ℕ, zero, suc, ◌+◌, Bool, true, false, List, [], ◌∷◌, ◌++◌, map, length, get_or, Some, slice_get, refl, sym, ap, ◌∙◌, subst, append_assoc, append-nil, arith}
+use Rattle.std.proofs.Common.{◌≡◌, ◌≢◌, ℕ, zero, suc, ◌+◌, Bool, true, false, List, [], ◌∷◌, ◌++◌, map, length, get_or, Some, slice_get, refl, sym, ap, ◌∙◌, subst, append_assoc, arith}
 use Rattle.std.specs.Prelude.{All, Ok, Err}
 use Rattle.std.specs.List.{flat_map}
 use Rattle.std.proofs.lemmas.Bool.{false≢true}
@@ -44,33 +44,33 @@ calls_in spelt = map (λ call. call.call) spelt
 
 module _ (plan : Plan) (worker : ℕ) where
   -- a list that ends before a call doesn't begin with that call
-  cut_short : (before : ℕ) (o : SpeltCall) (calls left : List Call) (last behind : List Made) (ends : LineEnd) → IsCertain (SpellsCall plan worker before o.call) → left ≡ o.call ∷ calls
-      → SpellsCall plan worker before o.call o.items (Done (Ok o.reply)) → EndsBy plan worker before ends left last → HasEnded ends → last ≡ o.items ++ behind → ⊥
-  cut_short before o calls left last behind ends certain is spells cut ended same = by_end ends (subst (λ (l : List Call). EndsBy plan worker before ends l last) is cut) ended where
+  cut_short : (before : ℕ) (o : SpeltCall) (calls left : List Call) (last halts behind : List Made) (ends : LineEnd) → IsCertain (SpellsCall plan worker before o.call) → left ≡ o.call ∷ calls
+      → SpellsCall plan worker before o.call o.items (Done (Ok o.reply)) → EndsBy plan worker before ends left last → HasEnded ends → last ++ halts ≡ o.items ++ behind → ⊥
+  cut_short before o calls left last halts behind ends certain is spells cut ended same = by_end ends (subst (λ (l : List Call). EndsBy plan worker before ends l last) is cut) ended where
     by_end : (ends : LineEnd) → EndsBy plan worker before ends (o.call ∷ calls) last → HasEnded ends → ⊥
     by_end whole cut ended = absurd (omega (arith, ap (λ (l : List Call). length l) cut.0))
-    by_end (misused misuse) (items, halts, are, spelt, all) ended = false≢true (ap is_reply (certain items o.items halts behind (Done (Err misuse)) (Done (Ok o.reply)) spelt spells (sym are ∙ same)).2)
-    by_end (halted misuse) cut ended = false≢true (ap is_reply (certain last o.items [] behind (Halted misuse) (Done (Ok o.reply)) cut spells (append-nil last ∙ same)).2)
+    by_end (misused misuse) cut ended = false≢true (ap is_reply (certain last o.items halts behind (Done (Err misuse)) (Done (Ok o.reply)) cut spells same).2)
+    by_end (halted misuse) cut ended = false≢true (ap is_reply (certain last o.items halts behind (Halted misuse) (Done (Ok o.reply)) cut spells same).2)
     by_end unfinished cut ended = ended
 
-  one_line : (before : ℕ) (spelt other : List SpeltCall) (left right : List Call) (last more : List Made) (ends given : LineEnd) → AreCertain plan worker (calls_in spelt ++ left)
+  one_line : (before : ℕ) (spelt other : List SpeltCall) (left right : List Call) (last halts more behind : List Made) (ends given : LineEnd) → AreCertain plan worker (calls_in spelt ++ left)
       → calls_in spelt ++ left ≡ calls_in other ++ right → AreSpelt plan worker before spelt → AreSpelt plan worker before other
       → EndsBy plan worker (before + length (shared_in (items_in spelt))) ends left last → EndsBy plan worker (before + length (shared_in (items_in other))) given right more
-      → HasEnded ends → HasEnded given → items_in spelt ++ last ≡ items_in other ++ more → spelt ≡ other
-  one_line before [] [] left right last more ends given certain script a b at_end at_other ended also same = refl
-  one_line before [] (o ∷ other) left right last more ends given certain script a b at_end at_other ended also same =
-      absurd (cut_short before o (calls_in other ++ right) left last (items_in other ++ more) ends
+      → HasEnded ends → HasEnded given → items_in spelt ++ (last ++ halts) ≡ items_in other ++ (more ++ behind) → spelt ≡ other
+  one_line before [] [] left right last halts more behind ends given certain script a b at_end at_other ended also same = refl
+  one_line before [] (o ∷ other) left right last halts more behind ends given certain script a b at_end at_other ended also same =
+      absurd (cut_short before o (calls_in other ++ right) left last halts (items_in other ++ (more ++ behind)) ends
       (certain 0 before o.call (ap (λ (l : List Call). slice_get l 0) script)) script b.0
-      (subst (λ (n : ℕ). EndsBy plan worker n ends left last) (omega arith) at_end) ended (same ∙ append_assoc o.items (items_in other) more))
-  one_line before (s ∷ spelt) [] left right last more ends given certain script a b at_end at_other ended also same =
-      absurd (cut_short before s (calls_in spelt ++ left) right more (items_in spelt ++ last) given
+      (subst (λ (n : ℕ). EndsBy plan worker n ends left last) (omega arith) at_end) ended (same ∙ append_assoc o.items (items_in other) (more ++ behind)))
+  one_line before (s ∷ spelt) [] left right last halts more behind ends given certain script a b at_end at_other ended also same =
+      absurd (cut_short before s (calls_in spelt ++ left) right more behind (items_in spelt ++ (last ++ halts)) given
       (certain 0 before s.call refl) (sym script) a.0
-      (subst (λ (n : ℕ). EndsBy plan worker n given right more) (omega arith) at_other) also (sym same ∙ append_assoc s.items (items_in spelt) last))
-  one_line before (s ∷ spelt) (o ∷ other) left right last more ends given certain script a b at_end at_other ended also same =
+      (subst (λ (n : ℕ). EndsBy plan worker n given right more) (omega arith) at_other) also (sym same ∙ append_assoc s.items (items_in spelt) (last ++ halts)))
+  one_line before (s ∷ spelt) (o ∷ other) left right last halts more behind ends given certain script a b at_end at_other ended also same =
       let call : s.call ≡ o.call = ap (λ (l : List Call). get_or l 0 s.call) script in
-      let start : s.items ++ (items_in spelt ++ last) ≡ o.items ++ (items_in other ++ more) =
-      sym (append_assoc s.items (items_in spelt) last) ∙ (same ∙ append_assoc o.items (items_in other) more) in
-      let one = certain 0 before s.call refl s.items o.items (items_in spelt ++ last) (items_in other ++ more) (Done (Ok s.reply)) (Done (Ok o.reply)) a.0
+      let start : s.items ++ (items_in spelt ++ (last ++ halts)) ≡ o.items ++ (items_in other ++ (more ++ behind)) =
+      sym (append_assoc s.items (items_in spelt) (last ++ halts)) ∙ (same ∙ append_assoc o.items (items_in other) (more ++ behind)) in
+      let one = certain 0 before s.call refl s.items o.items (items_in spelt ++ (last ++ halts)) (items_in other ++ (more ++ behind)) (Done (Ok s.reply)) (Done (Ok o.reply)) a.0
       (subst (λ (c : Call). SpellsCall plan worker before c o.items (Done (Ok o.reply))) (sym call) b.0) start in
       let next = before + length (shared_in s.items) in
       let long : length (shared_in s.items) ≡ length (shared_in o.items) = ap (λ (l : List Made). length (shared_in l)) one.0 in
@@ -78,14 +78,14 @@ module _ (plan : Plan) (worker : ℕ) where
       subst (λ (n : ℕ). EndsBy plan worker n ends left last) (omega (arith, shared_append s.items (items_in spelt))) at_end in
       let other_end : EndsBy plan worker (next + length (shared_in (items_in other))) given right more =
       subst (λ (n : ℕ). EndsBy plan worker n given right more) (omega (arith, shared_append o.items (items_in other), long)) at_other in
-      let later = one_line next spelt other left right last more ends given (λ i n c at. certain (suc i) n c at) (ap (λ (l : List Call). tail_of l) script) a.1
+      let later = one_line next spelt other left right last halts more behind ends given (λ i n c at. certain (suc i) n c at) (ap (λ (l : List Call). tail_of l) script) a.1
       (subst (λ (l : List Made). AreSpelt plan worker (before + length (shared_in l)) other) (sym one.0) b.1) first_end other_end ended also one.1 in
       ap (λ (x : SpeltCall). x ∷ spelt) (same_spelt s o call one.0 (ap (reply_in s.reply) one.2)) ∙ ap (λ (xs : List SpeltCall). o ∷ xs) later
 
   pub same_line : (line other : Line) → AreCertain plan worker (script_of line) → script_of line ≡ script_of other → items_of line ≡ items_of other → IsLineOf plan worker line → IsLineOf plan worker other
       → HasEnded line.ending → HasEnded other.ending → line.spelt ≡ other.spelt
   same_line line other certain script items is also ended given =
-      one_line 0 line.spelt other.spelt line.rest other.rest line.last other.last line.ending other.ending certain script is.calls also.calls
+      one_line 0 line.spelt other.spelt line.rest other.rest line.last line.halts other.last other.halts line.ending other.ending certain script is.calls also.calls
       (subst (λ (n : ℕ). EndsBy plan worker n line.ending line.rest line.last) (omega arith) is.ends) (subst (λ (n : ℕ). EndsBy plan worker n other.ending other.rest other.last) (omega arith) also.ends) ended given items
 
 module _ (plan : Plan) where

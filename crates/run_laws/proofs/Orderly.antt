@@ -143,8 +143,6 @@ module _ (keeps_valid : (s : State) (c : ℕ) (e : MutexEvent) → IsValid s →
 
   pub nobody_misuses : (worker : ℕ) (line : Line) (m : Misuse) → slice_get lines worker ≡ Some line → line.ending ≡ misused m → ⊥
   nobody_misuses worker line m at ending = ended line.rest line.last (subst (λ (e : LineEnd). EndsBy plan worker (length (shared_in (flat_map (λ spelt. spelt.items) line.spelt))) e line.rest line.last) ending (are.each worker line at).ends) (list_at worker line at) where
-    ended : (left : List Call) (last : List Made) → EndsBy plan worker (length (shared_in (flat_map (λ spelt. spelt.items) line.spelt))) (misused m) left last → list_of r worker ≡ flat_map (λ spelt. spelt.items) line.spelt ++ last → ⊥
+    ended : (left : List Call) (last : List Made) → EndsBy plan worker (length (shared_in (flat_map (λ spelt. spelt.items) line.spelt))) (misused m) left last → list_of r worker ≡ flat_map (λ spelt. spelt.items) line.spelt ++ (last ++ line.halts) → ⊥
     ended [] last ends is = ends
-    ended (call ∷ left) last (items, halts, both, spelt, all) is = no_call worker line at call items (flat_map (λ spelt. spelt.items) line.spelt) halts m
-        (is ∙ ap (λ (l : List Made). flat_map (λ spelt. spelt.items) line.spelt ++ l) both)
-        (plain_call plan keeps.plain worker _ call items (Done (Err m)) spelt)
+    ended (call ∷ left) last spelt is = no_call worker line at call last (flat_map (λ spelt. spelt.items) line.spelt) line.halts m is (plain_call plan keeps.plain worker _ call last (Done (Err m)) spelt)

@@ -195,12 +195,12 @@ no_parts plan journals first second none place part object at pool within =
 
 -- a line whose calls were all completed
 abbrev pub whole_line : List SpeltCall → Line
-whole_line spelt = record { spelt = spelt; last = []; rest = []; ending = whole }
+whole_line spelt = record { spelt = spelt; last = []; halts = []; rest = []; ending = whole }
 
 pub are_whole : (plan : Plan) (first second : List SpeltCall) → AreSpelt plan 0 0 first → AreSpelt plan 1 0 second
     → (worker : ℕ) (line : Line) → slice_get (whole_line first ∷ whole_line second ∷ []) worker ≡ Some line → IsLineOf plan worker line
-are_whole plan first second spelt also zero line at = subst (IsLineOf plan 0) (ap (λ (o : Option Line). unwrap_or o line) at) (record { calls = spelt; ends = (refl, refl) })
-are_whole plan first second spelt also (suc zero) line at = subst (IsLineOf plan 1) (ap (λ (o : Option Line). unwrap_or o line) at) (record { calls = also; ends = (refl, refl) })
+are_whole plan first second spelt also zero line at = subst (IsLineOf plan 0) (ap (λ (o : Option Line). unwrap_or o line) at) (record { calls = spelt; ends = (refl, refl); halts = refl })
+are_whole plan first second spelt also (suc zero) line at = subst (IsLineOf plan 1) (ap (λ (o : Option Line). unwrap_or o line) at) (record { calls = also; ends = (refl, refl); halts = refl })
 are_whole plan first second spelt also (suc (suc worker)) line at = absurd (none-some line at)
 
 pub both_ended : (first second : List SpeltCall) → All (λ (line : Line). line.ending ≡ whole) (whole_line first ∷ whole_line second ∷ [])

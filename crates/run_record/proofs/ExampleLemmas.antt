@@ -159,6 +159,7 @@ abbrev line : Line
 line = record {
   spelt = record { call = store_call; items = Shared store_item ∷ []; reply = done } ∷ record { call = load_call; items = Shared load_item ∷ []; reply = held 5 } ∷ [];
   last = [];
+  halts = [];
   rest = [];
   ending = whole;
 }
@@ -167,6 +168,7 @@ is_line : IsLineOf plan 0 line
 is_line = record {
   calls = ((answers.Done, (store_item ∷ [], refl, refl), refl), ((answers.Held (Int64 (pos 5)), (load_item ∷ [], refl, refl), refl), tt));
   ends = (refl, refl);
+  halts = refl;
 }
 
 lines : AreLines plan example (replies_by done (held 5)) (line ∷ [])

@@ -7,6 +7,8 @@ mod ExampleLemmas
 mod FewLemmas
 mod GroupSums
 mod HaltLemmas
+mod HaltedNumbers
+mod HaltsMade
 mod Having
 mod JournalParts
 mod Lifts

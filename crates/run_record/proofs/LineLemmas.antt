@@ -1,7 +1,8 @@
 -- The lines of a record: where halts and refusals stand in them.
-use Rattle.std.proofs.Common.{◌≡◌, ◌⊎◌, inl, inr, ℕ, ◌+◌, List, [], ◌∷◌, ◌++◌, length, get_or, Some, None, slice_get, refl, sym, ap, ◌∙◌, subst}
-use Rattle.std.specs.Prelude.{All, Ok, Err}
+use Rattle.std.proofs.Common.{◌≡◌, ◌⊎◌, inl, inr, ℕ, zero, suc, ◌+◌, ◌==◌, Bool, true, false, cond, List, [], ◌∷◌, ◌++◌, length, get_or, Some, None, slice_get, refl, sym, ap, ◌∙◌, subst, arith, append_assoc}
+use Rattle.std.specs.Prelude.{All, Contains, Ok, Err}
 use Rattle.std.specs.List.{flat_map}
+use Rattle.std.proofs.lemmas.Bool.{eq-eqb}
 use Rattle.std.proofs.lemmas.Option.{none-some, slice_get_within, get_or_from_slice_get, slice_get-get_or}
 use Rattle.sync_model.specs.declared.answer.Answer.TheVariants.{Done, Halted}
 use Rattle.script_calls.specs.declared.call.Call.{Call}
@@ -15,11 +16,13 @@ use Rattle.run_record.specs.declared.entered.ObjectReply.{ObjectReply}
 use Rattle.run_record.specs.declared.made.Made.{Made}
 use Rattle.run_record.specs.declared.made.Made.TheVariants.{Shared, Entered}
 use Rattle.run_record.specs.Explains.{IsRecordOf, AreLines, HasEnded}
-use Rattle.run_record.specs.Lines.{SpeltCall, LineEnd, whole, misused, halted, unfinished, Line, items_of, IsHalt, HaltsStop, AreSpelt, EndsBy, IsLineOf}
-use Rattle.run_record.specs.Record.{Record, ObjectEntry, stop, journal_of, list_of, shared_in}
+use Rattle.run_record.specs.Lines.{SpeltCall, LineEnd, whole, misused, halted, unfinished, Line, items_of, IsHalt, AreHalts, HaltsStop, AreSpelt, EndsBy, IsLineOf}
+use Rattle.run_record.specs.Halts.{entered_on}
+use Rattle.run_record.specs.Record.{Record, ObjectEntry, stop, journal_of, list_of, shared_in, entries_in}
 use Rattle.run_record.proofs.CallLemmas.{AllEndAlike, of_call}
 use Rattle.run_record.proofs.HaltLemmas.{IsHaltBy, misuse_in, halted_has, unhalted_has, refusal_has}
-use Rattle.run_record.proofs.Having.{Has, Each, OfEntry, has_either, has_right, each_both, each_left, place_of, has_by, by_has, has_entered, entered_in, some_object, has_in, get_at}
+use Rattle.run_record.proofs.Having.{Has, Each, OfEntry, has_either, has_left, has_right, each_both, each_left, place_of, has_by, by_has, has_entered, some_object, has_in, get_at}
+use Rattle.run_record.proofs.ListOrder.{entries_both}
 use Rattle.run_record.proofs.PartLemmas.{IsCalmDeed, IsCalm, IsRefusal}
 
 -- the list has a halt by this misuse
@@ -49,25 +52,55 @@ module _ (alike : AllEndAlike) (plan : Plan) (worker : ℕ) where
   spelt_calm before [] are = tt
   spelt_calm before (call ∷ spelt) are = each_both IsCalm call.items (flat_map (λ call. call.items) spelt) (of_call alike plan worker before call.call call.items (Done (Ok call.reply)) are.0).0 (spelt_calm (before + length (shared_in call.items)) spelt are.1)
 
-  -- a halt in the last part is by the misuse in which the list ends
-  last_halt : (m : Misuse) (before : ℕ) (ending : LineEnd) (rest : List Call) (last : List Made) → EndsBy plan worker before ending rest last → HasHalt m last → ending ≡ misused m
-  last_halt m before whole rest last ends has = absurd (subst (HasHalt m) ends.1 has)
-  last_halt m before (misused k) [] last ends has = absurd ends
-  last_halt m before (misused k) (call ∷ rest) last (items, halts, is, spelt, all) has = either (has_either (OfEntry (IsHaltBy m)) items halts (subst (HasHalt m) is has)) where
-    either : HasHalt m items ⊎ HasHalt m halts → misused k ≡ misused m
-    either (inl early) = absurd (calm_not m items (of_call alike plan worker before call items (Done (Err k)) spelt).0 early)
-    either (inr late) = ap misused (halts_by k m halts all late)
-  last_halt m before (halted k) [] last ends has = absurd ends
-  last_halt m before (halted k) (call ∷ rest) last spelt has = absurd (calm_not m last (of_call alike plan worker before call last (Halted k) spelt).0 has)
-  last_halt m before unfinished [] last ends has = absurd ends
-  last_halt m before unfinished (call ∷ rest) last (later, answer, spelt) has = absurd (calm_not m last (each_left IsCalm last later (of_call alike plan worker before call (last ++ later) answer spelt).0) has)
+  -- nothing up to the call that wasn't completed is a halt
+  last_calm : (before : ℕ) (ending : LineEnd) (rest : List Call) (last : List Made) → EndsBy plan worker before ending rest last → Each IsCalm last
+  last_calm before whole rest last ends = subst (Each IsCalm) (sym ends.1) tt
+  last_calm before (misused k) [] last ends = absurd ends
+  last_calm before (misused k) (call ∷ rest) last spelt = (of_call alike plan worker before call last (Done (Err k)) spelt).0
+  last_calm before (halted k) [] last ends = absurd ends
+  last_calm before (halted k) (call ∷ rest) last spelt = (of_call alike plan worker before call last (Halted k) spelt).0
+  last_calm before unfinished [] last ends = absurd ends
+  last_calm before unfinished (call ∷ rest) last (later, answer, spelt) = each_left IsCalm last later (of_call alike plan worker before call (last ++ later) answer spelt).0
+
+  pub before_calm : (line : Line) → IsLineOf plan worker line → Each IsCalm (flat_map (λ spelt. spelt.items) line.spelt ++ line.last)
+  before_calm line is = each_both IsCalm (flat_map (λ spelt. spelt.items) line.spelt) line.last (spelt_calm 0 line.spelt is.calls) (last_calm _ line.ending line.rest line.last is.ends)
+
+  -- a halt behind it is by the misuse in which the list ends
+  behind_halt : (m : Misuse) (ending : LineEnd) (halts : List Made) → AreHalts ending halts → HasHalt m halts → ending ≡ misused m
+  behind_halt m (misused k) halts all has = ap misused (halts_by k m halts all has)
+  behind_halt m whole halts none has = absurd (subst (HasHalt m) none has)
+  behind_halt m (halted k) halts none has = absurd (subst (HasHalt m) none has)
+  behind_halt m unfinished halts none has = absurd (subst (HasHalt m) none has)
 
   -- so is every halt of the list
   line_halt : (m : Misuse) (line : Line) → IsLineOf plan worker line → HasHalt m (items_of line) → line.ending ≡ misused m
-  line_halt m line is has = either (has_either (OfEntry (IsHaltBy m)) (flat_map (λ spelt. spelt.items) line.spelt) line.last has) where
-    either : HasHalt m (flat_map (λ spelt. spelt.items) line.spelt) ⊎ HasHalt m line.last → line.ending ≡ misused m
-    either (inl early) = absurd (calm_not m _ (spelt_calm 0 line.spelt is.calls) early)
-    either (inr late) = last_halt m _ line.ending line.rest line.last is.ends late
+  line_halt m line is has = either (has_either (OfEntry (IsHaltBy m)) (flat_map (λ spelt. spelt.items) line.spelt ++ line.last) line.halts (subst (HasHalt m) (sym (append_assoc (flat_map (λ spelt. spelt.items) line.spelt) line.last line.halts)) has)) where
+    either : HasHalt m (flat_map (λ spelt. spelt.items) line.spelt ++ line.last) ⊎ HasHalt m line.halts → line.ending ≡ misused m
+    either (inl early) = absurd (calm_not m _ (before_calm line is) early)
+    either (inr late) = behind_halt m line.ending line.halts is.halts late
+
+  -- an object that is halted behind a misuse has the halt
+  halt_on : (m : Misuse) (object : ℕ) (halts : List Made) → All (IsHalt m) halts → Contains (entered_on halts) object → Has (IsHaltBy m) (entries_in object halts)
+  halt_on m object [] all on = absurd (omega (arith, on.1))
+  halt_on m object (Shared x ∷ halts) all on = absurd (all 0 (Shared x) (omega arith))
+  halt_on m object (Entered other entry ∷ halts) all on = by_place (halt_on m object halts later) on where
+    later : All (IsHalt m) halts
+    later k d within = all (suc k) d (omega (arith, within))
+
+    either : (b : Bool) → Has (IsHaltBy m) (entries_in object halts) → Has (IsHaltBy m) (cond b (entry ∷ entries_in object halts) (entries_in object halts))
+    either true has = inr has
+    either false has = has
+
+    by_place : (Contains (entered_on halts) object → Has (IsHaltBy m) (entries_in object halts)) → Contains (other ∷ entered_on halts) object → Has (IsHaltBy m) (entries_in object (Entered other entry ∷ halts))
+    by_place rest (zero, within, is) = subst (λ (b : Bool). Has (IsHaltBy m) (cond b (entry ∷ entries_in object halts) (entries_in object halts))) (sym (eq-eqb other object is)) (inl (all 0 (Entered other entry) (omega arith)))
+    by_place rest (suc k, within, is) = either (other == object) (rest (k, omega (arith, within), is))
+
+  line_halts : (m : Misuse) (object : ℕ) (line : Line) → IsLineOf plan worker line → line.ending ≡ misused m → Contains (entered_on line.halts) object → Has (IsHaltBy m) (entries_in object (items_of line))
+  line_halts m object line is ending on =
+      let first = flat_map (λ spelt. spelt.items) line.spelt in
+      subst (λ (es : List ObjectEntry). Has (IsHaltBy m) es) (sym (entries_both object first (line.last ++ line.halts) ∙ ap (λ (es : List ObjectEntry). entries_in object first ++ es) (entries_both object line.last line.halts)))
+      (has_right (IsHaltBy m) (entries_in object first) (entries_in object line.last ++ entries_in object line.halts) (has_right (IsHaltBy m) (entries_in object line.last) (entries_in object line.halts)
+      (halt_on m object line.halts (subst (λ (e : LineEnd). AreHalts e line.halts) ending is.halts) on)))
 
   -- a list that ends in a call that was halted has a refusal
   last_refusal : (m : Misuse) (before : ℕ) (rest : List Call) (last : List Made) → EndsBy plan worker before (halted m) rest last → Has (OfEntry (IsRefusal m)) last
@@ -77,8 +110,8 @@ module _ (alike : AllEndAlike) (plan : Plan) (worker : ℕ) where
   line_refusal : (m : Misuse) (line : Line) → IsLineOf plan worker line → line.ending ≡ halted m → Has (OfEntry (IsRefusal m)) (items_of line)
   line_refusal m line is ending =
       let before = length (shared_in (flat_map (λ spelt. spelt.items) line.spelt)) in
-      has_right (OfEntry (IsRefusal m)) (flat_map (λ spelt. spelt.items) line.spelt) line.last
-      (last_refusal m before line.rest line.last (subst (λ (e : LineEnd). EndsBy plan worker before e line.rest line.last) ending is.ends))
+      has_right (OfEntry (IsRefusal m)) (flat_map (λ spelt. spelt.items) line.spelt) (line.last ++ line.halts)
+      (has_left (OfEntry (IsRefusal m)) line.last line.halts (last_refusal m before line.rest line.last (subst (λ (e : LineEnd). EndsBy plan worker before e line.rest line.last) ending is.ends)))
 
 -- the line of a worker, which ended in this misuse
 abbrev pub MetMisuse : List Line → ℕ → Misuse → Type 0
@@ -121,10 +154,9 @@ module _ (alike : AllEndAlike) (plan : Plan) (r : Record) (outcome : Outcome) (l
     -- nobody met a misuse, where Stop isn't halted
     unmet : (worker : ℕ) (m : Misuse) → MetMisuse lines worker m → ⊥
     unmet worker m (line, at, ending) =
-        let halt = stopped worker line at m ending in
-        let listed : slice_get (list_of r worker) halt.0 ≡ Some (Entered stop halt.1) = ap (λ (xs : List Made). slice_get xs halt.0) (list_at worker line at) ∙ halt.2 in
+        let listed = line_halts alike plan worker m stop line (are.each worker line at) ending (stopped worker line at m ending) in
         unhalted_has m None (journal_of r stop) none (has_by (IsHaltBy m) worker (journal_of r stop)
-        (subst (λ (es : List ObjectEntry). Has (IsHaltBy m) es) (lawful.once worker stop) (entered_in (IsHaltBy m) stop (list_of r worker) halt.0 halt.1 listed halt.3)))
+        (subst (λ (es : List ObjectEntry). Has (IsHaltBy m) es) (ap (λ (xs : List Made). entries_in stop xs) (sym (list_at worker line at)) ∙ lawful.once worker stop) listed))
 
     ended_whole : (worker : ℕ) (line : Line) (ending : LineEnd) → slice_get lines worker ≡ Some line → line.ending ≡ ending → HasEnded ending → ending ≡ whole
     ended_whole worker line whole at is ended = refl

@@ -7,7 +7,7 @@ use Rattle.run_record.specs.declared.made.Made.TheVariants.{Shared, Entered}
 use Rattle.run_record.specs.Record.{ObjectEntry, entries_in}
 
 module _ (object : ℕ) where
-  entries_both : (xs ys : List Made) → entries_in object (xs ++ ys) ≡ entries_in object xs ++ entries_in object ys
+  pub entries_both : (xs ys : List Made) → entries_in object (xs ++ ys) ≡ entries_in object xs ++ entries_in object ys
   entries_both [] ys = refl
   entries_both (Shared x ∷ xs) ys = entries_both xs ys
   entries_both (Entered other entry ∷ xs) ys = chosen (other == object) (entries_both xs ys) where

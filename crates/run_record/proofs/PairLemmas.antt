@@ -24,7 +24,7 @@ use Rattle.run_record.specs.declared.made.Made.TheVariants.{Shared, Entered}
 use Rattle.run_record.specs.Calls.{SpellsCall}
 use Rattle.run_record.specs.Explains.{AreLines}
 use Rattle.run_record.specs.Limits.{HasShown}
-use Rattle.run_record.specs.Lines.{SpeltCall, LineEnd, whole, misused, halted, unfinished, Line, script_of, items_of, replies_of, IsHalt, AreSpelt, EndsBy, IsLineOf}
+use Rattle.run_record.specs.Lines.{SpeltCall, LineEnd, whole, misused, halted, unfinished, Line, script_of, items_of, replies_of, IsHalt, AreHalts, AreSpelt, EndsBy, IsLineOf}
 use Rattle.run_record.specs.MapKind.{cursor_showing}
 use Rattle.run_record.specs.Parts.{Places}
 use Rattle.run_record.specs.Record.{Record, list_of, shared_in, calls_of}
@@ -77,19 +77,27 @@ module _ (plan : Plan) (worker : ℕ) where
   halts_known : (misuse : Misuse) (halts : List Made) → All (IsHalt misuse) halts → Each Known halts
   halts_known misuse halts all = each_from Known halts (λ i x at. halt_known misuse x (item_of (IsHalt misuse) halts i x all at))
 
+  behind_known : (ending : LineEnd) (halts : List Made) → AreHalts ending halts → Each Known halts
+  behind_known (misused misuse) halts all = halts_known misuse halts all
+  behind_known whole halts none = subst (Each Known) (sym none) tt
+  behind_known (halted misuse) halts none = subst (Each Known) (sym none) tt
+  behind_known unfinished halts none = subst (Each Known) (sym none) tt
+
   last_known : (before : ℕ) (ending : LineEnd) (rest : List Call) (last : List Made) → Each (IsNamed plan) rest → EndsBy plan worker before ending rest last → Each Known last
   last_known before whole rest last named ends = subst (Each Known) (sym ends.1) tt
   last_known before (misused misuse) [] last named ends = absurd ends
-  last_known before (misused misuse) (call ∷ rest) last named (items, halts, is, spelt, all) = subst (Each Known) (sym is) (each_both Known items halts (known_call before call items (Done (Err misuse)) named.0 spelt) (halts_known misuse halts all))
+  last_known before (misused misuse) (call ∷ rest) last named spelt = known_call before call last (Done (Err misuse)) named.0 spelt
   last_known before (halted misuse) [] last named ends = absurd ends
   last_known before (halted misuse) (call ∷ rest) last named spelt = known_call before call last (Halted misuse) named.0 spelt
   last_known before unfinished [] last named ends = absurd ends
   last_known before unfinished (call ∷ rest) last named (later, answer, spelt) = each_left Known last later (known_call before call (last ++ later) answer named.0 spelt)
 
   line_known : (line : Line) → IsLineOf plan worker line → Each (IsNamed plan) (script_of line) → Each Known (items_of line)
-  line_known line is named = each_both Known (flat_map (λ s. s.items) line.spelt) line.last
+  line_known line is named = each_both Known (flat_map (λ s. s.items) line.spelt) (line.last ++ line.halts)
       (spelt_known 0 line.spelt (each_left (IsNamed plan) (map (λ s. s.call) line.spelt) line.rest named) is.calls)
+      (each_both Known line.last line.halts
       (last_known (length (shared_in (flat_map (λ s. s.items) line.spelt))) line.ending line.rest line.last (each_right (IsNamed plan) (map (λ s. s.call) line.spelt) line.rest named) is.ends)
+      (behind_known line.ending line.halts is.halts))
 
   shared_known : (list : List Made) → Each Known list → Each (λ x. KnowsKey plan x.call) (shared_in list)
   shared_known [] each = tt
@@ -141,7 +149,7 @@ module _ (plan : Plan) (r : Record) (outcome : Outcome) (lines : List Line) (are
 
   module _ (most : ℕ) (few : (worker : ℕ) (shown : List (ℕ × ℕ)) → HasShown (calls_of r worker) shown → length shown ≤ most) where
     line_few : (worker : ℕ) (line : Line) → slice_get lines worker ≡ Some line → list_all (has_pairs_to most) (replies_of line) ≡ true
-    line_few worker line at = spelt_few plan worker most (calls_of r worker) (few worker) [] line.spelt line.last (ap (λ (l : List Made). shared_in l) (line_list worker line at)) 0 refl (are.each worker line at).calls
+    line_few worker line at = spelt_few plan worker most (calls_of r worker) (few worker) [] line.spelt (line.last ++ line.halts) (ap (λ (l : List Made). shared_in l) (line_list worker line at)) 0 refl (are.each worker line at).calls
 
     lines_few : (all : List Line) → ((worker : ℕ) (line : Line) → slice_get all worker ≡ Some line → list_all (has_pairs_to most) (replies_of line) ≡ true) → list_all (list_all (has_pairs_to most)) (map replies_of all) ≡ true
     lines_few [] each = refl

@@ -20,7 +20,7 @@ use Rattle.run_record.specs.declared.made.Made.TheVariants.{Shared}
 use Rattle.run_record.specs.Calls.{SpellsCall}
 use Rattle.run_record.specs.Example.{plan, store_call, load_call, replies_by}
 use Rattle.run_record.specs.Explains.{Explains}
-use Rattle.run_record.specs.Lines.{SpeltCall, LineEnd, whole, Line, script_of, items_of, replies_of, AreSpelt, EndsBy, IsLineOf}
+use Rattle.run_record.specs.Lines.{SpeltCall, LineEnd, whole, Line, script_of, items_of, replies_of, AreHalts, AreSpelt, EndsBy, IsLineOf}
 use Rattle.run_record.specs.Parts.{Places}
 use Rattle.run_record.specs.Record.{Record, calls_of, shared_in}
 
@@ -108,11 +108,13 @@ module _ (first second : Reply ℕ) (r : Record) (explains : Explains plan (repl
       let ended : line.0.ending ≡ whole = subst (λ (ls : List Line). (get_or ls 0 line.0).ending ≡ whole) line.1 (explains.agrees.0 0 line.0 (subst (λ (n : ℕ). 0 < n) (sym (ap (λ (ls : List Line). length ls) line.1)) (omega arith))) in
       let before = length (shared_in (flat_map (λ call. call.items) line.0.spelt)) in
       let none : line.0.last ≡ [] = (subst (λ (e : LineEnd). EndsBy plan 0 before e line.0.rest line.0.last) ended is_line.ends).1 in
+      let unhalted : line.0.halts ≡ [] = subst (λ (e : LineEnd). AreHalts e line.0.halts) ended is_line.halts in
       let items : items_of line.0 ≡ Shared x.0 ∷ Shared y.0 ∷ [] =
-      ap (λ (ls : List SpeltCall). flat_map (λ call. call.items) ls ++ line.0.last) spelt.2
-      ∙ (ap (λ (xs : List Made). (xs ++ (spelt.1.items ++ [])) ++ line.0.last) x.1
-      ∙ (ap (λ (xs : List Made). (Shared x.0 ∷ (xs ++ [])) ++ line.0.last) y.1
-      ∙ ap (λ (xs : List Made). Shared x.0 ∷ Shared y.0 ∷ xs) none)) in
+      ap (λ (ls : List SpeltCall). flat_map (λ call. call.items) ls ++ (line.0.last ++ line.0.halts)) spelt.2
+      ∙ (ap (λ (xs : List Made). (xs ++ (spelt.1.items ++ [])) ++ (line.0.last ++ line.0.halts)) x.1
+      ∙ (ap (λ (xs : List Made). (Shared x.0 ∷ (xs ++ [])) ++ (line.0.last ++ line.0.halts)) y.1
+      ∙ (ap (λ (xs : List Made). Shared x.0 ∷ Shared y.0 ∷ (xs ++ line.0.halts)) none
+      ∙ ap (λ (xs : List Made). Shared x.0 ∷ Shared y.0 ∷ xs) unhalted))) in
       let lists : r.lists ≡ items_of line.0 ∷ [] = sym explains.are.lists ∙ ap (map items_of) line.1 in
       record {
         store = x.0;

@@ -5,6 +5,7 @@ pub mod Edges
 pub mod Example
 pub mod Exclusion
 pub mod Explains
+pub mod Halts
 pub mod Journals
 pub mod Limits
 pub mod Lines

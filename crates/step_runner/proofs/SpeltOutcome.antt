@@ -102,8 +102,8 @@ module _ (plan : Plan) (made : List Item) (s : State) (of : IsStateOf plan s) (p
     λ worker line at.
         let same : (worker : ℕ) → length (get_or (left_by outcome).replies worker []) ≡ length (get_or s.replies worker []) = λ worker.
         ap (λ (all : List (List (Reply ℕ))). length (get_or all worker [])) replies ∙ ap (length {A = Reply ℕ}) (get_mapped (map (recorded_reply plan)) s.replies worker refl) ∙ length-map (get_or s.replies worker []) (recorded_reply plan) in
-        subst (λ (l : Line). l.ending ≡ ending_of plan worker (get_or (left_by outcome).replies worker []) (met worker)) (ap line_of (sym (from_zero worker)) ∙ range-get line_of 0 plan.workers worker line at)
-        ((falls worker).ends ∙ ap (λ (n : ℕ). ending_by (slice_get (get_or plan.scripts worker []) n) (met worker)) (sym (same worker))),
+        subst (λ (l : Line). (l.ending ≡ ending_of plan worker (get_or (left_by outcome).replies worker []) (met worker)) × (l.halts ≡ [])) (ap line_of (sym (from_zero worker)) ∙ range-get line_of 0 plan.workers worker line at)
+        ((falls worker).ends ∙ ap (λ (n : ℕ). ending_by (slice_get (get_or plan.scripts worker []) n) (met worker)) (sym (same worker)), (falls worker).halts),
   )
 
 -- ---- at the end

@@ -114,6 +114,10 @@ count_spelt : (plan : Plan) (worker : ℕ) (made : Trace) (s : State) (h : SoFar
 count_spelt plan worker made s h =
     sym (length-map (get_or s.replies worker []) (recorded_reply plan)) ∙ ap (length {A = Reply ℕ}) (sym h.replies) ∙ length-map h.spelt (λ (x : SpeltCall). x.reply)
 
+-- a list without halts
+unhalted : (spelt last : List Made) → spelt ++ (last ++ []) ≡ spelt ++ last
+unhalted spelt last = ap (λ (l : List Made). spelt ++ l) (append-nil last)
+
 -- as a line, at this moment
 ends_line : Spells → (plan : Plan) (worker : ℕ) (made : Trace) (s : State) → IsStateOf plan s → SoFar plan worker made s → FallsAs plan worker made (get_or s.replies worker []) None
 ends_line laws plan worker made s of h = by_next (next_call plan worker s) refl
@@ -122,28 +126,30 @@ ends_line laws plan worker made s of h = by_next (next_call plan worker s) refl
     by_next None none =
         let stands = subst (λ (o : Option Call). Stands plan worker (count_in (items_in h.spelt)) h.last o s.objects) none h.stands in
         record {
-          line = record { spelt = h.spelt; last = h.last; rest = h.rest; ending = whole };
+          line = record { spelt = h.spelt; last = h.last; halts = []; rest = h.rest; ending = whole };
           script = h.script;
-          items = h.items;
+          items = unhalted (items_in h.spelt) h.last ∙ h.items;
           replies = h.replies;
           turns = h.turns.each;
           behind = h.turns.current;
           ends = sym (ap (λ (o : Option Call). ending_by o None) none);
-          is = record { calls = h.are; ends = (none_first h.rest (sym (next_left plan worker made s h) ∙ none), stands.0) };
+          is = record { calls = h.are; ends = (none_first h.rest (sym (next_left plan worker made s h) ∙ none), stands.0); halts = refl };
+          halts = refl;
         }
     by_next (Some call) some =
         let stands = subst (λ (o : Option Call). Stands plan worker (count_in (items_in h.spelt)) h.last o s.objects) some h.stands in
         let split = split_first h.rest call (sym (next_left plan worker made s h) ∙ some) in
         let can = laws.goes_on plan worker (count_in (items_in h.spelt) + count_in h.last) call s.objects (ready plan worker s call of some) in
         record {
-          line = record { spelt = h.spelt; last = h.last; rest = call ∷ split.0; ending = unfinished };
+          line = record { spelt = h.spelt; last = h.last; halts = []; rest = call ∷ split.0; ending = unfinished };
           script = ap (λ (l : List Call). map (λ (x : SpeltCall). x.call) h.spelt ++ l) (sym split.1) ∙ h.script;
-          items = h.items;
+          items = unhalted (items_in h.spelt) h.last ∙ h.items;
           replies = h.replies;
           turns = h.turns.each;
           behind = h.turns.current;
           ends = sym (ap (λ (o : Option Call). ending_by o None) some);
-          is = record { calls = h.are; ends = (can.0, can.1, stands.1 can.0 can.1 can.2) };
+          is = record { calls = h.are; ends = (can.0, can.1, stands.1 can.0 can.1 can.2); halts = refl };
+          halts = refl;
         }
 
 -- no halts
@@ -368,14 +374,15 @@ module _ (laws : Spells) (stand_laws : TurnStands) (uses : TurnsUse) (plan : Pla
       own_misused objects misuse takes =
           let spells = own_stands.1 turn_made (Done (Err misuse)) (told objects (answers.Misused misuse) takes).0 in
           record {
-            line = record { spelt = h.spelt; last = h.last ++ turn_made; rest = call ∷ rest_is.0; ending = misused misuse };
+            line = record { spelt = h.spelt; last = h.last ++ turn_made; halts = []; rest = call ∷ rest_is.0; ending = misused misuse };
             script = ap (λ (l : List Call). map (λ (x : SpeltCall). x.call) h.spelt ++ l) (sym rest_is.1) ∙ h.script;
-            items = sym list_is;
+            items = unhalted (items_in h.spelt) (h.last ++ turn_made) ∙ sym list_is;
             replies = h.replies;
             turns = own_turns.each;
             behind = own_turns.current;
             ends = refl;
-            is = record { calls = h.are; ends = (h.last ++ turn_made, [], sym (append-nil (h.last ++ turn_made)), spells, no_halts misuse) };
+            is = record { calls = h.are; ends = spells; halts = no_halts misuse };
+            halts = refl;
           }
 
     -- one whose script has ended makes nothing

@@ -68,9 +68,9 @@ ending_by (Some call) None = unfinished
 abbrev pub ending_of : {K : Type 0} → Plan → ℕ → List (Reply K) → Option Misuse → LineEnd
 ending_of plan worker given met = ending_by (slice_get (get_or plan.scripts worker []) (length given)) met
 
--- each line of an outcome ends so, by the worker's replies and the misuse that it met
+-- each line of an outcome ends so, by the worker's replies and the misuse that it met, and halts nothing
 abbrev pub EndAs : Plan → Outcome → (ℕ → Option Misuse) → List Line → Type 0
-EndAs plan outcome met lines = (worker : ℕ) (line : Line) → slice_get lines worker ≡ Some line → line.ending ≡ ending_of plan worker (get_or (left_by outcome).replies worker []) (met worker)
+EndAs plan outcome met lines = (worker : ℕ) (line : Line) → slice_get lines worker ≡ Some line → (line.ending ≡ ending_of plan worker (get_or (left_by outcome).replies worker []) (met worker)) × (line.halts ≡ [])
 
 -- a worker's items fall into the calls of its script: those that were completed, each spelt by its items, with these replies, and behind them at most one more. The items of
 -- each call are those that its own turns made
@@ -83,3 +83,4 @@ pub record Falls (plan : Plan) (worker : ℕ) (made : List Item) (made_for_call 
   pub turns : (number : ℕ) (one : SpeltCall) → slice_get line.spelt number ≡ Some one → one.items ≡ recorded plan (count_before number line.spelt) (made_for_call number)
   pub behind : line.last ≡ recorded plan (length (shared_in (flat_map (λ one. one.items) line.spelt))) (made_for_call (length line.spelt))
   pub ends : line.ending ≡ ending_of plan worker given met
+  pub halts : line.halts ≡ []  -- a misuse ends the run at once

@@ -17,6 +17,7 @@ use Rattle.workload.specs.declared.object.ObjectLine.{ObjectLine}
 use Rattle.workload.specs.Plan.{Plan}
 use Rattle.run_record.specs.declared.made.Made.{Made}
 use Rattle.run_record.specs.declared.made.Made.TheVariants.{Shared, Entered}
+use Rattle.run_record.specs.Halts.{halted_at, halted_from, halted_with_stop, entered_on}
 use Rattle.run_record.specs.Lines.{IsHalt}
 use Rattle.run_record.specs.Objects.{first_part, is_pool}
 use Rattle.run_record.specs.Record.{ObjectEntry, stop, object_number}
@@ -27,7 +28,7 @@ use Rattle.thread_objects.specs.AsDeclared.{IsDeclared}
 use Rattle.thread_objects.specs.HaltOne.{Halts}
 use Rattle.thread_objects.specs.Halting.{AreHalted}
 use Rattle.thread_objects.specs.Kinds.{HasWord, IsStop}
-use Rattle.thread_runner.specs.Halting.{halted_one, halted_at, halted_from, halted_with_stop, entered_on, halting, HaltsAll}
+use Rattle.thread_runner.specs.Halting.{halted_one, halting, HaltsAll}
 use Rattle.thread_objects.specs.Laws.{Stays, Joins, Counts}
 use Rattle.thread_runner.proofs.Working.{rests}
 
@@ -47,17 +48,6 @@ halts_on joined misuse numbers more old between new first later = record {
   moves = joined old between new first.items later.items first.moves later.moves;
   spelt = (halts_append misuse first.items later.items first.spelt.0 later.spelt.0, entered_append first.items later.items ∙ ap (λ (l : List ℕ). l ++ entered_on later.items) first.spelt.1 ∙ ap (λ (l : List ℕ). numbers ++ l) later.spelt.1, refl);
 }
-
-none_more : (numbers : List ℕ) → [] ≡ stop ∷ numbers → ⊥
-none_more numbers is = absurd cc
-
--- the first halt is on the object that is named first
-first_halted : (misuse : Misuse) (items : List Made) (numbers : List ℕ) → AllByRecursion (IsHalt misuse) items → entered_on items ≡ stop ∷ numbers → (entry : ObjectEntry) × (slice_get items 0 ≡ Some (Entered stop entry)) × (entry.deed ≡ Halt misuse)
-first_halted misuse [] numbers halts is = absurd (none_more numbers is)
-first_halted misuse (Shared x ∷ items) numbers halts is = absurd halts.0
-first_halted misuse (Entered object entry ∷ items) numbers halts is =
-    let first : object ≡ stop = cc in
-    (entry, ap (λ (n : ℕ). Some (Entered n entry)) first, halts.0)
 
 -- the same objects, by numbers of another form
 pub halts_as : (misuse : Misuse) (numbers others : List ℕ) (old new : Desk) → numbers ≡ others → Works (halting misuse numbers) old (Done (Ok tt)) new → Works (halting misuse others) old (Done (Ok tt)) new
@@ -93,7 +83,6 @@ module _ (plan : Plan) where
         moves = works.moves;
         halts = All-from_recursion (IsHalt misuse) works.items works.spelt.0;
         order = works.spelt.1;
-        stops = first_halted misuse works.items (halted_from plan 0 plan.objects) works.spelt.0 works.spelt.1;
       }
 
   -- the parts of a pool are what is halted for it

@@ -1,5 +1,6 @@
 -- From what each worker did, the objects' journals and the shared history to the record of the run.
 use Rattle.std.proofs.Common.{◌≡◌, ℕ, ◌+◌, ◌<◌, ◌≤◌, List, [], ◌++◌, length, get_or, take, map, Some, None, ◌⊎◌, inl, inr, slice_get, slice_index, All, refl, sym, ap, ◌∙◌, subst, arith}
+use Rattle.std.specs.Prelude.{Contains}
 use Rattle.std.proofs.lemmas.Option.{slice_get_cases, slice_get-get_or, none-some}
 use Rattle.script_calls.specs.declared.call.Reply.{Reply}
 use Rattle.sync_model.specs.declared.item.Item.{Item}
@@ -13,9 +14,9 @@ use Rattle.sync_model.specs.SharedHistory.{Contents}
 use Rattle.workload.specs.Plan.{Plan}
 use Rattle.run_record.specs.declared.made.Made.{Made}
 use Rattle.run_record.specs.Explains.{AreLines, IsRecordOf, HasEnded}
-use Rattle.run_record.specs.Lines.{Line, script_of, items_of, replies_of, HaltsStop}
+use Rattle.run_record.specs.Lines.{Line, script_of, items_of, replies_of, HaltsStop, HaltsEach, halted_by}
 use Rattle.run_record.specs.Objects.{contents_of}
-use Rattle.run_record.specs.Record.{Record, ObjectEntry, journal_of, list_of, shared_in, entries_in, calls_of, front_of}
+use Rattle.run_record.specs.Record.{Record, ObjectEntry, stop, journal_of, list_of, shared_in, entries_in, calls_of, front_of}
 use Rattle.thread_objects.specs.Working.{Desk, Moves}
 use Rattle.thread_runner.specs.DidLines.{DidLine, IsFresh}
 use Rattle.thread_objects.specs.Rows.{AreJournals}
@@ -146,5 +147,9 @@ module _ (plan : Plan) (history : List SharedEntry) (journals : List (List Objec
   pub have_ended : All (λ line. HasEnded line.ending) lines
   have_ended worker d within = (all.did worker (get_or lines worker d) (slice_get-get_or lines worker d within)).ended
 
+  pub halt_each : (worker : ℕ) (line : Line) → slice_get lines worker ≡ Some line → HaltsEach plan line
+  halt_each worker line at = (all.did worker line at).halts
+
+  -- Stop is the first
   pub halt_stop : (worker : ℕ) (line : Line) → slice_get lines worker ≡ Some line → HaltsStop line
-  halt_stop worker line at = (all.did worker line at).stops
+  halt_stop worker line at misuse is = subst (λ (numbers : List ℕ). Contains numbers stop) (sym (halt_each worker line at ∙ ap (halted_by plan) is)) (0, omega arith, refl)

@@ -7,14 +7,13 @@ use Rattle.sync_model.specs.declared.answer.Answer.TheVariants.{Done, Halted}
 use Rattle.script_calls.specs.declared.call.Call.{Call}
 use Rattle.script_calls.specs.declared.call.Reply.{Reply}
 use Rattle.sync_model.specs.declared.item.Item.{Item}
-use Rattle.sync_model.specs.declared.journal.Deed.TheVariants.{Halt}
 use Rattle.sync_types.specs.declared.misuse.Misuse.{Misuse}
 use Rattle.workload.specs.Plan.{Plan}
 use Rattle.run_record.specs.declared.made.Made.{Made}
-use Rattle.run_record.specs.declared.made.Made.TheVariants.{Entered}
 use Rattle.run_record.specs.Calls.{SpellsCall}
-use Rattle.run_record.specs.Lines.{Line, LineEnd, SpeltCall, whole, misused, halted, unfinished, AreSpelt, IsHalt}
-use Rattle.run_record.specs.Record.{ObjectEntry, stop, shared_in}
+use Rattle.run_record.specs.Halts.{entered_on, halted_numbers}
+use Rattle.run_record.specs.Lines.{Line, SpeltCall, whole, misused, halted, AreSpelt, IsHalt}
+use Rattle.run_record.specs.Record.{shared_in}
 use Rattle.thread_objects.specs.Working.{Desk, Moves, Works}
 use Rattle.thread_runner.specs.DidLines.{DidLine, Went}
 use Rattle.thread_runner.proofs.ItemLists.{first_is}
@@ -55,30 +54,6 @@ took j xs x found =
       more zero (y ∷ xs) found = ap (λ (z : Call). z ∷ []) (first_is y x xs found)
       more (suc j) (y ∷ xs) found = ap (λ (l : List Call). y ∷ l) (more j xs found)
 
-first_behind : (xs ys : List Made) (y : Made) → slice_get ys 0 ≡ Some y → slice_get (xs ++ ys) (length xs) ≡ Some y
-first_behind [] ys y at = at
-first_behind (x ∷ xs) ys y at = first_behind xs ys y at
-
-same_misuse : (m n : Misuse) → misused m ≡ misused n → m ≡ n
-same_misuse m n is = ap read is where
-  read : LineEnd → Misuse
-  read (misused k) = k
-  read whole = m
-  read (halted k) = m
-  read unfinished = m
-
-abbrev is_misused : LineEnd → Type 0
-is_misused (misused k) = Unit {0}
-is_misused whole = ⊥
-is_misused (halted k) = ⊥
-is_misused unfinished = ⊥
-
-not_misused : (m n : Misuse) → halted m ≡ misused n → ⊥
-not_misused m n is = subst is_misused (sym is) tt
-
-not_whole : (n : Misuse) → whole ≡ misused n → ⊥
-not_whole n is = subst is_misused (sym is) tt
-
 module _ (plan : Plan) (worker : ℕ) (script : List Call) (old : Desk) (none : old.calls ≡ []) where
   abbrev DidLineOf : List Call → List (Reply ℕ) → Desk → Desk → Type 0
   DidLineOf calls replies from to = (line : Line) × DidLine plan worker calls replies from to line
@@ -114,46 +89,44 @@ module _ (plan : Plan) (worker : ℕ) (script : List Call) (old : Desk) (none : 
         }
 
     -- a call that is a misuse, and the halts by it
-    pub ends_misused : (misuse : Misuse) (items halts : List Made) (stopped : ObjectEntry) (last : Desk) → SpellsCall plan worker (length now.calls) call items (Done (Err misuse)) → Moves now items new → Moves new halts last
-        → All (IsHalt misuse) halts → slice_get halts 0 ≡ Some (Entered stop stopped) → stopped.deed ≡ Halt misuse → DidLineOf script replies old last
-    ends_misused misuse items halts stopped last spelt first second are first_is deed = (
-      record { spelt = went.spelt; last = items ++ halts; rest = call ∷ drop (suc i) script; ending = misused misuse },
+    pub ends_misused : (misuse : Misuse) (items halts : List Made) (last : Desk) → SpellsCall plan worker (length now.calls) call items (Done (Err misuse)) → Moves now items new → Moves new halts last
+        → All (IsHalt misuse) halts → entered_on halts ≡ halted_numbers plan → DidLineOf script replies old last
+    ends_misused misuse items halts last spelt first second are order = (
+      record { spelt = went.spelt; last = items; halts = halts; rest = call ∷ drop (suc i) script; ending = misused misuse },
       record {
-        is = record { calls = went.are; ends = (items, halts, refl, spelt_here items (Done (Err misuse)) spelt, are) };
+        is = record { calls = went.are; ends = spelt_here items (Done (Err misuse)) spelt; halts = are };
         calls = ap (λ (l : List Call). l ++ call ∷ drop (suc i) script) went.calls ∙ sym rest;
         answers = went.answers;
         ended = tt;
-        stops = λ met is. (length (items_in went.spelt ++ items), stopped, halt_at, deed ∙ ap (λ m. Halt m) (same_misuse misuse met is));
+        halts = order;
         moves = subst (λ (l : List Made). Moves old l last) (append_assoc (items_in went.spelt) items halts) (joins old new last (items_in went.spelt ++ items) halts (all_moves items first) second);
       },
-    ) where
-      halt_at : slice_get (items_in went.spelt ++ (items ++ halts)) (length (items_in went.spelt ++ items)) ≡ Some (Entered stop stopped)
-      halt_at = ap (λ (l : List Made). slice_get l (length (items_in went.spelt ++ items))) (sym (append_assoc (items_in went.spelt) items halts)) ∙ first_behind (items_in went.spelt ++ items) halts (Entered stop stopped) first_is
+    )
 
     -- a call that met a halt
     pub ends_halted : (misuse : Misuse) → Works (SpellsCall plan worker (length now.calls) call) now (Halted misuse) new → DidLineOf script replies old new
     ends_halted misuse works = (
-      record { spelt = went.spelt; last = works.items; rest = call ∷ drop (suc i) script; ending = halted misuse },
+      record { spelt = went.spelt; last = works.items; halts = []; rest = call ∷ drop (suc i) script; ending = halted misuse },
       record {
-        is = record { calls = went.are; ends = spelt_here works.items (Halted misuse) works.spelt };
+        is = record { calls = went.are; ends = spelt_here works.items (Halted misuse) works.spelt; halts = refl };
         calls = ap (λ (l : List Call). l ++ call ∷ drop (suc i) script) went.calls ∙ sym rest;
         answers = went.answers;
         ended = tt;
-        stops = λ met is. absurd (not_misused misuse met is);
-        moves = all_moves works.items works.moves;
+        halts = refl;
+        moves = subst (λ (l : List Made). Moves old (items_in went.spelt ++ l) new) (sym (append-nil works.items)) (all_moves works.items works.moves);
       },
     )
 
   -- the end of the script
   pub ends_whole : (replies : List (Reply ℕ)) (now : Desk) → Went plan worker script (length script) replies old now → DidLineOf script replies old now
   ends_whole replies now went = (
-    record { spelt = went.spelt; last = []; rest = []; ending = whole },
+    record { spelt = went.spelt; last = []; halts = []; rest = []; ending = whole },
     record {
-      is = record { calls = went.are; ends = (refl, refl) };
+      is = record { calls = went.are; ends = (refl, refl); halts = refl };
       calls = append-nil (map (λ s. s.call) went.spelt) ∙ went.calls ∙ take_all (length script) script (omega arith);
       answers = went.answers;
       ended = tt;
-      stops = λ met is. absurd (not_whole met is);
+      halts = refl;
       moves = subst (λ (l : List Made). Moves old l now) (sym (append-nil (items_in went.spelt))) went.moves;
     },
   )

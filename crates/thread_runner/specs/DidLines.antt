@@ -5,16 +5,16 @@ use Rattle.script_calls.specs.declared.call.Call.{Call}
 use Rattle.script_calls.specs.declared.call.Reply.{Reply}
 use Rattle.workload.specs.Plan.{Plan}
 use Rattle.run_record.specs.Explains.{HasEnded}
-use Rattle.run_record.specs.Lines.{Line, SpeltCall, script_of, items_of, replies_of, HaltsStop, AreSpelt, IsLineOf}
+use Rattle.run_record.specs.Lines.{Line, SpeltCall, script_of, items_of, replies_of, HaltsEach, AreSpelt, IsLineOf}
 use Rattle.thread_objects.specs.Working.{Desk, Moves}
 
--- the line is what the worker did, who has ended: it is the record's line of the worker's script, the replies are those of the calls that were completed, and its items are all that the worker made
+-- the line is what the worker did, who has ended: it is the record's line of the worker's script, the replies are those of the calls that were completed, a misuse has halted Stop and then each object in order, and its items are all that the worker made
 pub record DidLine (plan : Plan) (worker : ℕ) (script : List Call) (replies : List (Reply ℕ)) (old new : Desk) (line : Line) : Type 0 where
   pub is : IsLineOf plan worker line
   pub calls : script_of line ≡ script
   pub answers : replies_of line ≡ replies
   pub ended : HasEnded line.ending
-  pub stops : HaltsStop line
+  pub halts : HaltsEach plan line
   pub moves : Moves old (items_of line) new
 
 -- what a worker did that has made so many calls of its script, and was answered each

@@ -1,5 +1,5 @@
 -- What a run by threads comes to, over shared maps and atomics that keep their history.
-use Rattle.std.specs.Prelude.{◌≡◌, ℕ, List, [], Option}
+use Rattle.std.specs.Prelude.{◌≡◌, ℕ, List, [], Option, Some, slice_get}
 use Rattle.sync_model.specs.declared.caller.Caller.{Caller}
 use Rattle.sync_model.specs.declared.item.Item.{Item}
 use Rattle.sync_model.specs.declared.item.SharedEntry.{SharedEntry}
@@ -13,6 +13,7 @@ use Rattle.sync_model.specs.Shared as shared
 use Rattle.sync_model.specs.SharedHistory.{contents_after}
 use Rattle.workload.specs.Plan.{Plan}
 use Rattle.run_record.specs.Explains.{Explains}
+use Rattle.run_record.specs.Lines.{Line, HaltsEach}
 use Rattle.run_record.specs.Objects.{contents_of, ends_in}
 use Rattle.run_record.specs.Record.{Record, calls_of}
 
@@ -26,12 +27,13 @@ with_ends ends (Deadlocked left) = Deadlocked left
 abbrev pub ends_after : Plan → List SharedEntry → List End
 ends_after plan history = ends_in plan (contents_after (contents_of plan) history)
 
--- A record explains the outcome, once the ends are filled in. Its history is this one, and its workers' calls on maps and atomics are these.
+-- A record explains the outcome, once the ends are filled in. Its history is this one, and its workers' calls on maps and atomics are these. A worker that met a misuse has halted Stop and then each object in order.
 pub record IsExplained (plan : Plan) (outcome : Outcome) (history : List SharedEntry) (calls : ℕ → List Item) : Type 0 where
   pub run : Record
   pub history_is : run.history ≡ history
   pub calls_are : (worker : ℕ) → calls_of run worker ≡ calls worker
   pub explains : Explains plan (with_ends (ends_after plan history) outcome) run
+  pub halts : (worker : ℕ) (line : Line) → slice_get explains.lines worker ≡ Some line → HaltsEach plan line
 
 -- What a run over shared maps and atomics leaves: all their callers, who have seen the whole history, and an outcome without its ends. A record explains it whose history is this one, and whose workers' calls on maps and atomics are the callers' own.
 pub record HasRun {H N : Type 0} (at : H → N → Type 0) (own : N → Option Holding) (front : N → List ℕ) (seen : N → List SharedEntry) (home : H) (plan : Plan) (outcome : Outcome) (callers : List (Caller N)) : Type 0 where

@@ -3,12 +3,13 @@ ghost use Rattle.std.specs.Prelude.{◌≡◌, ◌+◌, ◌<◌, ◌≤◌, Ok, 
 ghost use Rattle.std.specs.List.{range_with_len};
 ghost use Rattle.sync_model.specs.declared.answer.Answer.TheVariants.{Done};
 ghost use Rattle.workload.specs.declared.object.ObjectLine.{ObjectLine};
+ghost use Rattle.run_record.specs.Halts.{halted_at};
 ghost use Rattle.run_record.specs.Objects.{first_part};
 ghost use Rattle.thread_objects.specs.Working.{Works, desk_with};
 ghost use Rattle.thread_objects.specs.AsDeclared.{AreDeclared};
 ghost use Rattle.thread_objects.specs.Desks.{AreSeats};
 ghost use Rattle.thread_objects.specs.Passes.{owns_of};
-ghost use Rattle.thread_runner.specs.Halting.{HaltsAll, halted_at, halted_one, halting};
+ghost use Rattle.thread_runner.specs.Halting.{HaltsAll, halted_one, halting};
 ghost use Rattle.thread_runner.specs.PoolParts.{ArePartsAt};
 
 use run_record::laws::numbers::parts_have_numbers_of_their_own;

@@ -1,10 +1,11 @@
 //! How a run ends. A misuse ends it by halts, and nothing else halts an object.
-ghost use Rattle.std.specs.Prelude.{◌≡◌, ◌≢◌, ℕ, List, [], map, length, All, Some, None, slice_get};
-ghost use Rattle.sync_model.specs.Journal.{halt_of};
+ghost use Rattle.std.specs.Prelude.{◌≡◌, ◌≢◌, ℕ, List, [], ◌∷◌, map, length, All, Contains, Some, None, slice_get};
+ghost use Rattle.sync_model.specs.Journal.{by, halt_of};
 ghost use Rattle.workload.specs.Plan.{Plan};
 ghost use Rattle.run_record.specs.Explains.{AreLines, IsRecordOf, HasEnded, Explains};
-ghost use Rattle.run_record.specs.Lines.{Line, whole, misused, HaltsStop};
-ghost use Rattle.run_record.specs.Record.{Record, ObjectEntry, stop, journal_of};
+ghost use Rattle.run_record.specs.Halts.{halted_numbers, halts_in, halts_made};
+ghost use Rattle.run_record.specs.Lines.{Line, whole, misused, HaltsStop, HaltsEach};
+ghost use Rattle.run_record.specs.Record.{Record, ObjectEntry, stop, journal_of, list_of};
 
 use mutex_core::MutexCore;
 use pool_core::PoolCore;
@@ -20,6 +21,26 @@ pub fn a_halt_follows_a_misuse()
     ensures { (plan : Plan) (r : Record) (outcome : Outcome) (lines : List Line) (object n : ℕ) (entry : ObjectEntry) (misuse : Misuse)
         → AreLines plan r outcome lines → IsRecordOf plan r → slice_get (journal_of r object) n ≡ Some entry → entry.deed ≡ Deed.Halt misuse
         → (line : Line) × (slice_get lines entry.caller ≡ Some line) × (line.ending ≡ misused misuse) }
+{
+    endings::<MutexCore>();
+    endings::<RwCore>();
+    endings::<NotifyCore>();
+    endings::<GroupCore>();
+    endings::<OnceCore<i64>>();
+    endings::<OnceCore<u64>>();
+    endings::<PoolCore>();
+}
+
+/// A worker that meets a misuse, and halts each object: the halts in its list are one of each, by that misuse and in their order
+/// (`numbers::a_misuse_halts_in_order`). So each of these objects has just one halt by this worker.
+pub fn a_worker_that_meets_a_misuse_halts_each_object()
+    ensures list { (plan : Plan) (r : Record) (outcome : Outcome) (lines : List Line) (worker : ℕ) (line : Line) (misuse : Misuse)
+        → AreLines plan r outcome lines → IsRecordOf plan r → slice_get lines worker ≡ Some line → HaltsEach plan line → line.ending ≡ misused misuse
+        → halts_made (list_of r worker) ≡ map (λ number. (number, misuse)) (halted_numbers plan) }
+    ensures once { (plan : Plan) (r : Record) (outcome : Outcome) (lines : List Line) (worker : ℕ) (line : Line) (misuse : Misuse) (number : ℕ)
+        → AreLines plan r outcome lines → IsRecordOf plan r → slice_get lines worker ≡ Some line → HaltsEach plan line → line.ending ≡ misused misuse
+        → Contains (halted_numbers plan) number → halts_in (by worker (journal_of r number)) ≡ misuse ∷ [] }
+    ensures stops { (plan : Plan) (line : Line) → HaltsEach plan line → HaltsStop line }
 {
     endings::<MutexCore>();
     endings::<RwCore>();

@@ -1,8 +1,8 @@
 use Rattle.std.proofs.Common.{◌+◌, List, [], ◌∷◌, length, take, ap, arith}
 use Rattle.std.proofs.lemmas.Option.{slice_get_within}
 use Rattle.workload.specs.declared.object.ObjectLine.{ObjectLine}
+use Rattle.run_record.specs.Halts.{halted_at, halted_with_stop}
 use Rattle.run_record.specs.Record.{stop}
-use Rattle.thread_runner.specs.Halting.{halted_at, halted_with_stop}
 use Rattle.thread_runner.proofs.HaltLemmas.{all_halted, halted_more, halts_as, halts_on, halts_stop, line_at}
 use Rattle.thread_runner.proofs.halting.halt_all.Goals as goal
 

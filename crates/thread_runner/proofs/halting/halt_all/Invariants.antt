@@ -1,10 +1,11 @@
 use Rattle.std.proofs.Common.{◌≡◌, take, Ok}
 use Rattle.sync_model.specs.declared.answer.Answer.TheVariants.{Done}
+use Rattle.run_record.specs.Halts.{halted_with_stop}
 use Rattle.run_record.specs.Objects.{first_part}
 use Rattle.thread_objects.specs.Working.{Works, desk_with}
 use Rattle.thread_objects.specs.Desks.{AreSeats}
 use Rattle.thread_objects.specs.Passes.{owns_of}
-use Rattle.thread_runner.specs.Halting.{halted_with_stop, halting}
+use Rattle.thread_runner.specs.Halting.{halting}
 use Rattle.thread_runner.proofs.halting.halt_all.Given as goal
 
 abbrev pub invariant-loop-place : goal.invariant-loop-place

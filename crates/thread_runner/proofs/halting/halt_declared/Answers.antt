@@ -6,7 +6,7 @@ use Rattle.workload.specs.declared.object.ObjectWord.TheVariants as words
 use Rattle.run_record.specs.Objects.{first_part, is_pool}
 use Rattle.thread_objects.specs.Desks.{IsObjectAt}
 use Rattle.thread_objects.specs.Kinds.{HasWord}
-use Rattle.thread_runner.specs.Halting.{halted_at}
+use Rattle.run_record.specs.Halts.{halted_at}
 use Rattle.thread_runner.proofs.HaltLemmas.{halts_as, halts_declared, no_pool, pool_halted}
 use Rattle.thread_runner.proofs.halting.halt_declared.Goals as goal
 

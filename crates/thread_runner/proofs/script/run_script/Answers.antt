@@ -53,7 +53,7 @@ returns-in-Some-Done-Err-clause-line g c =
     let works = of_some c.make_call-answer.result Made (Done (Err c.in-Some-Done-Err.misuse)) (c.in-Some-Done-Err.is ∙ ap Some (c.in-Some-Done-Err.field-0-is ∙ ap Done c.in-Some-Done-Err.field-0-0-is)) c.make_call-answer.ensures.works in
     let halted = c.halt_all.ensures.halted in
     inl (ends_misused plan number script start c.requires.fresh.calls c.loop-index.index c.index-script-index.result within at c.loop-index.replies.items now new c.moves.ensures.joined c.loop-index.invariant.went
-    c.in-Some-Done-Err.misuse works.items halted.items halted.stops.0 last works.spelt works.moves halted.moves halted.halts halted.stops.1 halted.stops.2)
+    c.in-Some-Done-Err.misuse works.items halted.items last works.spelt works.moves halted.moves halted.halts halted.order)
 
 pub returns-in-Some-Halted-clause-line : goal.returns-in-Some-Halted-clause-line
 returns-in-Some-Halted-clause-line g c =
