@@ -1,20 +1,23 @@
 -- A writer's way down to its key, and what its call leaves.
-use Rattle.std.proofs.Common.{◌≡◌, ℕ, suc, ◌<◌, Bool, true, false, MatchBool, [], length, Option, Some, None, refl, sym, ap, ◌∙◌, subst}
+use Rattle.std.proofs.Common.{◌≡◌, ℕ, suc, ◌<◌, Bool, true, false, MatchBool, [], ◌∷◌, length, Option, Some, None, refl, sym, ap, ◌∙◌, subst}
 use Rattle.atomic_table.specs.Table.{Me}
 use Rattle.sync_model.specs.declared.item.SharedCall.TheVariants as calls
 use Rattle.sync_model.specs.declared.item.SharedReply.TheVariants as replies
 use Rattle.sync_types.specs.declared.map_object.MapCall.{MapCall}
+use Rattle.sync_types.specs.declared.map_object.MapCall.TheVariants.{Clear}
 use Rattle.sync_types.specs.declared.map_object.MapReply.{MapReply}
+use Rattle.sync_types.specs.declared.map_object.MapReply.TheVariants.{Done}
 use Rattle.sync_model.specs.Shared.{Called, cost_of}
 use Rattle.table_rule.specs.declared.begin.Begin.{Begin}
 use Rattle.shared_table.specs.declared.map_call.Reached.{Reached}
 use Rattle.shared_table.specs.declared.map_call.Reached.TheVariants.{Answered, Stands}
-use Rattle.table_rule.specs.declared.view.Gate.TheVariants.{Outside, Inside}
+use Rattle.table_rule.specs.declared.view.Gate.TheVariants.{Outside, Inside, Closed}
 use Rattle.table_rule.specs.declared.view.Leaf.{Leaf}
 use Rattle.table_rule.specs.declared.view.View.{View}
 use Rattle.table_rule.specs.declared.view.Walk.{Walk}
 use Rattle.sync_types.specs.KeyCalls.{is_key_entry, key_reply}
 use Rattle.trie_nodes.specs.declared.slot.Slot.TheVariants.{Empty, Node, Entry}
+use Rattle.table_rule.specs.Clearing.{Clears}
 use Rattle.table_rule.specs.Pruning.{having_cut}
 use Rattle.shared_table.specs.MapCalls.{AnswersAndPrunes, MakesAndPrunes, IsWriting, IsEnd, IsReached}
 use Rattle.table_rule.specs.Shape.{start_of}
@@ -135,3 +138,26 @@ made_between k m call reply words first inside before after free came (cut, made
 -- a seat that knows no entry stands where it stands
 pub stands_first : (me : Me (Unit {0}) View) → me.0.leaf ≡ None → me ≡ (standing me.0 me.0.walk None, me.1)
 stands_first me none_known = ap (λ o. (standing me.0 me.0.walk o, me.1)) none_known
+
+-- a clear, between closing the gate and opening it
+pub clears_between : (k : Begin) (m : ℕ) (first closed alone before after : Me (Unit {0}) View) → IsFree k first → (closed.1 ≡ first.1) × (closed.0 ≡ holding first.0 (Closed m false) None None) → (alone.1 ≡ closed.1) × (alone.0 ≡ holding closed.0 (Closed m true) None None)
+    → Clears m alone before → (after.1 ≡ before.1) × (after.0 ≡ holding before.0 Outside None None) → Clears m first after
+clears_between k m first closed alone before after free shut known cleared opened =
+    let idle = free.idle in
+    let alone_is : alone ≡ (holding first.0 (Closed m true) None None, first.1) = (λ i. ((known.1 ∙ ap (λ v. holding v (Closed m true) None None) shut.1) i, (known.0 ∙ shut.0) i)) in
+    let t = subst (λ z. Clears m z before) alone_is cleared in
+    let d = t.1.0 in
+    let made = t.1.2 in (
+      opened.0 ∙ t.0,
+      (
+        d,
+        record { map = t.1.1.map; top = t.1.1.top; entry = t.1.1.entry; before = ap (λ (v : View). v.seen) opened.1 ∙ t.1.1.before },
+        record {
+          item = made.item;
+          seen = made.seen;
+          is = opened.1 ∙ ap (λ z. holding z Outside None None) made.is
+              ∙ (λ i. record (called_view (having_cut first.0 (d ∷ [])) (paid (cost_of Clear) 18 (with_item first.0.owns made.item)) made.seen) { gate = sym idle.gate i; lock = sym idle.lock i; upper = sym idle.upper i });
+          called = subst (λ z. Called (start_of first.0.begin) (calls.Map m Clear) (replies.Map Done) (cost_of Clear) (view_state first.0) (view_state z)) (sym opened.1) made.called;
+        },
+      ),
+    )

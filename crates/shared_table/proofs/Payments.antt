@@ -10,7 +10,7 @@ use Rattle.table_rule.specs.declared.begin.Begin.{Begin}
 use Rattle.table_words.specs.Seats.{begin_of}
 use Rattle.shared_table.specs.declared.note.SharedNote.{SharedNote}
 use Rattle.shared_table.specs.declared.table.SharedTable.{SharedTable}
-use Rattle.table_rule.specs.declared.view.DeadNode.{DeadNode}
+use Rattle.table_rule.specs.declared.view.CutNode.{CutNode}
 use Rattle.table_rule.specs.declared.view.Own.{Own}
 use Rattle.table_rule.specs.declared.view.View.{View}
 use Rattle.trie_nodes.specs.Layout.{unit_words}
@@ -32,7 +32,7 @@ has_unit note cost owned unwritten one spare = by_owns note.seat.me.0.owns refl
         let enough : cost ≤ own.spare = spare (record { number = note.seat.me.0.number; items = own.items; spare = own.spare }) (ap (held_in note.seat.me.0.number) e) in
         (own, owns, e, unwritten 0 own (ap (λ o. slice_get o 0) e), ap (next_in note.next) (sym e) ∙ note.next_is, omega arith)
 
-module _ (table : SharedTable) (old : SharedNote) (m : ℕ) (call : MapCall ℕ) (reply : MapReply) (words : ℕ) (w : View) (is : IsNoteOf table old) (costs : cost_of call ≡ 1) (unit : HasUnit old.seat.me.0.owns old.next) (cut : List DeadNode) (made : MadeCall m call reply words (having_cut old.seat.me.0 cut) w) where
+module _ (table : SharedTable) (old : SharedNote) (m : ℕ) (call : MapCall ℕ) (reply : MapReply) (words : ℕ) (w : View) (is : IsNoteOf table old) (costs : cost_of call ≡ 1) (unit : HasUnit old.seat.me.0.owns old.next) (cut : List CutNode) (made : MadeCall m call reply words (having_cut old.seat.me.0 cut) w) where
   abbrev after : Own
   after = record unit.0 { items = unit.0.items ++ made.item ∷ []; next = unit.0.next + words; spare = unit.0.spare - 1; draft = [] }
 

@@ -4,10 +4,10 @@ use Rattle.std.proofs.lemmas.Bool.{cases_eq}
 use Rattle.std.proofs.lemmas.Option.{same_Some}
 use Rattle.atomic_table.specs.Table.{Me}
 use Rattle.table_rule.specs.declared.begin.Begin.{Begin}
-use Rattle.table_rule.specs.declared.view.DeadNode.{DeadNode}
+use Rattle.table_rule.specs.declared.view.CutNode.{CutNode}
 use Rattle.table_rule.specs.declared.view.Lock.{Lock}
 use Rattle.table_rule.specs.declared.view.View.{View}
-use Rattle.table_rule.specs.Pruning.{dead_node, having_cut, marked, upper_lock, SeesSlot, LooksAtSlot, ReadsParent, TriedUpper, HoldsBoth, Marks, CutsOff}
+use Rattle.table_rule.specs.Pruning.{having_cut, marked, upper_lock, SeesSlot, LooksAtSlot, ReadsParent, TriedUpper, HoldsBoth, Marks, CutsOff}
 use Rattle.shared_table.specs.Pruning.{knowing, LooksAtSlots, HoldsAt, NowHolds, HoldsInUse, HoldsToStay}
 use Rattle.trie_nodes.specs.Paths.{nibble}
 use Rattle.trie_nodes.specs.Plans.{HasOnlyEmptySlots, HasAFullSlot}
@@ -151,7 +151,7 @@ module _ (k : Begin) (first : Me (Unit {0}) View) (key node level : ℕ) (holds 
   Marked me = (up : ℕ) × (me ≡ With (marked (knowing holds.lock 16 holds.lock.found)) (Some (upper_lock holds.lock up)))
 
   abbrev pub Cut : Me (Unit {0}) View → Type 0
-  Cut me = (up : ℕ) × (me ≡ (having_cut (holding first.0 first.0.gate (Some (upper_lock holds.lock up)) None) (dead_node holds.lock ∷ []), first.1))
+  Cut me = (up : ℕ) × (d : CutNode) × (d.node ≡ holds.lock.node) × (me ≡ (having_cut (holding first.0 first.0.gate (Some (upper_lock holds.lock up)) None) (d ∷ []), first.1))
 
   module _ (words : List ℕ) (me : Me (Unit {0}) View) (looked : (z : Lock) → first.0.lock ≡ Some z → LooksAtSlots z words first me) (empty : HasOnlyEmptySlots words) where
     pub is_looked : Looked me
@@ -221,18 +221,13 @@ module _ (k : Begin) (first : Me (Unit {0}) View) (key node level : ℕ) (holds 
     )
 
     pub is_cut : (me after : Me (Unit {0}) View) → Marked me → CutsOff me after → Cut after
-    is_cut me after (up, is) told = let t = subst (λ m. CutsOff m after) is told in let e = t.1 (marked (knowing l 16 l.found)) (upper_lock l up) refl refl in (up, λ i. (e i, t.0 i))
+    is_cut me after (up, is) told = let t = subst (λ m. CutsOff m after) is told in let e = t.1 (marked (knowing l 16 l.found)) (upper_lock l up) refl refl in (up, e.0, e.1.node, λ i. (e.2 i, t.0 i))
 
-    pub comes_up : (me : Me (Unit {0}) View) (parent : ℕ) → Cut me → parent ≡ holds.lock.up → HasWords first.0 parent 18 → NowHolds parent (record { node = node; up = parent } ∷ []) first me × HoldsAt k me key parent (level - 1)
-    comes_up me parent (up, is) parent_is has = let h = holds.holds in (
-      record {
-        slots = ap (λ (m : Me (Unit {0}) View). m.1) is;
-        lock = upper_lock l up;
-        node_is = sym parent_is;
-        living = refl;
-        is = ap (λ (m : Me (Unit {0}) View). m.0) is ∙ (λ i. having_cut (holding first.0 first.0.gate (Some (upper_lock l up)) None) (record { node = holds.at.1 i; up = sym parent_is i } ∷ []));
-        words = has;
-      },
+    pub comes_up : (me : Me (Unit {0}) View) (parent : ℕ) → Cut me → parent ≡ holds.lock.up → HasWords first.0 parent 18 → (d : CutNode) × (d.node ≡ node) × NowHolds parent (d ∷ []) first me × HoldsAt k me key parent (level - 1)
+    comes_up me parent (up, d, node_is, is) parent_is has = let h = holds.holds in (
+      d,
+      node_is ∙ holds.at.1,
+      record { slots = ap (λ (m : Me (Unit {0}) View). m.1) is; lock = upper_lock l up; node_is = sym parent_is; living = refl; is = ap (λ (m : Me (Unit {0}) View). m.0) is; words = has },
       subst (λ m. HoldsAt k m key parent (level - 1)) (sym is) record {
         lock = upper_lock l up;
         at = (holds.at.0, sym parent_is, ap (λ n. n - 1) same_level);
@@ -243,13 +238,13 @@ module _ (k : Begin) (first : Me (Unit {0}) View) (key node level : ℕ) (holds 
     )
 
 -- a seat that goes on from where it came to
-pub comes_on : (node next : ℕ) (cut more : List DeadNode) (first me after : Me (Unit {0}) View) → NowHolds node cut first me → NowHolds next more me after → NowHolds next (more ++ cut) first after
+pub comes_on : (node next : ℕ) (cut more : List CutNode) (first me after : Me (Unit {0}) View) → NowHolds node cut first me → NowHolds next more me after → NowHolds next (more ++ cut) first after
 comes_on node next cut more first me after one two = record {
   slots = two.slots ∙ one.slots;
   lock = two.lock;
   node_is = two.node_is;
   living = two.living;
-  is = two.is ∙ ap (λ v. having_cut (holding v v.gate (Some two.lock) None) more) one.is ∙ (λ i. record (holding first.0 first.0.gate (Some two.lock) None) { pruned = sym (append_assoc more cut first.0.pruned) i });
+  is = two.is ∙ ap (λ v. having_cut (holding v v.gate (Some two.lock) None) more) one.is ∙ (λ i. record (holding first.0 first.0.gate (Some two.lock) None) { cut = sym (append_assoc more cut first.0.cut) i });
   words = subst (λ v. HasWords v next 18) one.is two.words;
 }
 

@@ -4,7 +4,7 @@ use Rattle.atomic_table.specs.Table.{Me}
 use Rattle.sync_types.specs.declared.map_object.MapCall.{MapCall}
 use Rattle.sync_types.specs.declared.map_object.MapReply.{MapReply}
 use Rattle.table_rule.specs.declared.begin.Begin.{Begin}
-use Rattle.table_rule.specs.declared.view.DeadNode.{DeadNode}
+use Rattle.table_rule.specs.declared.view.CutNode.{CutNode}
 use Rattle.table_rule.specs.declared.view.Gate.TheVariants.{Inside}
 use Rattle.table_rule.specs.declared.view.Leaf.{Leaf}
 use Rattle.table_rule.specs.declared.view.Lock.{Lock}
@@ -85,11 +85,11 @@ IsReached call m key (Stands node level) before after = (after ≡ standing befo
 
 -- a seat made its call inside of a gate, and has cut off these nodes, which it left empty
 abbrev pub AnswersAndPrunes : ℕ → MapCall ℕ → MapReply → ℕ → View → View → Type 0
-AnswersAndPrunes m call reply words before after = (cut : List DeadNode) × Answers m call reply words None (having_cut before cut) after
+AnswersAndPrunes m call reply words before after = (cut : List CutNode) × Answers m call reply words None (having_cut before cut) after
 
 -- the same of a call from between two calls on
 abbrev pub MakesAndPrunes : ℕ → MapCall ℕ → MapReply → ℕ → View → View → Type 0
-MakesAndPrunes m call reply words before after = (cut : List DeadNode) × MadeCall m call reply words (having_cut before cut) after
+MakesAndPrunes m call reply words before after = (cut : List CutNode) × MadeCall m call reply words (having_cut before cut) after
 
 -- a seat made its call, or stands somewhere and has made none
 abbrev pub MayHaveMade : ℕ → MapCall ℕ → Option Paid → View → View → Type 0

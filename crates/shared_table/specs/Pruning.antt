@@ -2,7 +2,7 @@
 use Rattle.std.specs.Prelude.{◌≡◌, ◌≢◌, ◌⊎◌, ℕ, ◌-◌, ◌<◌, true, false, List, [], ◌∷◌, Option, Some, None, IsSome, slice_index}
 use Rattle.atomic_table.specs.Table.{Me}
 use Rattle.table_rule.specs.declared.begin.Begin.{Begin}
-use Rattle.table_rule.specs.declared.view.DeadNode.{DeadNode}
+use Rattle.table_rule.specs.declared.view.CutNode.{CutNode}
 use Rattle.table_rule.specs.declared.view.Lock.{Lock}
 use Rattle.table_rule.specs.declared.view.View.{View}
 use Rattle.sync_types.specs.declared.map_object.MapCall.{MapCall}
@@ -53,7 +53,7 @@ pub record HoldsAt (k : Begin) (me : Me (Unit {0}) View) (key node level : ℕ) 
   pub words : HasWords me.0 node 18
 
 -- a seat holds the lock of a node, has cut off these nodes, and else has what it had
-pub record NowHolds (node : ℕ) (cut : List DeadNode) (before after : Me (Unit {0}) View) : Type 0 where
+pub record NowHolds (node : ℕ) (cut : List CutNode) (before after : Me (Unit {0}) View) : Type 0 where
   pub slots : after.1 ≡ before.1
   pub lock : Lock
   pub node_is : lock.node ≡ node
@@ -64,4 +64,4 @@ pub record NowHolds (node : ℕ) (cut : List DeadNode) (before after : Me (Unit 
 -- a node was cut off, and the seat holds the lock of its parent; or it stays, and the seat holds its lock still
 abbrev pub PrunesAt : Begin → ℕ → ℕ → ℕ → Option ℕ → Me (Unit {0}) View → Me (Unit {0}) View → Type 0
 PrunesAt k key node level None before after = NowHolds node [] before after
-PrunesAt k key node level (Some parent) before after = NowHolds parent (record { node = node; up = parent } ∷ []) before after × HoldsAt k after key parent (level - 1)
+PrunesAt k key node level (Some parent) before after = (d : CutNode) × (d.node ≡ node) × NowHolds parent (d ∷ []) before after × HoldsAt k after key parent (level - 1)

@@ -10,8 +10,8 @@ ghost use Rattle.sync_types.specs.declared.map_object.MapReply.TheVariants.{Done
 ghost use Rattle.sync_model.specs.Note.{SameHome};
 ghost use Rattle.sync_model.specs.Shared.{Called, state_of};
 ghost use Rattle.table_rule.specs.declared.view.Gate.TheVariants.{Closed};
-ghost use Rattle.table_rule.specs.Clearing.{HasClosed};
-ghost use Rattle.table_rule.specs.Making.{HasUnit, MadeCall};
+ghost use Rattle.table_rule.specs.Clearing.{HasClosed, Clears};
+ghost use Rattle.table_rule.specs.Making.{HasUnit};
 ghost use Rattle.table_words.specs.Seats.{begin_of, IsSeatOf};
 ghost use Rattle.table_rule.specs.Walking.{IsFree};
 ghost use Rattle.table_rule.specs.Writing.{holding, HasRoomWithin};
@@ -50,7 +50,7 @@ impl SharedTable {
         requires unit { HasUnit seat.old.me.0.owns next }
         requires map { map < maps_of self.now }
         ensures table { seat.new.table_id ≡ seat.old.table_id }
-        ensures made { (seat.new.me.1 ≡ seat.old.me.1) × MadeCall map Clear Done 18 seat.old.me.0 seat.new.me.0 }
+        ensures made { Clears map seat.old.me seat.new.me }
         ensures room { HasRoomWithin seat.new.me.0 }
     {
         self.close(rt, seat, map);

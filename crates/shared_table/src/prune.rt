@@ -1,6 +1,6 @@
 //! Pruning: a node below the root that was left empty is cut off, and then its parent in the same way, where that is empty now.
 ghost use Rattle.std.specs.Prelude.{◌≡◌, ◌⊎◌, ◌<◌, true, List, Some, None, IsNone, IsSome};
-ghost use Rattle.table_rule.specs.declared.view.DeadNode.{DeadNode};
+ghost use Rattle.table_rule.specs.declared.view.CutNode.{CutNode};
 ghost use Rattle.table_rule.specs.declared.view.Lock.{Lock};
 ghost use Rattle.shared_table.specs.Pruning.{LooksAtSlots, HoldsAt, HoldsInUse, HoldsToStay, NeverRemoves, NowHolds, PrunesAt};
 ghost use Rattle.sync_types.specs.SequentialMap.{map_key};
@@ -104,7 +104,7 @@ impl SharedTable {
         requires level { level < 8 }
         requires caller { caller ≡ seat.old.me.0.number }
         ensures table { seat.new.table_id ≡ seat.old.table_id }
-        ensures pruned { (cut : List DeadNode) × NowHolds result cut seat.old.me seat.new.me }
+        ensures pruned { (cut : List CutNode) × NowHolds result cut seat.old.me seat.new.me }
         ensures stays { HoldsToStay seat.new.me.0 }
     {
         let mut node = node;
@@ -147,7 +147,7 @@ impl SharedTable {
         requires level { level < 8 }
         requires caller { caller ≡ seat.old.me.0.number }
         ensures table { seat.new.table_id ≡ seat.old.table_id }
-        ensures left { (seat.new.me.1 ≡ seat.old.me.1) × ((cut : List DeadNode) × (seat.new.me.0 ≡ having_cut (standing (holding seat.old.me.0 seat.old.me.0.gate None None) None None) cut)) }
+        ensures left { (seat.new.me.1 ≡ seat.old.me.1) × ((cut : List CutNode) × (seat.new.me.0 ≡ having_cut (standing (holding seat.old.me.0 seat.old.me.0.gate None None) None None) cut)) }
     {
         let held = if may_remove(call) {
             self.prune(rt, seat, key, node, level, caller)

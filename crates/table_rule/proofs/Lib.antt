@@ -1,3 +1,3 @@
 pub mod Standing
 pub mod Holders
-pub mod Pruned
+pub mod CutNodes

@@ -1,12 +1,15 @@
 -- A seat that clears a map: how it stands to the map's gate, and what its steps tell.
-use Rattle.std.specs.Prelude.{◌≡◌, ℕ, ◌^◌, ◌<◌, ◌==◌, Bool, true, false, length, None, MatchBool}
+use Rattle.std.specs.Prelude.{◌≡◌, ℕ, ◌^◌, ◌<◌, ◌==◌, Bool, true, false, [], ◌∷◌, ◌++◌, length, None, MatchBool}
 use Rattle.atomic_table.specs.Table.{Me}
 use Rattle.sync_types.specs.declared.map_object.MapCall.TheVariants.{Clear}
 use Rattle.sync_types.specs.declared.map_object.MapReply.TheVariants.{Done}
+use Rattle.sync_model.specs.declared.item.SharedEntry.{SharedEntry}
 use Rattle.table_rule.specs.declared.begin.Begin.{Begin}
+use Rattle.table_rule.specs.declared.view.CutNode.{CutNode}
 use Rattle.table_rule.specs.declared.view.Gate.TheVariants.{Closed}
 use Rattle.table_rule.specs.declared.view.View.{View}
 use Rattle.table_rule.specs.Making.{MadeCall}
+use Rattle.table_rule.specs.Pruning.{having_cut}
 use Rattle.table_rule.specs.Writing.{holding}
 
 -- a seat has closed the gate of a map; it knows that no writer is inside, or doesn't know. It stands nowhere, and holds no lock
@@ -35,6 +38,13 @@ SeesAlone m alone before after = (after.1 ≡ before.1) × MatchBool alone (afte
 abbrev pub LooksInside : ℕ → Me (Unit {0}) View → ℕ → Me (Unit {0}) View → Type 0
 LooksInside m before found after = SeesAlone m (found == 2 ^ 32) before after
 
--- a seat wrote a new empty root, which placed its call. It used the root's 18 words
+-- a root of a map was cleared just before the last entry of the history that the seat has seen
+pub record IsCleared (m : ℕ) (v : View) (d : CutNode) : Type 0 where
+  pub map : d.map ≡ m
+  pub top : d.level ≡ 0
+  pub entry : SharedEntry
+  pub before : v.seen ≡ d.before ++ entry ∷ []
+
+-- a seat wrote a new empty root, which placed its call. It used the root's 18 words, and has cut off the old root
 abbrev pub Clears : ℕ → Me (Unit {0}) View → Me (Unit {0}) View → Type 0
-Clears m before after = (after.1 ≡ before.1) × MadeCall m Clear Done 18 before.0 after.0
+Clears m before after = (after.1 ≡ before.1) × ((d : CutNode) × IsCleared m after.0 d × MadeCall m Clear Done 18 (having_cut before.0 (d ∷ [])) after.0)

@@ -2,13 +2,14 @@
 use Rattle.std.specs.Prelude.{◌≡◌, ◌⊎◌, ℕ, suc, ◌+◌, ◌*◌, ◌^◌, ◌<◌, ◌≤◌, Bool, true, false, cond, List, Contains, length, take, Some, None, slice_get, slice_index}
 use Rattle.sync_model.specs.declared.item.SharedEntry.{SharedEntry}
 use Rattle.sync_model.specs.declared.item.Item.{Item}
+use Rattle.sync_model.specs.Journal.{Begins}
 use Rattle.sync_model.specs.SharedCalls.{Knows}
 use Rattle.table_rule.specs.declared.begin.Begin.{Begin}
 use Rattle.table_rule.specs.declared.view.Own.{Own}
 use Rattle.table_rule.specs.declared.view.Walk.{Walk}
 use Rattle.table_rule.specs.declared.view.Leaf.{Leaf}
 use Rattle.table_rule.specs.declared.view.Lock.{Lock}
-use Rattle.table_rule.specs.declared.view.DeadNode.{DeadNode}
+use Rattle.table_rule.specs.declared.view.CutNode.{CutNode}
 use Rattle.table_rule.specs.declared.view.Spot.{Spot}
 use Rattle.table_rule.specs.declared.view.Gate.{Gate}
 use Rattle.table_rule.specs.declared.view.Gate.TheVariants.{Outside, Inside, Closed}
@@ -48,13 +49,16 @@ pub record Locks (k : Begin) (sh : Shape) (ws : List ℕ) (caller m : ℕ) (l : 
   pub few : l.empty ≤ 16
   pub empty_so_far : (slot : ℕ) → slot < l.empty → slice_index ws (slot_word l.node slot) ≡ 0
 
--- a node was cut off at some moment: it is dead, and names this parent. A dead node is empty, so with that each of its words is told
-pub record IsCutOff (sh : Shape) (ws : List ℕ) (d : DeadNode) : Type 0 where
+-- a node of a map, on a key's path, was cut off at this moment of the history, and has the words that it had then
+pub record IsCutOff (k : Begin) (sh : Shape) (log : List SharedEntry) (ws : List ℕ) (d : CutNode) : Type 0 where
   pub node : sh.kind_of d.node ≡ 1
-  pub moment : ℕ
-  pub cut : sh.cut_of d.node ≡ Some moment
-  pub word : slice_index ws d.node ≡ dead_word
-  pub parent : slice_index ws (parent_word d.node) ≡ d.up
+  pub map : sh.map_of d.node ≡ d.map
+  pub key : d.key < 2 ^ 32
+  pub level : d.level < 8
+  pub path : sh.path_of d.node ≡ route k.seed d.level d.key
+  pub history : Begins log d.before
+  pub cut : sh.cut_of d.node ≡ Some (length d.before)
+  pub words : (n : ℕ) → n < 18 → slice_index ws (d.node + n) ≡ slice_index d.words n
 
 -- a caller's room: words that belong to it alone and are part of nothing, which hold its draft, and behind that 0
 pub record HasRoom (k : Begin) (sh : Shape) (ws : List ℕ) (caller : ℕ) (own : Own) : Type 0 where
@@ -94,8 +98,8 @@ pub record Suits (k : Begin) (sh : Shape) (log : List SharedEntry) (calls : ℕ 
   pub steady : (w : Walk) → v.walk ≡ Some w → v.gate ≡ Inside w.map → (sh.cut_of w.node ≡ None) ⊎ (slice_index ws w.node ≡ dead_word)
   pub leaf : (l : Leaf) → v.leaf ≡ Some l → IsLeaf sh ws l
   pub spot : (s : Spot) → v.spot ≡ Some s → Stands k sh log calls s
-  -- a node that it cut off is dead, from then on
-  pub pruned : (d : DeadNode) → Contains v.pruned d → IsCutOff sh ws d
+  -- a node that it cut off stays as it was then
+  pub cut : (d : CutNode) → Contains v.cut d → IsCutOff k sh log ws d
   pub room : (i : ℕ) (own : Own) → slice_get v.owns i ≡ Some own → HasRoom k sh ws (v.number + i) own
   pub gate : AtGate k sh v.number v.gate
   -- a caller that is counted as a writer knows it

@@ -1,10 +1,13 @@
 -- A seat that cuts off an empty node: it has looked at all slots under the node's lock, takes the lock of the node's parent too, marks the node dead, and empties the parent's slot.
-use Rattle.std.specs.Prelude.{◌≡◌, ℕ, suc, ◌-◌, ◌<◌, ◌==◌, Bool, true, false, List, [], ◌∷◌, ◌++◌, length, Some, None, MatchBool}
+use Rattle.std.specs.Prelude.{◌≡◌, ℕ, suc, ◌-◌, ◌<◌, ◌==◌, Bool, true, false, List, [], ◌∷◌, ◌++◌, length, replicate, Some, None, MatchBool}
 use Rattle.atomic_table.specs.Table.{Me}
 use Rattle.table_rule.specs.declared.begin.Begin.{Begin}
-use Rattle.table_rule.specs.declared.view.DeadNode.{DeadNode}
+use Rattle.sync_model.specs.Journal.{Begins}
+use Rattle.table_rule.specs.declared.view.CutNode.{CutNode}
+use Rattle.table_rule.specs.declared.view.Gate.TheVariants.{Inside}
 use Rattle.table_rule.specs.declared.view.Lock.{Lock}
 use Rattle.table_rule.specs.declared.view.View.{View}
+use Rattle.trie_nodes.specs.Layout.{dead_word}
 use Rattle.table_rule.specs.Making.{bare, found_lock}
 use Rattle.table_rule.specs.Walking.{HasWords}
 use Rattle.table_rule.specs.Writing.{holding}
@@ -59,15 +62,26 @@ pub record HoldsBoth (k : Begin) (me : Me (Unit {0}) View) (l u : Lock) (dead : 
 abbrev pub Marks : Me (Unit {0}) View → Me (Unit {0}) View → Type 0
 Marks before after = (after.1 ≡ before.1) × ((l : Lock) → before.0.lock ≡ Some l → after.0 ≡ holding before.0 before.0.gate (Some (marked l)) before.0.upper)
 
--- the dead node of a lock
-abbrev pub dead_node : Lock → DeadNode
-dead_node l = record { node = l.node; up = l.up }
+-- the words of a dead node: its lock says so, it names its parent, and its slots are empty
+abbrev pub dead_words : ℕ → List ℕ
+dead_words up = dead_word ∷ up ∷ replicate 16 0
 
 -- the view of a seat that has cut off these nodes too
-abbrev pub having_cut : View → List DeadNode → View
-having_cut v nodes = record v { pruned = nodes ++ v.pruned }
+abbrev pub having_cut : View → List CutNode → View
+having_cut v nodes = record v { cut = nodes ++ v.cut }
+
+-- the node of a lock was pruned, when the history was no shorter than what the seat has seen
+pub record IsPruned (v : View) (l : Lock) (d : CutNode) : Type 0 where
+  pub node : d.node ≡ l.node
+  pub map : v.gate ≡ Inside d.map
+  pub level : d.level ≡ l.level
+  pub key : d.key ≡ l.key
+  pub seen : Begins d.before v.seen
+  pub words : d.words ≡ dead_words l.up
 
 -- a seat emptied the parent's slot: it holds the parent's lock alone, and has cut off the node
 abbrev pub CutsOff : Me (Unit {0}) View → Me (Unit {0}) View → Type 0
 CutsOff before after =
-    (after.1 ≡ before.1) × ((l u : Lock) → before.0.lock ≡ Some l → before.0.upper ≡ Some u → after.0 ≡ having_cut (holding before.0 before.0.gate (Some (bare u)) None) (dead_node l ∷ []))
+    (after.1 ≡ before.1)
+    × ((l u : Lock) → before.0.lock ≡ Some l → before.0.upper ≡ Some u
+    → (d : CutNode) × IsPruned before.0 l d × (after.0 ≡ having_cut (holding before.0 before.0.gate (Some (bare u)) None) (d ∷ [])))

@@ -35,7 +35,7 @@ first_view k = record {
   upper = None;
   gate = Outside;
   spot = None;
-  pruned = [];
+  cut = [];
 }
 
 -- what contracts see of the first caller that a seat stands for
@@ -123,7 +123,7 @@ longest xs ys = cond (nat_le (length xs) (length ys)) ys xs
 
 -- a seat that took in another: it knows what both knew, and stands for the callers of both
 abbrev pub joined : View → View → View
-joined v w = record v { seen = longest v.seen w.seen; heard = v.seen ∷ w.seen ∷ (v.heard ++ w.heard); front = most v.front w.front; owns = v.owns ++ w.owns; pruned = v.pruned ++ w.pruned }
+joined v w = record v { seen = longest v.seen w.seen; heard = v.seen ∷ w.seen ∷ (v.heard ++ w.heard); front = most v.front w.front; owns = v.owns ++ w.owns; cut = v.cut ++ w.cut }
 
 -- a seat that was taken in
 abbrev pub spent : View
@@ -141,7 +141,7 @@ spent = record {
   upper = None;
   gate = Outside;
   spot = None;
-  pruned = [];
+  cut = [];
 }
 
 -- a seat looked at the whole history: what it had seen and heard are beginnings of it, and it is lawful with all callers' calls

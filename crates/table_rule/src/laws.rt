@@ -1,13 +1,14 @@
 //! What the rule is for, in the words of whoever uses a table. Each law is the contract of a function that does nothing. They speak of
 //! any state of a table in which the rule holds (`Kept`): so it is at every moment, whatever the seats do.
 ghost use Rattle.std.specs.Prelude.{◌≡◌, ◌≢◌, ◌⊎◌, ℕ, suc, ◌+◌, ◌^◌, ◌<◌, ◌≤◌, true, false, Bool, Contains, Some, None, length, slice_index};
+ghost use Rattle.sync_model.specs.Journal.{Begins};
 ghost use Rattle.sync_model.specs.SharedHistory.{value_at, contents_at, contents_after};
 ghost use Rattle.trie_nodes.specs.declared.slot.Slot.TheVariants.{Node};
-ghost use Rattle.trie_nodes.specs.Layout.{parent_word, slot_word, dead_word};
+ghost use Rattle.trie_nodes.specs.Layout.{slot_word, dead_word};
 ghost use Rattle.trie_nodes.specs.Nodes.{slot_at, stands_for};
 ghost use Rattle.trie_nodes.specs.Paths.{nibble, route};
 ghost use Rattle.table_rule.specs.declared.begin.Begin.{Begin};
-ghost use Rattle.table_rule.specs.declared.view.DeadNode.{DeadNode};
+ghost use Rattle.table_rule.specs.declared.view.CutNode.{CutNode};
 ghost use Rattle.table_rule.specs.declared.view.Gate.TheVariants.{Inside, Closed};
 ghost use Rattle.table_rule.specs.declared.view.Leaf.{Leaf};
 ghost use Rattle.table_rule.specs.declared.view.View.{View};
@@ -49,27 +50,41 @@ pub fn a_dead_node_is_empty()
     an_empty_node_stands_for_nothing();
 }
 
-/// A node that a seat has cut off never changes again, whatever the seats do: its lock word is that of a dead node, it names the parent
-/// that it had, and its slots are empty. So its 18 words are the same at any two moments (`same`), and it stands for nothing. It is
-/// cut off for ever: no root word names it, and no slot of a reachable node leads to it. That a seat forgets no node that it has cut
-/// off is a law of its steps, in `steps`.
+/// A node that a seat has cut off never changes again, whatever the seats do: a node that it pruned, and a root that it cleared. The seat's
+/// view keeps the moment of the cut, as the history before it, and the 18 words that the node had then. At every moment from then on the
+/// node has these words (`words`), which so are the same at any two moments (`same`). And what it stands for, with all that is below it, is
+/// what its map had at the moment of the cut (`stands`), whichever moment one looks at (`stays`). The nodes below it were cut off at the same
+/// moment (`below`). It is cut off for ever: no root word names it, and no slot of a reachable node leads to it. Where its lock word says
+/// that it is dead, as that of a pruned node does, it is empty and stands for nothing. That a seat forgets no node that it has cut off is a
+/// law of its steps, in `steps`.
 pub fn a_node_that_was_cut_off_never_changes()
-    ensures lock { (k : Begin) (s : TableState) (r : Kept k s) (j : ℕ) (v : View) (d : DeadNode) → IsSeat s j v → Contains v.pruned d → slice_index s.words d.node ≡ dead_word }
-    ensures parent { (k : Begin) (s : TableState) (r : Kept k s) (j : ℕ) (v : View) (d : DeadNode) → IsSeat s j v → Contains v.pruned d → slice_index s.words (parent_word d.node) ≡ d.up }
-    ensures slots { (k : Begin) (s : TableState) (r : Kept k s) (j slot : ℕ) (v : View) (d : DeadNode) → IsSeat s j v → Contains v.pruned d → slot < 16
-        → slice_index s.words (slot_word d.node slot) ≡ 0 }
-    ensures same { (k : Begin) (s t : TableState) → Kept k s → Kept k t → (i j n : ℕ) (u v : View) (d : DeadNode) → IsSeat s i u → IsSeat t j v → Contains u.pruned d → Contains v.pruned d
+    ensures words { (k : Begin) (s : TableState) (r : Kept k s) (j n : ℕ) (v : View) (d : CutNode) → IsSeat s j v → Contains v.cut d → n < 18
+        → slice_index s.words (d.node + n) ≡ slice_index d.words n }
+    ensures same { (k : Begin) (s t : TableState) → Kept k s → Kept k t → (i j n : ℕ) (u v : View) (d : CutNode) → IsSeat s i u → IsSeat t j v → Contains u.cut d → Contains v.cut d
         → n < 18 → slice_index s.words (d.node + n) ≡ slice_index t.words (d.node + n) }
-    ensures nothing { (k : Begin) (s : TableState) (r : Kept k s) (j level key : ℕ) (v : View) (d : DeadNode) → IsSeat s j v → Contains v.pruned d
-        → stands_for s.words k.seed level d.node key ≡ None }
-    ensures cut_off { (k : Begin) (s : TableState) (r : Kept k s) (j : ℕ) (v : View) (d : DeadNode) → IsSeat s j v → Contains v.pruned d
-        → (moment : ℕ) × (r.shape.cut_of d.node ≡ Some moment) × (moment ≤ length r.log) }
-    ensures no_root { (k : Begin) (s : TableState) (r : Kept k s) (j m : ℕ) (v : View) (d : DeadNode) → IsSeat s j v → Contains v.pruned d → m < k.maps
+    ensures moment { (k : Begin) (s : TableState) (r : Kept k s) (j : ℕ) (v : View) (d : CutNode) → IsSeat s j v → Contains v.cut d
+        → (r.shape.cut_of d.node ≡ Some (length d.before)) × Begins r.log d.before }
+    ensures stands { (k : Begin) (s : TableState) (r : Kept k s) (j key : ℕ) (v : View) (d : CutNode) → IsSeat s j v → Contains v.cut d
+        → key < 2 ^ 32 → route k.seed d.level key ≡ route k.seed d.level d.key
+        → stands_for s.words k.seed d.level d.node key ≡ value_at (contents_after (start_of k) d.before) d.map key }
+    ensures stays { (k : Begin) (s t : TableState) → Kept k s → Kept k t → (i j key : ℕ) (u v : View) (d : CutNode) → IsSeat s i u → IsSeat t j v → Contains u.cut d → Contains v.cut d
+        → key < 2 ^ 32 → route k.seed d.level key ≡ route k.seed d.level d.key
+        → stands_for s.words k.seed d.level d.node key ≡ stands_for t.words k.seed d.level d.node key }
+    ensures below { (k : Begin) (s : TableState) (r : Kept k s) (j p node level key : ℕ) (v : View) (d : CutNode) → IsSeat s j v → Contains v.cut d
+        → r.shape.kind_of p ≡ 1 → r.shape.cut_of p ≡ Some (length d.before) → level < 8 → key < 2 ^ 32 → r.shape.path_of p ≡ route k.seed level key
+        → slot_at s.words p (nibble key k.seed level) ≡ Node node → r.shape.cut_of node ≡ Some (length d.before) }
+    ensures no_root { (k : Begin) (s : TableState) (r : Kept k s) (j m : ℕ) (v : View) (d : CutNode) → IsSeat s j v → Contains v.cut d → m < k.maps
         → slice_index s.words (root_word k m) ≢ d.node }
-    ensures no_slot { (k : Begin) (s : TableState) (r : Kept k s) (j p level key : ℕ) (v : View) (d : DeadNode) → IsSeat s j v → Contains v.pruned d
+    ensures no_slot { (k : Begin) (s : TableState) (r : Kept k s) (j p level key : ℕ) (v : View) (d : CutNode) → IsSeat s j v → Contains v.cut d
         → r.shape.kind_of p ≡ 1 → r.shape.cut_of p ≡ None → level < 8 → key < 2 ^ 32 → r.shape.path_of p ≡ route k.seed level key
         → slot_at s.words p (nibble key k.seed level) ≢ Node d.node }
+    ensures empty { (k : Begin) (s : TableState) (r : Kept k s) (j slot : ℕ) (v : View) (d : CutNode) → IsSeat s j v → Contains v.cut d
+        → slice_index d.words 0 ≡ dead_word → slot < 16 → slice_index s.words (slot_word d.node slot) ≡ 0 }
+    ensures nothing { (k : Begin) (s : TableState) (r : Kept k s) (j level key : ℕ) (v : View) (d : CutNode) → IsSeat s j v → Contains v.cut d
+        → slice_index d.words 0 ≡ dead_word → stands_for s.words k.seed level d.node key ≡ None }
 {
+    histories_go_on();
+    nodes_stand_for_what_their_slots_show();
     an_empty_node_stands_for_nothing();
 }
 

@@ -50,11 +50,17 @@ pub struct Lock {
     pub dead: bool,
 }
 
-/// A node that was cut off.
-pub struct DeadNode {
+/// A node that was cut off: an empty node that was pruned, or a root that a clear replaced.
+pub struct CutNode {
     pub node: u64,
-    /// The place of its parent.
-    pub up: u64,
+    /// Its map, its level there, and a key on whose path it stood.
+    pub map: u32,
+    pub level: u32,
+    pub key: u32,
+    /// The history before the step that cut it off. Its length is the moment of the cut.
+    pub before: LinkedList<SharedEntry>,
+    /// Its 18 words at that moment.
+    pub words: LinkedList<u64>,
 }
 
 /// Where the cursor of a seat stands.
@@ -104,5 +110,5 @@ pub struct View {
     pub gate: Gate,
     pub spot: Option<Spot>,
     /// The nodes that it has cut off, and that seats have which were taken in.
-    pub pruned: LinkedList<DeadNode>,
+    pub cut: LinkedList<CutNode>,
 }

@@ -15,28 +15,30 @@ use Rattle.sync_types.specs.declared.map_object.MapCall.TheVariants.{Clear}
 use Rattle.sync_types.specs.declared.map_object.MapReply.TheVariants.{Done}
 use Rattle.sync_model.specs.Journal.{Begins}
 use Rattle.sync_model.specs.SharedCalls.{Grows}
-use Rattle.sync_model.specs.SharedHistory.{Contents, value_at, contents_after, history_with}
+use Rattle.sync_model.specs.SharedHistory.{Contents, value_at, contents_after, entry_of, history_with}
 use Rattle.sync_model.specs.Shared.{Called}
 use Rattle.table_rule.specs.declared.begin.Begin.{Begin}
+use Rattle.table_rule.specs.declared.view.CutNode.{CutNode}
 use Rattle.table_rule.specs.declared.view.Gate.TheVariants.{Inside, Closed}
 use Rattle.table_rule.specs.declared.view.Own.{Own}
 use Rattle.table_rule.specs.declared.view.View.{View}
-use Rattle.table_rule.specs.Clearing.{HasClosed, Clears}
+use Rattle.table_rule.specs.Clearing.{HasClosed, Clears, IsCleared}
 use Rattle.sync_model.specs.EndsOfHistory.{HasKeysBelow}
 use Rattle.table_words.specs.Laws.{HistoryLaws}
 use Rattle.table_rule.specs.Layout.{root_word, callers_of}
 use Rattle.table_rule.specs.Ledger.{Owned, Fits}
 use Rattle.table_rule.specs.Making.{HasUnit, MadeCall}
-use Rattle.table_rule.specs.Owed.{HasRoom, AtGate, Suits, HoldsLock}
+use Rattle.table_rule.specs.Owed.{HasRoom, AtGate, IsCutOff, Suits, HoldsLock}
+use Rattle.table_rule.specs.Pruning.{having_cut}
 use Rattle.table_rule.specs.Rule.{TableState, Kept}
 use Rattle.table_rule.specs.Shape.{Shape, start_of}
 use Rattle.table_rule.specs.Views.{called_view, with_item, spend, spend_own, view_state}
 use Rattle.table_words.proofs.Closing.{at_gate, not_inside}
 use Rattle.table_words.proofs.Frames.{Later, Apart, cut_on, room_on}
 use Rattle.table_words.proofs.Ledgers.{longer, MayPlace, with_one, adds_one, lawful_after, history_on, grows_on, none_after, fits_after, called, first, contents_on}
-use Rattle.table_words.proofs.Lists.{past_end}
+use Rattle.table_words.proofs.Lists.{past_end, in_more, words_at, words_at-index}
 use Rattle.table_words.proofs.Moves.{Keeps, moves}
-use Rattle.table_words.proofs.NewRoots.{with_root, Ground, EmptiesMap, behind_heads, fine_rooted, gates_rooted, later_rooted, apart_rooted, part_out, was_held}
+use Rattle.table_words.proofs.NewRoots.{with_root, old_node, cut_here, Ground, EmptiesMap, behind_heads, fine_rooted, gates_rooted, later_rooted, apart_rooted, part_out, was_held}
 
 module _ (k : Begin) (laws : HistoryLaws) (s : TableState) (r : Kept k s) (id : ℕ) (me : Me (Unit {0}) View) (at_me : get_elem? s.views id ≡ some me.0) (own : Own) (owns : List Own) (is : me.0.owns ≡ own ∷ owns)
     (m : ℕ) (has : HasClosed k me m true) (spare : 0 < own.spare) (blank : own.draft ≡ []) where
@@ -103,8 +105,12 @@ module _ (k : Begin) (laws : HistoryLaws) (s : TableState) (r : Kept k s) (id : 
   abbrev pub own_after : Own
   own_after = spend_own 18 (record own { items = own.items ++ item ∷ [] })
 
+  -- the old root is cut off
+  abbrev pub node_cut : CutNode
+  node_cut = record { node = slice_index s.words (root_word k m); map = m; level = 0; key = 0; before = r.log; words = words_at s.words (slice_index s.words (root_word k m)) 18 }
+
   abbrev pub view_after : View
-  view_after = called_view me.0 (own_after ∷ owns) (history_with r.log me.0.number item)
+  view_after = having_cut (called_view me.0 (own_after ∷ owns) (history_with r.log me.0.number item)) (node_cut ∷ [])
 
   abbrev shape : Shape
   shape = with_root r.shape m own.next (length r.log)
@@ -114,6 +120,21 @@ module _ (k : Begin) (laws : HistoryLaws) (s : TableState) (r : Kept k s) (id : 
 
   later : Later r.shape shape r.log (history_with r.log me.0.number item) s.words words
   later = later_rooted k r.shape r.log (history_with r.log me.0.number item) s.words m own.next laws ground empties
+
+  is_cut_off : IsCutOff k shape (history_with r.log me.0.number item) words node_cut
+  is_cut_off =
+      let old : ℕ = slice_index s.words (root_word k m) in
+      let root = r.fine.live m [] (slice_index s.words (root_word k m)) (r.fine.roots m gate.0) in
+      let lies = (r.fine.nodes (slice_index s.words (root_word k m)) root.0).lies in record {
+        node = later.node old root.0;
+        map = later.map old root.0 ∙ root.1;
+        key = omega arith;
+        level = omega arith;
+        path = later.path old root.0 ∙ root.2;
+        history = history;
+        cut = cut_here k r.shape r.log (history_with r.log me.0.number item) s.words m own.next laws ground empties old (old_node k r.shape r.log (history_with r.log me.0.number item) s.words m own.next laws ground empties old root.0) root.1 root.3;
+        words = λ n below. behind_heads k r.shape r.log (history_with r.log me.0.number item) s.words m own.next laws ground empties (old + n) (omega arith) ∙ sym (words_at-index s.words old 18 n below);
+      }
 
   apart : Apart k me.0.number r.shape shape s.words words
   apart = apart_rooted k r.shape r.log (history_with r.log me.0.number item) s.words m own.next laws ground empties me.0.number (gate.2 refl) (λ i below. room.mine i (let left = spare in omega arith))
@@ -164,7 +185,10 @@ module _ (k : Begin) (laws : HistoryLaws) (s : TableState) (r : Kept k s) (id : 
     steady = λ w e inside. absurd (none-some w (sym has.walk ∙ e));
     leaf = λ z e. absurd (none-some z (sym has.leaf ∙ e));
     spot = λ z e. absurd (none-some z (sym has.spot ∙ e));
-    pruned = λ d cut. cut_on k r.shape shape r.log (history_with r.log me.0.number item) s.words words later d (u.pruned d cut);
+    cut = λ d has. elim (in_more node_cut me.0.cut d has) [
+      | inl it ↦ subst (IsCutOff k shape (history_with r.log me.0.number item) words) it is_cut_off
+      | inr before ↦ cut_on k r.shape shape r.log (history_with r.log me.0.number item) s.words words later d (u.cut d before)
+    ];
     room = rooms_after;
     gate = subst (AtGate k shape me.0.number) (sym has.gate) (gate.0, gate.1, gate.2);
     only = only_after;
@@ -181,6 +205,9 @@ module _ (k : Begin) (laws : HistoryLaws) (s : TableState) (r : Kept k s) (id : 
     | inr other ↦ r.keys n q x (sym (empties.others n q other) ∙ at)
   ]
 
+  fits_now : Fits (callers_of k) (history_with r.log me.0.number item) (with_one r.calls me.0.number item) r.claim id view_after
+  fits_now = let f = fits_after k laws r.log r.calls (callers_of k) r.claim id r.lawful me.0 own owns is fits item may own_after refl in record { seen = f.seen; heard = f.heard; long = f.long; front = f.front; owns = f.owns }
+
   keeps_all : Keeps k s r id me.0.number words view_after
   keeps_all = record {
     log = history_with r.log me.0.number item;
@@ -196,18 +223,21 @@ module _ (k : Begin) (laws : HistoryLaws) (s : TableState) (r : Kept k s) (id : 
     apart = apart;
     grows = grows;
     others = (adds_one r.calls me.0.number item).others;
-    fits = fits_after k laws r.log r.calls (callers_of k) r.claim id r.lawful me.0 own owns is fits item may own_after refl;
+    fits = fits_now;
     suits = suits_after;
   }
 
   pub kept_cleared : Kept k record { words = set s.words (root_word k m) own.next; homes = s.homes; views = set s.views id view_after }
   kept_cleared = moves k laws s r id me.0.number words view_after keeps_all
 
-  pub is_made : MadeCall m Clear Done 18 me.0 view_after
+  pub is_cleared : IsCleared m view_after node_cut
+  is_cleared = record { map = refl; top = refl; entry = entry_of me.0.number item; before = refl }
+
+  pub is_made : MadeCall m Clear Done 18 (having_cut me.0 (node_cut ∷ [])) view_after
   is_made = record {
     item = item;
     seen = history_with r.log me.0.number item;
-    is = ap (λ o. called_view me.0 o (history_with r.log me.0.number item)) (ap (λ o. spend 18 (with_item o item)) (sym is));
+    is = ap (λ o. called_view (having_cut me.0 (node_cut ∷ [])) o (history_with r.log me.0.number item)) (ap (λ o. spend 18 (with_item o item)) (sym is));
     called = subst (λ b. Called (start_of b) (calls.Map m Clear) (replies.Map Done) 1 (view_state me.0) (view_state view_after)) (sym has.begin)
         (called k laws r.log r.calls (callers_of k) r.claim id r.lawful me.0 own owns is fits item may own_after refl 1 (let left = spare in omega arith));
   }
@@ -220,5 +250,5 @@ clears k laws id me m next has (own, owns, is, blank, next_is, spare) = subst (�
       keeps,
       tt,
       kept_cleared k laws s r id me at_me own owns is m has spare blank,
-      (refl, is_made k laws s r id me at_me own owns is m has spare blank),
+      (refl, (node_cut k laws s r id me at_me own owns is m has spare blank, is_cleared k laws s r id me at_me own owns is m has spare blank, is_made k laws s r id me at_me own owns is m has spare blank)),
     ))

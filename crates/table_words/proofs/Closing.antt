@@ -58,6 +58,7 @@ module _ (k : Begin) (sh : Shape) (log : List SharedEntry) (ws : List ℕ) (j x 
     path = l.path;
     cut = l.cut;
     fresh = l.fresh;
+    cut_word = l.cut_word;
     parent = l.parent;
     dead = l.dead;
     entry = l.entry;

@@ -1,6 +1,6 @@
 -- A seat that holds the locks of a dead node and of its parent empties the parent's slot.
-use Rattle.std.proofs.Common.{◌≡◌, ℕ, zero, suc, ◌+◌, ◌<◌, true, cond, List, [], ◌∷◌, length, set, get_or, Some, None, ◌⊎◌, inl, inr, refl, sym, ap, ◌∙◌, subst, arith}
-use Rattle.std.specs.Prelude.{Contains}
+use Rattle.std.proofs.Common.{◌≡◌, ℕ, zero, suc, ◌+◌, ◌<◌, true, cond, List, [], ◌∷◌, length, set, Some, None, slice_index, replicate, ◌⊎◌, inl, inr, refl, sym, ap, ◌∙◌, subst, arith}
+use Rattle.std.proofs.lemmas.List.{append-nil}
 use Rattle.std.proofs.lemmas.Option.{none-some, same_Some}
 use mathlib.Core.Option.{some}
 use lib.ListN.{get_elem?}
@@ -8,7 +8,7 @@ use Rattle.atomic_table.specs.Table.{Me, keeps, Allows}
 use Rattle.table_rule.specs.declared.begin.Begin.{Begin}
 use Rattle.table_rule.specs.declared.view.Gate.{Gate}
 use Rattle.table_rule.specs.declared.view.Gate.TheVariants.{Outside, Inside, Closed}
-use Rattle.table_rule.specs.declared.view.DeadNode.{DeadNode}
+use Rattle.table_rule.specs.declared.view.CutNode.{CutNode}
 use Rattle.table_rule.specs.declared.view.Lock.{Lock}
 use Rattle.table_rule.specs.declared.view.Own.{Own}
 use Rattle.table_rule.specs.declared.view.View.{View}
@@ -19,13 +19,14 @@ use Rattle.table_rule.specs.Making.{bare}
 use Rattle.table_rule.specs.Layout.{callers_of}
 use Rattle.table_rule.specs.Ledger.{Fits}
 use Rattle.table_rule.specs.Owed.{IsCutOff, Locks, AtGate, Suits}
-use Rattle.table_rule.specs.Pruning.{dead_node, having_cut, HoldsBoth}
+use Rattle.table_rule.specs.Pruning.{dead_words, having_cut, HoldsBoth, IsPruned}
 use Rattle.table_rule.specs.Rule.{TableState, Kept}
-use Rattle.table_rule.specs.Shape.{Shape}
+use Rattle.table_rule.specs.Shape.{Shape, Fine}
 use Rattle.table_words.specs.TrieLaws.{TrieLaws}
 use Rattle.table_rule.specs.Writing.{holding}
 use Rattle.table_words.proofs.Cutting.{with_cut, Stub, fine_cut, gates_cut, later_cut, steady_cut, apart_cut, room_cut, cut_off, lock_same, parent_same, cut_here, other_reachable, was_reachable}
 use Rattle.table_words.proofs.Frames.{Later}
+use Rattle.table_words.proofs.Lists.{in_more, zeros}
 use Rattle.table_words.proofs.LockWords.{by_first, same_map}
 use Rattle.table_words.proofs.Still.{still, fits_holding, suits_holding}
 use Rattle.table_words.proofs.UpperLocks.{above_other}
@@ -35,19 +36,11 @@ same_gate k sh child now c Outside at = at
 same_gate k sh child now c (Inside m) at = at
 same_gate k sh child now c (Closed m alone) at = at
 
--- what is in a list is its first, or among the others
-in_more : (d : DeadNode) (nodes : List DeadNode) (e : DeadNode) → Contains (d ∷ nodes) e → (d ≡ e) ⊎ Contains nodes e
-in_more d nodes e (i, below, at) = by_place i below at
-  where
-    by_place : (i : ℕ) → i < suc (length nodes) → get_or (d ∷ nodes) i e ≡ e → (d ≡ e) ⊎ Contains nodes e
-    by_place zero below at = inl at
-    by_place (suc i) below at = inr (i, omega arith, at)
-
 module _ (k : Begin) (laws : HistoryLaws) (tries : TrieLaws) (s : TableState) (r : Kept k s) (id : ℕ) (me : Me (Unit {0}) View) (at_me : get_elem? s.views id ≡ some me.0) (l u : Lock) (both : HoldsBoth k me l u true) (own : Own) (owns : List Own) (is : me.0.owns ≡ own ∷ owns) where
   suits : Suits k r.shape r.log r.calls s.words me.0
   suits = r.suits id me.0 at_me both.live
 
-  lower : (m : ℕ) × (me.0.gate ≡ Inside m) × Locks k r.shape s.words me.0.number m l
+  pub lower : (m : ℕ) × (me.0.gate ≡ Inside m) × Locks k r.shape s.words me.0.number m l
   lower = suits.lock l both.lock
 
   upper : (m : ℕ) × (me.0.gate ≡ Inside m) × Locks k r.shape s.words me.0.number m u
@@ -118,18 +111,40 @@ module _ (k : Begin) (laws : HistoryLaws) (tries : TrieLaws) (s : TableState) (r
       (λ z e. absurd (none-some z e))
       suits.nobody
 
-  -- the node is cut off, and dead
-  is_cut_off : IsCutOff shape words (dead_node l)
+  fine_after : Fine k shape r.log words
+  fine_after = fine_cut k r.shape r.log s.words u.node u.level u.key l.node tries stub
+
+  -- the node is cut off now, and dead
+  abbrev pub node_cut : CutNode
+  node_cut = record { node = l.node; map = lower.0; level = l.level; key = l.key; before = r.log; words = dead_words l.up }
+
+  lock_now : slice_index words l.node ≡ dead_word
+  lock_now = lock_same k r.shape r.log s.words u.node u.level u.key l.node tries stub l.node lower.2.node ∙ stub.dead
+
+  words_now : (n : ℕ) → n < 18 → slice_index words (l.node + n) ≡ slice_index (dead_words l.up) n
+  words_now zero below = let at : l.node + 0 ≡ l.node = omega arith in ap (slice_index words) at ∙ lock_now
+  words_now (suc zero) below = parent_same k r.shape r.log s.words u.node u.level u.key l.node tries stub l.node lower.2.node ∙ lower.2.parent
+  words_now (suc (suc slot)) below =
+      let at : l.node + suc (suc slot) ≡ slot_word l.node slot = omega arith in
+      ap (slice_index words) at ∙ fine_after.dead l.node slot lower.2.node lock_now (omega arith) ∙ sym (zeros 16 slot)
+
+  is_cut_off : IsCutOff k shape r.log words node_cut
   is_cut_off = record {
     node = lower.2.node;
-    moment = length r.log;
+    map = lower.2.map;
+    key = lower.2.key;
+    level = lower.2.level;
+    path = lower.2.path;
+    history = ([], sym (append-nil r.log));
     cut = cut_here k r.shape r.log s.words u.node u.level u.key l.node tries stub;
-    word = lock_same k r.shape r.log s.words u.node u.level u.key l.node tries stub l.node lower.2.node ∙ stub.dead;
-    parent = parent_same k r.shape r.log s.words u.node u.level u.key l.node tries stub l.node lower.2.node ∙ lower.2.parent;
+    words = words_now;
   }
 
+  pub is_pruned : IsPruned me.0 l node_cut
+  is_pruned = record { node = refl; map = lower.1; level = refl; key = refl; seen = (r.fits id me.0 at_me both.live).seen; words = refl }
+
   abbrev pub view_after : View
-  view_after = having_cut (holding me.0 me.0.gate (Some (bare u)) None) (dead_node l ∷ [])
+  view_after = having_cut (holding me.0 me.0.gate (Some (bare u)) None) (node_cut ∷ [])
 
   suits_after : Suits k shape r.log r.calls words view_after
   suits_after = let w = suits_bare in record {
@@ -138,7 +153,7 @@ module _ (k : Begin) (laws : HistoryLaws) (tries : TrieLaws) (s : TableState) (r
     steady = w.steady;
     leaf = w.leaf;
     spot = w.spot;
-    pruned = λ d has. elim (in_more (dead_node l) me.0.pruned d has) [ inl it ↦ subst (IsCutOff shape words) it is_cut_off | inr before ↦ w.pruned d before ];
+    cut = λ d has. elim (in_more node_cut me.0.cut d has) [ inl it ↦ subst (IsCutOff k shape r.log words) it is_cut_off | inr before ↦ w.cut d before ];
     room = w.room;
     gate = w.gate;
     only = w.only;
@@ -152,9 +167,9 @@ module _ (k : Begin) (laws : HistoryLaws) (tries : TrieLaws) (s : TableState) (r
   fits_after : Fits (callers_of k) r.log r.calls r.claim id view_after
   fits_after = let f = fits_holding k laws s r id me.0 at_me both.live own owns is me.0.gate (Some (bare u)) None in record { seen = f.seen; heard = f.heard; long = f.long; front = f.front; owns = f.owns }
 
-  pub kept_cut : Kept k record { words = set s.words (slot_word u.node (nibble u.key k.seed u.level)) 0; homes = s.homes; views = set s.views id (having_cut (holding me.0 me.0.gate (Some (bare u)) None) (dead_node l ∷ [])) }
+  pub kept_cut : Kept k record { words = set s.words (slot_word u.node (nibble u.key k.seed u.level)) 0; homes = s.homes; views = set s.views id view_after }
   kept_cut = still k laws s r id me.0 at_me both.live own owns is shape words view_after fits_after
-      (fine_cut k r.shape r.log s.words u.node u.level u.key l.node tries stub)
+      fine_after
       (λ m below. gates_cut k r.shape r.log s.words u.node u.level u.key l.node tries stub m below (r.gates m below))
       later
       (apart_cut k r.shape r.log s.words u.node u.level u.key l.node tries stub me.0.number upper.2.mine lower.2.mine)
@@ -162,7 +177,13 @@ module _ (k : Begin) (laws : HistoryLaws) (tries : TrieLaws) (s : TableState) (r
 
 -- a seat that holds both locks may empty the parent's slot, where the node is dead
 pub cuts_off : (k : Begin) → HistoryLaws → TrieLaws → (id : ℕ) (me : Me (Unit {0}) View) (l u : Lock) → HoldsBoth k me l u true
-    → Allows (Kept k) 0 id me (slot_word u.node (nibble u.key k.seed u.level)) (λ n. 0) (λ found after. (after.1 ≡ me.1) × (after.0 ≡ having_cut (holding me.0 me.0.gate (Some (bare u)) None) (dead_node l ∷ [])))
+    → Allows (Kept k) 0 id me (slot_word u.node (nibble u.key k.seed u.level)) (λ n. 0) (λ found after. (after.1 ≡ me.1) × ((d : CutNode) × IsPruned me.0 l d × (after.0 ≡ having_cut (holding me.0 me.0.gate (Some (bare u)) None) (d ∷ []))))
 cuts_off k laws tries id me l u both =
-    by_first me (Allows (Kept k) 0 id me (slot_word u.node (nibble u.key k.seed u.level)) (λ n. 0) (λ found after. (after.1 ≡ me.1) × (after.0 ≡ having_cut (holding me.0 me.0.gate (Some (bare u)) None) (dead_node l ∷ [])))) both.some
-    (λ own owns is s r one at_me bounded. (having_cut (holding me.0 me.0.gate (Some (bare u)) None) (dead_node l ∷ []), keeps, tt, kept_cut k laws tries s r id me at_me l u both own owns is, (refl, refl)))
+    by_first me (Allows (Kept k) 0 id me (slot_word u.node (nibble u.key k.seed u.level)) (λ n. 0) (λ found after. (after.1 ≡ me.1) × ((d : CutNode) × IsPruned me.0 l d × (after.0 ≡ having_cut (holding me.0 me.0.gate (Some (bare u)) None) (d ∷ []))))) both.some
+    (λ own owns is s r one at_me bounded. (
+      view_after k laws tries s r id me at_me l u both own owns is,
+      keeps,
+      tt,
+      kept_cut k laws tries s r id me at_me l u both own owns is,
+      (refl, (node_cut k laws tries s r id me at_me l u both own owns is, is_pruned k laws tries s r id me at_me l u both own owns is, refl)),
+    ))

@@ -302,6 +302,7 @@ module _ (k : Begin) (sh : Shape) (log : List SharedEntry) (ws : List ℕ) (p d 
       | inl it ↦ let at = same_Some (length log) moment (sym cut_here ∙ ap shape.cut_of (sym it) ∙ cut) in omega arith
       | inr ne ↦ absurd (none-some moment (sym live ∙ sym (cut_off q ne) ∙ cut))
     ];
+    cut_word = λ q moment n is cut below. words.other_node k sh log ws p (slot_word p (nibble key k.seed d)) 0 fine stub.node from to q (q + n) is (λ e. none-some moment (sym stub.reachable ∙ ap sh.cut_of (sym e) ∙ cut)) (omega arith) (omega arith);
     parent = parent_same;
     dead = λ q is dead. lock_same q is ∙ dead;
     entry = λ q is. is;

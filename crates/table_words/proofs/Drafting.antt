@@ -155,7 +155,7 @@ module _ (k : Begin) (laws : HistoryLaws) (s : TableState) (r : Kept k s) (id : 
     steady = λ w e gate. elim (u.steady w e gate) [ inl living ↦ inl living | inr d ↦ inr (later.dead w.node (u.walk w e).node d) ];
     leaf = λ l e. leaf_on k r.shape (with_inside r.shape r.shape.inside) r.log r.log s.words (set s.words (own.next + length own.draft) x) later l (u.leaf l e);
     spot = λ z e. stands_on k r.shape (with_inside r.shape r.shape.inside) r.log r.log s.words (set s.words (own.next + length own.draft) x) later laws r.calls r.calls (λ c. ([], sym (append-nil (r.calls c)))) z (u.spot z e);
-    pruned = λ d cut. cut_on k r.shape (with_inside r.shape r.shape.inside) r.log r.log s.words (set s.words (own.next + length own.draft) x) later d (u.pruned d cut);
+    cut = λ d cut. cut_on k r.shape (with_inside r.shape r.shape.inside) r.log r.log s.words (set s.words (own.next + length own.draft) x) later d (u.cut d cut);
     room = room_on;
     gate = same_gate v.gate u.gate;
     only = only_on;

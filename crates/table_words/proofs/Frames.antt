@@ -10,7 +10,7 @@ use Rattle.table_rule.specs.declared.begin.Begin.{Begin}
 use Rattle.table_rule.specs.declared.view.Own.{Own}
 use Rattle.table_rule.specs.declared.view.Walk.{Walk}
 use Rattle.table_rule.specs.declared.view.Leaf.{Leaf}
-use Rattle.table_rule.specs.declared.view.DeadNode.{DeadNode}
+use Rattle.table_rule.specs.declared.view.CutNode.{CutNode}
 use Rattle.table_rule.specs.declared.view.Lock.{Lock}
 use Rattle.table_rule.specs.declared.view.Spot.{Spot}
 use Rattle.table_rule.specs.declared.view.Gate.{Gate}
@@ -31,6 +31,8 @@ pub record Later (sh new : Shape) (log log' : List SharedEntry) (ws ws' : List �
   pub path : (p : ℕ) → sh.kind_of p ≡ 1 → new.path_of p ≡ sh.path_of p
   pub cut : (p moment : ℕ) → sh.kind_of p ≡ 1 → sh.cut_of p ≡ Some moment → new.cut_of p ≡ Some moment
   pub fresh : (p moment : ℕ) → sh.kind_of p ≡ 1 → sh.cut_of p ≡ None → new.cut_of p ≡ Some moment → length log ≤ moment
+  -- each word of a node that was cut off stays
+  pub cut_word : (p moment n : ℕ) → sh.kind_of p ≡ 1 → sh.cut_of p ≡ Some moment → n < 18 → slice_index ws' (p + n) ≡ slice_index ws (p + n)
   pub parent : (p : ℕ) → sh.kind_of p ≡ 1 → slice_index ws' (parent_word p) ≡ slice_index ws (parent_word p)
   pub dead : (p : ℕ) → sh.kind_of p ≡ 1 → slice_index ws p ≡ dead_word → slice_index ws' p ≡ dead_word
   pub entry : (p : ℕ) → sh.kind_of p ≡ 2 → new.kind_of p ≡ 2
@@ -85,14 +87,20 @@ module _ (k : Begin) (sh new : Shape) (log log' : List SharedEntry) (ws ws' : Li
   pub leaf_on : (l : Leaf) → IsLeaf sh ws l → IsLeaf new ws' l
   leaf_on l r = record { entry = later.entry l.place r.entry; key = later.key l.place r.entry ∙ r.key; value = later.value l.place r.entry ∙ r.value }
 
-  -- a node that was cut off stays dead, and keeps its parent's place
-  pub cut_on : (d : DeadNode) → IsCutOff sh ws d → IsCutOff new ws' d
+  pub begins_on : (xs : List SharedEntry) → Begins log xs → Begins log' xs
+  begins_on xs b = (b.0 ++ later.history.0, later.history.1 ∙ ap (λ h. h ++ later.history.0) b.1 ∙ append_assoc xs b.0 later.history.0)
+
+  -- a node that was cut off stays as it was then
+  pub cut_on : (d : CutNode) → IsCutOff k sh log ws d → IsCutOff k new log' ws' d
   cut_on d r = record {
     node = later.node d.node r.node;
-    moment = r.moment;
-    cut = later.cut d.node r.moment r.node r.cut;
-    word = later.dead d.node r.node r.word;
-    parent = later.parent d.node r.node ∙ r.parent;
+    map = later.map d.node r.node ∙ r.map;
+    key = r.key;
+    level = r.level;
+    path = later.path d.node r.node ∙ r.path;
+    history = begins_on d.before r.history;
+    cut = later.cut d.node (length d.before) r.node r.cut;
+    words = λ n below. later.cut_word d.node (length d.before) n r.node r.cut below ∙ r.words n below;
   }
 
   module _ (laws : HistoryLaws) (calls calls' : ℕ → List Item) (grows : Grows calls calls') where
@@ -160,7 +168,7 @@ module _ (k : Begin) (sh new : Shape) (log log' : List SharedEntry) (ws ws' : Li
         steady = λ w is inside. stays w inside (r.walk w is) (r.steady w is inside);
         leaf = λ l is. leaf_on l (r.leaf l is);
         spot = λ s is. stands_on s (r.spot s is);
-        pruned = λ d has. cut_on d (r.pruned d has);
+        cut = λ d has. cut_on d (r.cut d has);
         room = λ i own at. room_on (v.number + i) (away i own at) own (r.room i own at);
         gate = gate_on v.number v.gate standing r.gate;
         only = λ m i own at inside. r.only m i own at (sym (apart.inside (v.number + i) m (away i own at)) ∙ inside);
@@ -194,6 +202,3 @@ module _ (k : Begin) (sh new : Shape) (log log' : List SharedEntry) (ws ws' : Li
       front = laws.known calls calls' v.front (length v.seen) (length v.seen) grows (omega arith) f.front;
       owns = λ i own at. let o = f.owns i own at in let s = same (v.number + i) o.claimed in record { below = o.below; claimed = s.0; items = s.1 ∙ o.items; counted = o.counted; knew = o.knew };
     }
-      where
-        begins_on : (xs : List SharedEntry) → Begins log xs → Begins log' xs
-        begins_on xs b = (b.0 ++ later.history.0, later.history.1 ∙ ap (λ h. h ++ later.history.0) b.1 ∙ append_assoc xs b.0 later.history.0)

@@ -72,14 +72,15 @@ module _ (k : Begin) (sh : Shape) (log : List SharedEntry) (ws : List ℕ) (node
   pub gates_hold : (m : ℕ) → m < k.maps → Gated k sh ws m → Gated k (with_holder sh node holder) (set ws node x) m
   gates_hold m below g = record { word = head (gate_word k m) (omega arith) ∙ g.word; callers = g.callers; closers = g.closers }
 
-  pub later_hold : slice_index ws node ≢ dead_word → Later sh (with_holder sh node holder) log log ws (set ws node x)
-  later_hold alive = record {
+  pub later_hold : slice_index ws node ≢ dead_word → sh.cut_of node ≡ None → Later sh (with_holder sh node holder) log log ws (set ws node x)
+  later_hold alive reach = record {
     history = ([], sym (append-nil log));
     node = λ p is. is;
     map = λ p is. refl;
     path = λ p is. refl;
     cut = λ p moment is cut. cut;
     fresh = λ p moment is live cut. absurd (none-some moment (sym live ∙ cut));
+    cut_word = λ p moment n is cut below. other_node p (p + n) is (λ e. none-some moment (sym reach ∙ ap sh.cut_of (sym e) ∙ cut)) (omega arith) (omega arith);
     parent = λ p is. behind p (parent_word p) is (omega arith) (omega arith);
     dead = λ p is dead. same p (λ e. alive (ap (slice_index ws) (sym e) ∙ dead)) ∙ dead;
     entry = λ p is. is;

@@ -1,5 +1,6 @@
 -- Views in a list.
-use Rattle.std.proofs.Common.{◌≡◌, ◌≢◌, ℕ, zero, suc, ◌<◌, ◌≤◌, List, [], ◌∷◌, ◌++◌, length, set, Some, slice_get, slice_index, ◌⊎◌, inl, inr, ⊎_elim, refl, sym, ap, subst, arith}
+use Rattle.std.proofs.Common.{◌≡◌, ◌≢◌, ℕ, zero, suc, ◌+◌, ◌<◌, ◌≤◌, List, [], ◌∷◌, ◌++◌, length, set, get_or, Some, slice_get, slice_index, replicate, ◌⊎◌, inl, inr, ⊎_elim, refl, sym, ap, ◌∙◌, subst, arith}
+use Rattle.std.specs.Prelude.{Contains}
 use Rattle.std.proofs.lemmas.Option.{none-some, same_Some}
 use mathlib.Core.Option.{some, some-ne-none, some-injective}
 use lib.ListN.{get_elem?}
@@ -30,6 +31,14 @@ module _ {V : Type 0} where
   set_here (x ∷ xs) (suc i) v w e = set_here xs i v w e
 
 module _ {A : Type 0} where
+  -- what is in a list is its first, or among the others
+  pub in_more : (x : A) (xs : List A) (y : A) → Contains (x ∷ xs) y → (x ≡ y) ⊎ Contains xs y
+  in_more x xs y (i, below, at) = by_place i below at
+    where
+      by_place : (i : ℕ) → i < suc (length xs) → get_or (x ∷ xs) i y ≡ y → (x ≡ y) ⊎ Contains xs y
+      by_place zero below at = inl at
+      by_place (suc i) below at = inr (i, omega arith, at)
+
   -- an item of a list with one more is one of the list, or the last
   pub item_on : (xs : List A) (z x : A) (i : ℕ) → slice_get (xs ++ z ∷ []) i ≡ Some x → (slice_get xs i ≡ Some x) ⊎ ((i ≡ length xs) × (x ≡ z))
   item_on [] z x zero e = inr (refl, sym (same_Some z x e))
@@ -47,3 +56,19 @@ pub past_end : (xs : List ℕ) (i : ℕ) → length xs ≤ i → slice_index xs 
 past_end [] i past = refl
 past_end (x ∷ xs) zero past = absurd (omega arith)
 past_end (x ∷ xs) (suc i) past = past_end xs i (omega arith)
+
+-- a list of zeros has 0 everywhere
+pub zeros : (n i : ℕ) → slice_index (replicate n 0) i ≡ 0
+zeros zero i = refl
+zeros (suc n) zero = refl
+zeros (suc n) (suc i) = zeros n i
+
+-- so many words from a place on
+abbrev pub words_at : List ℕ → ℕ → ℕ → List ℕ
+words_at words place zero = []
+words_at words place (suc n) = slice_index words place ∷ words_at words (suc place) n
+
+pub words_at-index : (words : List ℕ) (place n i : ℕ) → i < n → slice_index (words_at words place n) i ≡ slice_index words (place + i)
+words_at-index words place zero i below = absurd (omega arith)
+words_at-index words place (suc n) zero below = let at : place ≡ place + 0 = omega arith in ap (slice_index words) at
+words_at-index words place (suc n) (suc i) below = let at : suc place + i ≡ place + suc i = omega arith in words_at-index words (suc place) n i (omega arith) ∙ ap (slice_index words) at

@@ -52,7 +52,7 @@ module _ (k : Begin) (laws : HistoryLaws) (s : TableState) (r : Kept k s) (id : 
   few = let below = (owned k laws s r id v at_me live own owns is).below in let most = r.begin.callers in omega arith
 
   module _ (node x holder : ℕ) (is_node : r.shape.kind_of node ≡ 1) (holds : x ≢ dead_word → holder ≡ x) (empty : x ≡ dead_word → (i : ℕ) → i < 16 → slice_index s.words (slot_word node i) ≡ 0)
-      (alive : slice_index s.words node ≢ dead_word) (alone : (d : ℕ) → d ≢ v.number → (r.shape.held_by node ≢ suc d) × (holder ≢ suc d)) where
+      (alive : (slice_index s.words node ≢ dead_word) × (r.shape.cut_of node ≡ None)) (alone : (d : ℕ) → d ≢ v.number → (r.shape.held_by node ≢ suc d) × (holder ≢ suc d)) where
     abbrev new : Shape
     new = with_holder r.shape node holder
 
@@ -60,7 +60,7 @@ module _ (k : Begin) (laws : HistoryLaws) (s : TableState) (r : Kept k s) (id : 
     words = set s.words node x
 
     later : Later r.shape (with_holder r.shape node holder) r.log r.log s.words (set s.words node x)
-    later = later_hold k r.shape r.log s.words node x holder r.fine is_node holds empty alive
+    later = later_hold k r.shape r.log s.words node x holder r.fine is_node holds empty alive.0 alive.1
 
     -- the lock of another node stays
     pub locks_off : (m : ℕ) (z : Lock) → z.node ≢ node → Locks k r.shape s.words v.number m z → Locks k (with_holder r.shape node holder) (set s.words node x) v.number m z
@@ -126,6 +126,9 @@ module _ (k : Begin) (laws : HistoryLaws) (s : TableState) (r : Kept k s) (id : 
     not_dead_yet : slice_index s.words node ≢ dead_word
     not_dead_yet dead = absurd (let e : 0 ≡ dead_word = sym free ∙ dead in omega arith)
 
+    living : (slice_index s.words node ≢ dead_word) × (r.shape.cut_of node ≡ None)
+    living = (not_dead_yet, at.live)
+
     nobody_holds : (d : ℕ) → d ≢ v.number → (r.shape.held_by node ≢ suc d) × (suc v.number ≢ suc d)
     nobody_holds d other = (λ held. absurd (let e : 0 ≡ suc d = sym (r.fine.held node at.node not_dead_yet ∙ free) ∙ held in omega arith), λ e. other (omega arith))
 
@@ -144,8 +147,8 @@ module _ (k : Begin) (laws : HistoryLaws) (s : TableState) (r : Kept k s) (id : 
       path = at.path;
       reachable = at.live;
       mine = holder_of r.shape node (suc v.number);
-      word = lock_word_is node (suc v.number) (suc v.number) at.node held_word_is no_corpse not_dead_yet nobody_holds;
-      parent = after_lock node (suc v.number) (suc v.number) at.node held_word_is no_corpse not_dead_yet nobody_holds (parent_word node) (omega arith) (omega arith);
+      word = lock_word_is node (suc v.number) (suc v.number) at.node held_word_is no_corpse living nobody_holds;
+      parent = after_lock node (suc v.number) (suc v.number) at.node held_word_is no_corpse living nobody_holds (parent_word node) (omega arith) (omega arith);
       found = λ slot word e. absurd (none-some (slot, word) e);
       few = omega arith;
       empty_so_far = λ slot below. absurd (omega arith);
@@ -164,14 +167,14 @@ module _ (k : Begin) (laws : HistoryLaws) (s : TableState) (r : Kept k s) (id : 
       n,
       inside,
       subst (Locks k (with_holder r.shape node (suc v.number)) (set s.words node (suc v.number)) v.number n) (same_Some l z e)
-          (locks_off node (suc v.number) (suc v.number) at.node held_word_is no_corpse not_dead_yet nobody_holds n l ne was),
+          (locks_off node (suc v.number) (suc v.number) at.node held_word_is no_corpse living nobody_holds n l ne was),
     )
 
     pub knows_taken : (lock upper : Option Lock) → HoldsLock (holding v v.gate lock upper) node → ((p : ℕ) → HoldsLock v p → HoldsLock (holding v v.gate lock upper) p) → KnowsLocks v (with_holder r.shape node (suc v.number)) v.gate lock upper
-    knows_taken = knows_held node (suc v.number) (suc v.number) at.node held_word_is no_corpse not_dead_yet nobody_holds
+    knows_taken = knows_held node (suc v.number) (suc v.number) at.node held_word_is no_corpse living nobody_holds
 
     pub kept_taken : (lock upper : Option Lock) → KnowsLocks v (with_holder r.shape node (suc v.number)) v.gate lock upper → Holds lock → Holds upper → Kept k record { words = set s.words node (suc v.number); homes = s.homes; views = set s.views id (holding v v.gate lock upper) }
-    kept_taken = kept_held node (suc v.number) (suc v.number) at.node held_word_is no_corpse not_dead_yet nobody_holds
+    kept_taken = kept_held node (suc v.number) (suc v.number) at.node held_word_is no_corpse living nobody_holds
 
   -- the seat knows more of the node whose lock it holds, and nothing changes
   pub kept_knowing : (z : Lock) → ((p : ℕ) → HoldsLock v p → z.node ≡ p) → ((y : Lock) → Some z ≡ Some y → (m : ℕ) × (v.gate ≡ Inside m) × Locks k r.shape s.words v.number m y) → Kept k record { words = s.words; homes = s.homes; views = set s.views id (holding v v.gate (Some z) None) }

@@ -102,11 +102,11 @@ unlocks k laws id me l held = by_first me (Allows (Kept k) 0 id me l.node (λ n.
       | inl e ↦ absurd (let z : 0 ≡ suc (v.number + i) = sym (holder_of r.shape l.node 0) ∙ ap (with_holder r.shape l.node 0).held_by (sym e) ∙ now in omega arith)
       | inr ne ↦ absurd (ne (sym (holds_one v l p held.lock held.upper ((r.suits id v at_me held.live).holder p i o at reach (sym (other_holder r.shape l.node 0 p ne) ∙ now)))))
     ]) in
-    let free = suits_held k laws s r id v at_me held.live own owns is l.node 0 0 node holds empty alive alone None None knows (λ z e. absurd (none-some z e)) (λ z e. absurd (none-some z e)) in (
+    let free = suits_held k laws s r id v at_me held.live own owns is l.node 0 0 node holds empty (alive, was.2.reachable) alone None None knows (λ z e. absurd (none-some z e)) (λ z e. absurd (none-some z e)) in (
       standing (holding v v.gate None None) None None,
       keeps,
       tt,
-      kept_as k laws s r id v at_me held.live own owns is l.node 0 0 node holds empty alive alone (standing (holding v v.gate None None) None None)
+      kept_as k laws s r id v at_me held.live own owns is l.node 0 0 node holds empty (alive, was.2.reachable) alone (standing (holding v v.gate None None) None None)
           (fits_nowhere (callers_of k) r.log r.calls r.claim id (holding v v.gate None None) (fits_holding k laws s r id v at_me held.live own owns is v.gate None None))
           (suits_nowhere k (with_holder r.shape l.node 0) r.log r.calls (set s.words l.node 0) (holding v v.gate None None) free),
       (refl, refl),

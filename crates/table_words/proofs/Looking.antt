@@ -37,7 +37,7 @@ module _ (k : Begin) (laws : HistoryLaws) (s : TableState) (r : Kept k s) (id : 
     steady = u.steady;
     leaf = u.leaf;
     spot = u.spot;
-    pruned = u.pruned;
+    cut = u.cut;
     room = u.room;
     gate = u.gate;
     only = u.only;

@@ -144,7 +144,7 @@ module _ (k : Begin) (sh : Shape) (log log' : List SharedEntry) (ws : List ℕ) 
   first_unused : sh.part_of unit ≡ 0
   first_unused = let at : unit + 0 ≡ unit = omega arith in subst (λ n. sh.part_of n ≡ 0) at (ground.unused 0 (omega arith))
 
-  old_node : (p : ℕ) → sh.kind_of p ≡ 1 → p ≢ unit
+  pub old_node : (p : ℕ) → sh.kind_of p ≡ 1 → p ≢ unit
   old_node p is e =
       let n = fine.nodes p is in let lies = n.lies in
       let at : p + 0 ≡ p = omega arith in
@@ -182,7 +182,7 @@ module _ (k : Begin) (sh : Shape) (log log' : List SharedEntry) (ws : List ℕ) 
   cut_elsewhere : (p : ℕ) → p ≢ unit → sh.map_of p ≢ m → sh.cut_of p ≡ None → (with_root sh m unit (length log)).cut_of p ≡ None
   cut_elsewhere p ne other live = cut_off p ne ∙ ap (cut_now sh m unit (length log) (sh.map_of p == m)) live ∙ ap (λ b. cond b (Some (length log)) None) (ne_eqb (sh.map_of p) m other)
 
-  cut_here : (p : ℕ) → p ≢ unit → sh.map_of p ≡ m → sh.cut_of p ≡ None → (with_root sh m unit (length log)).cut_of p ≡ Some (length log)
+  pub cut_here : (p : ℕ) → p ≢ unit → sh.map_of p ≡ m → sh.cut_of p ≡ None → (with_root sh m unit (length log)).cut_of p ≡ Some (length log)
   cut_here p ne mine live = cut_off p ne ∙ ap (cut_now sh m unit (length log) (sh.map_of p == m)) live ∙ ap (λ b. cond b (Some (length log)) None) (eq-eqb (sh.map_of p) m mine)
 
   -- what is reachable yet was so, in another map
@@ -412,6 +412,7 @@ module _ (k : Begin) (sh : Shape) (log log' : List SharedEntry) (ws : List ℕ) 
       | inl mine ↦ let at = same_Some (length log) moment (sym (cut_here p (old_node p is) mine live) ∙ cut) in omega arith
       | inr other ↦ absurd (none-some moment (sym (cut_elsewhere p (old_node p is) other live) ∙ cut))
     ];
+    cut_word = λ p moment n is cut below. let lies = (fine.nodes p is).lies in behind_heads (p + n) (omega arith);
     parent = λ p is. let lies = (fine.nodes p is).lies in behind_heads (parent_word p) (omega arith);
     dead = λ p is dead. behind_heads p (fine.nodes p is).lies ∙ dead;
     entry = λ p is. kind_off p (old_leaf p is) ∙ is;

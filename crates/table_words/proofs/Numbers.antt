@@ -77,6 +77,7 @@ module _ (k : Begin) (laws : HistoryLaws) (sh : Shape) (log log' : List SharedEn
       path = λ p is. refl;
       cut = λ p moment is cut. cut;
       fresh = λ p moment is live cut. absurd (let e : None ≡ Some moment = sym live ∙ cut in (cc));
+      cut_word = λ p moment n is cut below. in_node p (p + n) is (omega arith);
       parent = λ p is. in_node p (parent_word p) is (omega arith);
       dead = λ p is dead. in_node p p is (omega arith) ∙ dead;
       entry = λ p is. is;

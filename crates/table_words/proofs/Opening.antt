@@ -248,7 +248,7 @@ module _ (k : Begin) (begin : IsBegin k) (ws : List ℕ) (is_blank : IsBlank k w
     steady = λ w is inside. absurd (none-some w is);
     leaf = λ l is. absurd (none-some l is);
     spot = λ s is. absurd (none-some s is);
-    pruned = λ d has. absurd (let less = has.1 in omega arith);
+    cut = λ d has. absurd (let less = has.1 in omega arith);
     room = λ i own at. let r = new_own (first_room k) k.spares i own at in let lies = r.lies in let within = r.within in let number : i ≡ 0 + i = omega arith in subst (λ (c : ℕ). HasRoom k blank ws c own) number record {
       lies = omega arith;
       within = omega arith;

@@ -111,7 +111,7 @@ module _ (k : Begin) (laws : HistoryLaws) (s : TableState) (r : Kept k s) (id : 
       steady = u.steady;
       leaf = u.leaf;
       spot = u.spot;
-      pruned = u.pruned;
+      cut = u.cut;
       room = room_after u.room;
       gate = u.gate;
       only = λ m i o at inside. only_after u.only m i o at inside;

@@ -54,6 +54,7 @@ module _ (k : Begin) (sh : Shape) (log : List SharedEntry) (ws : List ℕ) (j x 
     path = λ p is. refl;
     cut = λ p moment is cut. cut;
     fresh = λ p moment is live cut. absurd (none-some moment (sym live ∙ cut));
+    cut_word = λ p moment n is cut below. in_node p (p + n) is (omega arith) (omega arith);
     parent = λ p is. in_node p (parent_word p) is (omega arith) (omega arith);
     dead = λ p is dead. in_node p p is (omega arith) (omega arith) ∙ dead;
     entry = λ p is. is;

@@ -90,7 +90,7 @@ module _ (k : Begin) (laws : HistoryLaws) (s : TableState) (r : Kept k s) (id : 
     steady = steady;
     leaf = leaves;
     spot = λ z e. stands_on k r.shape r.shape r.log r.log s.words s.words (later_same r.shape r.log s.words) laws r.calls (with_one r.calls v.number item) grows z (stands z e);
-    pruned = u.pruned;
+    cut = u.cut;
     room = room_after u.room;
     gate = u.gate;
     only = λ m i o at inside. only_after u.only m i o at inside;

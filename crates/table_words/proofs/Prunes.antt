@@ -5,13 +5,14 @@ use prog.Atomic.{either}
 use Rattle.atomic_table.specs.Table.{Me, Allows}
 use Rattle.table_rule.specs.declared.begin.Begin.{Begin}
 use Rattle.table_words.specs.declared.words.TableWords.{TableWords}
+use Rattle.table_rule.specs.declared.view.CutNode.{CutNode}
 use Rattle.table_rule.specs.declared.view.Lock.{Lock}
 use Rattle.table_rule.specs.declared.view.View.{View}
 use Rattle.table_words.specs.Laws.{HistoryLaws}
 use Rattle.trie_nodes.specs.Layout.{parent_word, slot_word, dead_word}
 use Rattle.trie_nodes.specs.Paths.{nibble}
 use Rattle.table_rule.specs.Making.{bare}
-use Rattle.table_rule.specs.Pruning.{dead_node, having_cut, marked, SeesSlot, LooksAtSlot, ReadsParent, TriedUpper, TriesUpper, HoldsBoth, Marks, CutsOff}
+use Rattle.table_rule.specs.Pruning.{having_cut, marked, IsPruned, SeesSlot, LooksAtSlot, ReadsParent, TriedUpper, TriesUpper, HoldsBoth, Marks, CutsOff}
 use Rattle.table_rule.specs.Rule.{Kept}
 use Rattle.table_words.specs.TrieLaws.{TrieLaws}
 use Rattle.table_rule.specs.Walking.{HasWords}
@@ -74,6 +75,13 @@ module _ (table : TableWords) (id : ℕ) (me : Me (Unit {0}) View) (word : ℕ) 
       let low = nibble_below u.key table.table.shared.key.seed u.level in
       subst (λ y. May table id me word (λ n. y) (λ found. CutsOff me)) (sym empty)
       (may table id me word (slot_word u.node (nibble u.key table.table.shared.key.seed u.level)) (λ n. 0) (λ found. CutsOff me) (omega arith) (omega arith)
-      (allows_then (Kept key) 0 id me (slot_word u.node (nibble u.key table.table.shared.key.seed u.level)) (λ n. 0) (λ found after. (after.1 ≡ me.1) × (after.0 ≡ having_cut (holding me.0 me.0.gate (Some (bare u)) None) (dead_node l ∷ []))) (λ found. CutsOff me)
-      (λ n after told. (told.0, λ y z e f. told.1 ∙ (λ i. having_cut (holding me.0 me.0.gate (Some (bare (same_Some u z (sym both.upper ∙ f) i))) None) (dead_node (same_Some l y (sym both.lock ∙ e) i) ∷ []))))
+      (allows_then (Kept key) 0 id me (slot_word u.node (nibble u.key table.table.shared.key.seed u.level)) (λ n. 0) (λ found after. (after.1 ≡ me.1) × ((d : CutNode) × IsPruned me.0 l d × (after.0 ≡ having_cut (holding me.0 me.0.gate (Some (bare u)) None) (d ∷ [])))) (λ found. CutsOff me)
+      (λ n after told. (
+        told.0,
+        λ y z e f. let cut = told.1 in (
+          cut.0,
+          subst (λ x. IsPruned me.0 x cut.0) (same_Some l y (sym both.lock ∙ e)) cut.1,
+          cut.2 ∙ (λ i. having_cut (holding me.0 me.0.gate (Some (bare (same_Some u z (sym both.upper ∙ f) i))) None) (cut.0 ∷ [])),
+        ),
+      ))
       (cuts_off key laws tries id me l u both)))

@@ -242,7 +242,7 @@ module _ (k : Begin) (laws : HistoryLaws) (tries : TrieLaws) (s : TableState) (r
         steady = λ w e gate. absurd (none-some w e);
         leaf = λ z e. absurd (none-some z e);
         spot = λ z e. stands_on k r.shape shape r.log (history_with r.log v.number item) s.words words later laws r.calls (with_one r.calls v.number item) grows z (u.spot z e);
-        pruned = λ d cut. cut_on k r.shape shape r.log (history_with r.log v.number item) s.words words later d (u.pruned d cut);
+        cut = λ d cut. cut_on k r.shape shape r.log (history_with r.log v.number item) s.words words later d (u.cut d cut);
         room = rooms_after;
         gate = same_gate v.gate u.gate;
         only = only_after;

@@ -390,6 +390,7 @@ module _ (k : Begin) (sh : Shape) (log log' : List SharedEntry) (ws : List ℕ) 
     path = old_path;
     cut = λ q moment is cut. old_cut q is ∙ cut;
     fresh = λ q moment is live cut. absurd (none-some moment (sym live ∙ sym (old_cut q is) ∙ cut));
+    cut_word = λ q moment n is cut below. other_node q (q + n) is (λ e. none-some moment (sym site.reachable ∙ ap sh.cut_of (sym e) ∙ cut)) (omega arith) (omega arith);
     parent = λ q is. top_word q (parent_word q) is (omega arith) (omega arith);
     dead = λ q is dead. top_word q q is (omega arith) (omega arith) ∙ dead;
     entry = old_leaf;

@@ -29,6 +29,7 @@ later_same sh log ws = record {
   path = λ p is. refl;
   cut = λ p moment is cut. cut;
   fresh = λ p moment is live cut. absurd (none-some moment (sym live ∙ cut));
+  cut_word = λ p moment n is cut below. refl;
   parent = λ p is. refl;
   dead = λ p is dead. dead;
   entry = λ p is. is;
@@ -67,7 +68,7 @@ module _ (k : Begin) (s : TableState) (r : Kept k s) (id : ℕ) (v : View) (at_m
     steady = steady;
     leaf = leaves;
     spot = u.spot;
-    pruned = u.pruned;
+    cut = u.cut;
     room = u.room;
     gate = u.gate;
     only = u.only;

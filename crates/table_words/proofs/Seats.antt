@@ -79,7 +79,7 @@ module _ (k : Begin) (s : TableState) (r : Kept k s) (id : ℕ) (v : View) (at_m
     steady = u.steady;
     leaf = u.leaf;
     spot = u.spot;
-    pruned = u.pruned;
+    cut = u.cut;
     room = λ i own at. absurd (none-some own at);
     gate = u.gate;
     only = λ m i own at inside. absurd (none-some own at);
@@ -121,7 +121,7 @@ deals k id v live idle stands s r at_me =
       steady = u.steady;
       leaf = u.leaf;
       spot = u.spot;
-      pruned = u.pruned;
+      cut = u.cut;
       room = λ i own at. let number : v.number + suc i ≡ (v.number + 1) + i = omega arith in subst (λ c. HasRoom k r.shape s.words c own) number (u.room (suc i) own (in_others v.owns i own at));
       gate = subst (AtGate k r.shape (v.number + 1)) (sym idle.gate) tt;
       only = λ m i own at inside. let number : (v.number + 1) + i ≡ v.number + suc i = omega arith in u.only m (suc i) own (in_others v.owns i own at) (ap (r.shape.inside m) (sym number) ∙ inside);
@@ -137,7 +137,7 @@ deals k id v live idle stands s r at_me =
       steady = u.steady;
       leaf = u.leaf;
       spot = u.spot;
-      pruned = u.pruned;
+      cut = u.cut;
       room = λ i own at. u.room i own (in_first v.owns i own at).1;
       gate = u.gate;
       only = λ m i own at. u.only m i own (in_first v.owns i own at).1;
@@ -288,7 +288,7 @@ joins k laws id v other w live live_it idle next_callers s r at_me apart at_it =
       steady = u.steady;
       leaf = u.leaf;
       spot = u.spot;
-      pruned = λ d has. elim (Contains-append_cases v.pruned w.pruned d has) [ inl mine ↦ u.pruned d mine | inr its ↦ h.pruned d its ];
+      cut = λ d has. elim (Contains-append_cases v.cut w.cut d has) [ inl mine ↦ u.cut d mine | inr its ↦ h.cut d its ];
       room = λ i own at. elim (in_both v.owns w.owns i own at) [
         | inl mine ↦ u.room i own mine
         | inr its ↦ let inside = slice_get_within w.owns its.0 own its.2 in subst (λ c. HasRoom k r.shape s.words c own) (number_of i its.0 inside its.1) (h.room its.0 own its.2)

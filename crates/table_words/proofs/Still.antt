@@ -87,7 +87,7 @@ module _ (k : Begin) (laws : HistoryLaws) (s : TableState) (r : Kept k s) (id : 
     steady = steady;
     leaf = λ l is. leaf_on k r.shape new r.log r.log s.words words later l (u.leaf l is);
     spot = λ z is. stands_on k r.shape new r.log r.log s.words words later laws r.calls r.calls (λ c. ([], sym (append-nil (r.calls c)))) z (u.spot z is);
-    pruned = λ d has. cut_on k r.shape new r.log r.log s.words words later d (u.pruned d has);
+    cut = λ d has. cut_on k r.shape new r.log r.log s.words words later d (u.cut d has);
     room = room;
     gate = at_gate;
     only = only;
@@ -106,7 +106,7 @@ suits_nowhere k sh log calls ws v u = record {
   steady = λ w e inside. absurd (none-some w e);
   leaf = λ l e. absurd (none-some l e);
   spot = u.spot;
-  pruned = u.pruned;
+  cut = u.cut;
   room = u.room;
   gate = u.gate;
   only = u.only;

@@ -39,7 +39,7 @@ module _ (k : Begin) (s : TableState) (r : Kept k s) (id : ℕ) (v : View) (at_m
     steady = u.steady;
     leaf = u.leaf;
     spot = stands;
-    pruned = u.pruned;
+    cut = u.cut;
     room = u.room;
     gate = u.gate;
     only = u.only;

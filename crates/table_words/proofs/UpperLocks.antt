@@ -97,7 +97,7 @@ module _ (k : Begin) (laws : HistoryLaws) (s : TableState) (r : Kept k s) (id : 
         let nobody : (d : ℕ) → d ≢ v.number → (r.shape.held_by l.node ≢ suc d) × (suc v.number ≢ suc d) = (λ d ne. (λ theirs. ne (let e : suc v.number ≡ suc d = sym held.2.mine ∙ theirs in omega arith), λ e. ne (omega arith))) in
         let holds : dead_word ≢ dead_word → suc v.number ≡ dead_word = (λ ne. absurd (ne refl)) in
         let corpse : dead_word ≡ dead_word → (i : ℕ) → i < 16 → slice_index s.words (slot_word l.node i) ≡ 0 = (λ dead i below. held.2.empty_so_far i (omega arith)) in
-        let behind = after_lock k laws s r id v at_me live own owns is l.node dead_word (suc v.number) held.2.node holds corpse lives nobody in
+        let behind = after_lock k laws s r id v at_me live own owns is l.node dead_word (suc v.number) held.2.node holds corpse (lives, held.2.reachable) nobody in
         let was = held.2 in
         let few_slots = was.few in
         let locks : Locks k (with_holder r.shape l.node (suc v.number)) (set s.words l.node dead_word) v.number held.0 (marked l) = record {
@@ -108,14 +108,14 @@ module _ (k : Begin) (laws : HistoryLaws) (s : TableState) (r : Kept k s) (id : 
           path = was.path;
           reachable = was.reachable;
           mine = holder_of r.shape l.node (suc v.number);
-          word = lock_word_is k laws s r id v at_me live own owns is l.node dead_word (suc v.number) held.2.node holds corpse lives nobody;
+          word = lock_word_is k laws s r id v at_me live own owns is l.node dead_word (suc v.number) held.2.node holds corpse (lives, held.2.reachable) nobody;
           parent = behind (parent_word l.node) (omega arith) (omega arith) ∙ was.parent;
           found = λ slot word is. let f = was.found slot word is in let below = f.0 in (f.0, behind (slot_word l.node slot) (omega arith) (omega arith) ∙ f.1);
           few = was.few;
           empty_so_far = λ slot below. behind (slot_word l.node slot) (omega arith) (omega arith) ∙ was.empty_so_far slot below;
         } in
-        kept_held k laws s r id v at_me live own owns is l.node dead_word (suc v.number) held.2.node holds corpse lives nobody (Some (marked l)) v.upper
-        (knows_held k laws s r id v at_me live own owns is l.node dead_word (suc v.number) held.2.node holds corpse lives nobody (Some (marked l)) v.upper
+        kept_held k laws s r id v at_me live own owns is l.node dead_word (suc v.number) held.2.node holds corpse (lives, held.2.reachable) nobody (Some (marked l)) v.upper
+        (knows_held k laws s r id v at_me live own owns is l.node dead_word (suc v.number) held.2.node holds corpse (lives, held.2.reachable) nobody (Some (marked l)) v.upper
         (marked l, inl refl, refl) (λ p h. elim h.1 [
           | inl e ↦ (marked l, inl refl, ap (λ (z : Lock). z.node) (same_Some l h.0 (sym locked ∙ e)) ∙ h.2)
           | inr e ↦ (h.0, inr e, h.2)
@@ -125,7 +125,7 @@ module _ (k : Begin) (laws : HistoryLaws) (s : TableState) (r : Kept k s) (id : 
           above_held.0,
           above_held.1,
           subst (Locks k (with_holder r.shape l.node (suc v.number)) (set s.words l.node dead_word) v.number above_held.0) (same_Some u z (sym upper ∙ e))
-              (locks_off k laws s r id v at_me live own owns is l.node dead_word (suc v.number) held.2.node holds corpse lives nobody above_held.0 u other above_held.2),
+              (locks_off k laws s r id v at_me live own owns is l.node dead_word (suc v.number) held.2.node holds corpse (lives, held.2.reachable) nobody above_held.0 u other above_held.2),
         ))
 
 -- a seat may look at the first slot of which it doesn't know that it is empty

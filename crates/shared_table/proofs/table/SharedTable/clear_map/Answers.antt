@@ -1,4 +1,4 @@
-use Rattle.std.proofs.Common.{rules, [], refl}
+use Rattle.std.proofs.Common.{rules, [], ◌∷◌, refl}
 use Rattle.sync_types.specs.declared.map_object.MapCall.TheVariants.{Clear}
 use Rattle.sync_types.specs.declared.map_object.MapReply.TheVariants.{Done}
 use Rattle.shared_table.proofs.Payments.{has_unit, next_small}
@@ -10,5 +10,5 @@ clear-requires-clause-unit g c = has_unit c.args.note.now 1 c.requires.note.1 c.
 pub overflow_add-note : goal.overflow_add-note
 overflow_add-note g c =
     let small = next_small c.args.self.now c.args.note.now c.args.map Clear Done 18 c.clear.new.seat.me.0 c.requires.note.0 refl
-    (has_unit c.args.note.now 1 c.requires.note.1 c.requires.note.0.unwritten refl c.requires.spare) [] c.clear.ensures.made.1 c.clear.ensures.room in
+    (has_unit c.args.note.now 1 c.requires.note.1 c.requires.note.0.unwritten refl c.requires.spare) (c.clear.ensures.made.1.0 ∷ []) c.clear.ensures.made.1.2 c.clear.ensures.room in
     search rules

@@ -16,10 +16,10 @@ loop-up-preserved g c =
     let came = c.in-Some.ensures.pruned in record {
       table = c.prune_at.ensures.table ∙ c.loop-up.invariant.table;
       comes = (
-        record { node = c.loop-up.node; up = c.in-Some.parent } ∷ comes.0,
-        comes_on c.loop-up.node c.in-Some.parent comes.0 (record { node = c.loop-up.node; up = c.in-Some.parent } ∷ []) c.args.seat.now.me c.loop-up.seat.me c.prune_at.new.seat.me comes.1 came.0,
+        came.0 ∷ comes.0,
+        comes_on c.loop-up.node c.in-Some.parent comes.0 (came.0 ∷ []) c.args.seat.now.me c.loop-up.seat.me c.prune_at.new.seat.me comes.1 came.2,
       );
-      holds = let level : c.args.level - c.loop-up.up - 1 ≡ c.args.level - (c.loop-up.up + 1) = omega arith in subst (HoldsAt c.args.self.now.words.table.shared.key c.prune_at.new.seat.me c.args.key c.in-Some.parent) level came.1;
+      holds = let level : c.args.level - c.loop-up.up - 1 ≡ c.args.level - (c.loop-up.up + 1) = omega arith in subst (HoldsAt c.args.self.now.words.table.shared.key c.prune_at.new.seat.me c.args.key c.in-Some.parent) level came.3;
     }
 
 pub prune_at-requires-clause-caller : goal.prune_at-requires-clause-caller
