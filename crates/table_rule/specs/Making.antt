@@ -27,7 +27,7 @@ use Rattle.sync_types.specs.KeyCalls.{is_key_entry, key_reply, key_after}
 use Rattle.table_rule.specs.Layout.{size_of}
 use Rattle.table_rule.specs.Shape.{start_of}
 use Rattle.table_rule.specs.Units.{link_at, unit_word}
-use Rattle.table_rule.specs.Views.{with_item, paid, called_view, view_state}
+use Rattle.table_rule.specs.Views.{with_item, paid, called_view, view_state, Looks}
 use Rattle.table_rule.specs.Walking.{given_by, FindsIn}
 use Rattle.table_rule.specs.Writing.{holding, lock_at, HasRoomWithin}
 
@@ -94,12 +94,13 @@ pub record Expands (k : Begin) (own : Own) (leaf : Option Leaf) (l : Lock) (call
   pub sized : length own.draft ≡ 2 + 18 * plan.nodes
   pub draft : (i : ℕ) → i < 2 + 18 * plan.nodes → slice_index own.draft i ≡ unit_word k.seed l.key value (suc l.level) l.node other.place own.next plan i
 
--- a call on a map is placed, at the cost that it has, used so many words of its caller's room, and left its seat with this entry and this lock
+-- a call on a map is placed, at the cost that it has, used so many words of its caller's room, and left its seat with this entry and this lock. The seat has then seen the whole history
 pub record Makes (m : ℕ) (call : MapCall ℕ) (reply : MapReply) (words : ℕ) (leaf : Option Leaf) (lock : Option Lock) (v w : View) : Type 0 where
   pub item : Item
   pub seen : List SharedEntry
   pub is : w ≡ record (called_view v (paid (cost_of call) words (with_item v.owns item)) seen) { walk = None; leaf = leaf; lock = lock }
   pub called : Called (start_of v.begin) (calls.Map m call) (replies.Map reply) (cost_of call) (view_state v) (view_state w)
+  pub looks : Looks w w
 
 -- a seat may publish this word in the slot for the key of its call
 pub record MayPublish (k : Begin) (v : View) (call : MapCall ℕ) (m : ℕ) (l : Lock) (x : ℕ) : Type 0 where
@@ -159,9 +160,10 @@ IsLockAt l key node level = (l.key ≡ key) × (l.node ≡ node) × (l.level ≡
 abbrev pub HasUnit : List Own → ℕ → Type 0
 HasUnit all next = (own : Own) × (owns : List Own) × (all ≡ own ∷ owns) × (own.draft ≡ []) × (own.next ≡ next) × (0 < own.spare)
 
--- a seat made a call on a map, which used so many words of its caller's room, and has nothing else than before
+-- a seat made a call on a map, which used so many words of its caller's room, and has nothing else than before. The seat has then seen the whole history
 pub record MadeCall (m : ℕ) (call : MapCall ℕ) (reply : MapReply) (words : ℕ) (v w : View) : Type 0 where
   pub item : Item
   pub seen : List SharedEntry
   pub is : w ≡ called_view v (paid (cost_of call) words (with_item v.owns item)) seen
   pub called : Called (start_of v.begin) (calls.Map m call) (replies.Map reply) (cost_of call) (view_state v) (view_state w)
+  pub looks : Looks w w

@@ -20,7 +20,7 @@ use Rattle.trie_nodes.specs.Paths.{route}
 use Rattle.sync_types.specs.KeyCalls.{is_key_entry, key_reply}
 use Rattle.table_rule.specs.Layout.{size_of}
 use Rattle.table_rule.specs.Shape.{start_of}
-use Rattle.table_rule.specs.Views.{with_item, paid, MayPay, called_view, view_state, IsIdle}
+use Rattle.table_rule.specs.Views.{with_item, paid, MayPay, called_view, view_state, IsIdle, Looks}
 
 -- the view of a seat that stands here, and knows this entry
 abbrev pub standing : View → Option Walk → Option Leaf → View
@@ -39,12 +39,13 @@ abbrev pub Enters : ℕ → ℕ → Me (Unit {0}) View → ℕ → Me (Unit {0})
 Enters m key before found after =
     (after.1 ≡ before.1) × (after.0 ≡ standing before.0 (Some (walk_at m key found 0 (length before.0.seen))) before.0.leaf) × HasWords before.0 found 18
 
--- a seat's call on a map is placed, used so many words of its caller's room, and left the seat with this entry
+-- a seat's call on a map is placed, used so many words of its caller's room, and left the seat with this entry. The seat has then seen the whole history
 pub record Answers (m : ℕ) (call : MapCall ℕ) (reply : MapReply) (words : ℕ) (leaf : Option Leaf) (v w : View) : Type 0 where
   pub item : Item
   pub seen : List SharedEntry
   pub is : w ≡ standing (called_view v (paid (cost_of call) words (with_item v.owns item)) seen) None leaf
   pub called : Called (start_of v.begin) (calls.Map m call) (replies.Map reply) (cost_of call) (view_state v) (view_state w)
+  pub looks : Looks w w
 
 -- the value that an entry gives a key
 abbrev pub given_by : Leaf → ℕ → Option ℕ

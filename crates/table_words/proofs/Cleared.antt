@@ -37,6 +37,7 @@ use Rattle.table_words.proofs.Closing.{at_gate, not_inside}
 use Rattle.table_words.proofs.Frames.{Later, Apart, cut_on, room_on}
 use Rattle.table_words.proofs.Ledgers.{longer, MayPlace, with_one, adds_one, lawful_after, history_on, grows_on, none_after, fits_after, called, first, contents_on}
 use Rattle.table_words.proofs.Lists.{past_end, in_more, words_at, words_at-index}
+use Rattle.table_words.proofs.Looking.{looks_so}
 use Rattle.table_words.proofs.Moves.{Keeps, moves}
 use Rattle.table_words.proofs.NewRoots.{with_root, old_node, cut_here, Ground, EmptiesMap, behind_heads, fine_rooted, gates_rooted, later_rooted, apart_rooted, part_out, was_held}
 
@@ -199,6 +200,9 @@ module _ (k : Begin) (laws : HistoryLaws) (s : TableState) (r : Kept k s) (id : 
     nobody = λ e. absurd (let ne : suc (length owns) ≡ 0 = e in omega arith);
   }
 
+  fits_now : Fits (callers_of k) (history_with r.log me.0.number item) (with_one r.calls me.0.number item) r.claim id view_after
+  fits_now = fits_after k laws r.log r.calls (callers_of k) r.claim id r.lawful me.0 own owns is fits item may own_after refl
+
   keys_after : HasKeysBelow (2 ^ 32) (contents_after (start_of k) (history_with r.log me.0.number item))
   keys_after n q x at = elim (cases_eq n m) [
     | inl mine ↦ absurd (none-some x (sym (empties.here q) ∙ subst (λ i. value_at (contents_after (start_of k) (history_with r.log me.0.number item)) i q ≡ Some x) mine at))
@@ -240,6 +244,8 @@ module _ (k : Begin) (laws : HistoryLaws) (s : TableState) (r : Kept k s) (id : 
     is = ap (λ o. called_view (having_cut me.0 (node_cut ∷ [])) o (history_with r.log me.0.number item)) (ap (λ o. spend 18 (with_item o item)) (sym is));
     called = subst (λ b. Called (start_of b) (calls.Map m Clear) (replies.Map Done) 1 (view_state me.0) (view_state view_after)) (sym has.begin)
         (called k laws r.log r.calls (callers_of k) r.claim id r.lawful me.0 own owns is fits item may own_after refl 1 (let left = spare in omega arith));
+    looks = looks_so k (history_with r.log me.0.number item) (with_one r.calls me.0.number item) r.claim id view_after (lawful_after k laws r.log r.calls (callers_of k) r.claim id r.lawful me.0 own owns is fits item may)
+        (none_after k laws r.log r.calls (callers_of k) r.claim id r.lawful me.0 own owns is fits item may r.none_else) fits_now has.begin;
   }
 
 -- a seat that has closed a map's gate, and knows that no writer is inside, may write a new root

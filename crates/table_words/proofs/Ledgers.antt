@@ -49,6 +49,11 @@ module _ (log : List SharedEntry) (e : SharedEntry) where
   bound_on true place last to = let is = last refl in omega (arith, length-append log (e ∷ []))
   bound_on false place last to = to
 
+  -- a call at the end of the history lies at the end of what the history then is
+  pub bound_at_end : (b : Bool) → cond b (length log + 1) (length log) ≡ length (on b)
+  bound_at_end true = sym (length-append log (e ∷ []))
+  bound_at_end false = refl
+
 pub longer : (log log' : List SharedEntry) → Begins log' log → length log ≤ length log'
 longer log log' b = let e : length log' ≡ length (log ++ b.0) = ap length b.1 in omega (arith, length-append log b.0)
 

@@ -12,7 +12,7 @@ use Rattle.sync_model.specs.declared.item.SharedCall.TheVariants.{Atomic}
 use Rattle.sync_model.specs.declared.item.SharedReply.TheVariants as replies
 use Rattle.sync_model.specs.Journal.{Begins}
 use Rattle.sync_types.specs.SequentialAtomic.{atomic_reply, atomic_after, is_atomic_entry}
-use Rattle.sync_model.specs.SharedHistory.{number_at, contents_after, contents_at, history_with}
+use Rattle.sync_model.specs.SharedHistory.{number_at, contents_after, contents_at, entry_of, history_with}
 use Rattle.sync_model.specs.SharedCalls.{Grows}
 use Rattle.sync_model.specs.Shared.{Called}
 use Rattle.sync_types.specs.WordLayout.{is_word, number_in}
@@ -24,14 +24,15 @@ use Rattle.table_words.specs.Laws.{HistoryLaws}
 use Rattle.trie_nodes.specs.Layout.{atomic_word}
 use Rattle.table_rule.specs.Layout.{callers_of}
 use Rattle.table_rule.specs.Ledger.{Owned, Fits}
-use Rattle.table_rule.specs.Operations.{IsOperation, PlacesCall, Operates}
+use Rattle.table_rule.specs.Operations.{IsOperation, IsAtEnd, PlacesCall, Operates}
 use Rattle.table_rule.specs.Owed.{HasRoom, Suits, HoldsLock}
 use Rattle.table_rule.specs.Rule.{TableState, Kept}
 use Rattle.table_rule.specs.Shape.{start_of, IsNumber}
-use Rattle.table_rule.specs.Views.{with_item, called_view, view_state}
+use Rattle.table_rule.specs.Views.{with_item, called_view, view_state, Looks}
 use Rattle.table_words.proofs.Frames.{suits_on}
 use Rattle.table_words.proofs.KeyBounds.{keys_on}
-use Rattle.table_words.proofs.Ledgers.{longer, MayPlace, with_one, adds_one, lawful_after, history_on, grows_on, none_after, fits_after, called, contents_on, first}
+use Rattle.table_words.proofs.Ledgers.{longer, bound_at_end, MayPlace, with_one, adds_one, lawful_after, history_on, grows_on, none_after, fits_after, called, contents_on, first}
+use Rattle.table_words.proofs.Looking.{looks_so}
 use Rattle.table_words.proofs.Moves.{Keeps, moves}
 use Rattle.table_words.proofs.Numbers.{gates_on, apart_on, later_on, fine_on}
 
@@ -75,6 +76,24 @@ module _ (k : Begin) (laws : HistoryLaws) (s : TableState) (r : Kept k s) (id : 
 
   abbrev pub view_after : View
   view_after = called_view v (own_after ∷ owns) (history_with r.log v.number item)
+
+  fits_now : Fits (callers_of k) (history_with r.log v.number item) (with_one r.calls v.number item) r.claim id view_after
+  fits_now = fits_after k laws r.log r.calls (callers_of k) r.claim id r.lawful v own owns is fits item may own_after refl
+
+  -- the seat has then seen the whole history, and the call lies at its end
+  pub looks_then : v.begin ≡ k → Looks view_after view_after
+  looks_then begin = looks_so k (history_with r.log v.number item) (with_one r.calls v.number item) r.claim id view_after (lawful_after k laws r.log r.calls (callers_of k) r.claim id r.lawful v own owns is fits item may)
+      (none_after k laws r.log r.calls (callers_of k) r.claim id r.lawful v own owns is fits item may r.none_else) fits_now begin
+
+  pub at_end : IsAtEnd (view_state view_after)
+  at_end = record {
+    holding = record { number = v.number; items = own.items ++ item ∷ []; spare = own.spare };
+    own = refl;
+    earlier = own.items;
+    item = item;
+    items = refl;
+    last = bound_at_end r.log (entry_of v.number item) item.entry;
+  }
 
   module _ (f : ℕ → ℕ) (operation : IsOperation kind call f) where
     abbrev found : ℕ
@@ -159,7 +178,7 @@ module _ (k : Begin) (laws : HistoryLaws) (s : TableState) (r : Kept k s) (id : 
       apart = apart_on k laws r.shape r.log (history_with r.log v.number item) s.words a (f found) kind at r.fine v.number;
       grows = grows;
       others = (adds_one r.calls v.number item).others;
-      fits = fits_after k laws r.log r.calls (callers_of k) r.claim id r.lawful v own owns is fits item may own_after refl;
+      fits = fits_now;
       suits = suits_after;
     }
 
@@ -191,7 +210,7 @@ operates k laws id me a kind call f live begin stands at operation = by_owns me.
             λ other at_other.
                 let same : kind ≡ other = same_Some kind other (sym at ∙ ap (λ (b : Begin). slice_get b.kinds a) (sym begin) ∙ at_other) in
                 let word = slice_index s.words (atomic_word a) in
-                subst (λ z. (is_word z word ≡ true) × PlacesCall (Atomic a call) (replies.Atomic (atomic_reply call (number_in z word))) v w) same (
+                subst (λ z. (is_word z word ≡ true) × PlacesCall (Atomic a call) (replies.Atomic (atomic_reply call (number_in z word))) v w × IsAtEnd (view_state w)) same (
                   was_word k laws s r id v at_me live own owns is a kind at call f operation,
                   record {
                     item = item k laws s r id v at_me live own owns is a kind at call;
@@ -199,7 +218,9 @@ operates k laws id me a kind call f live begin stands at operation = by_owns me.
                     is = ap (λ l. called_view v (with_item l (item k laws s r id v at_me live own owns is a kind at call)) (history_with r.log v.number (item k laws s r id v at_me live own owns is a kind at call))) (sym is);
                     called = subst (λ b. Called (start_of b) (Atomic a call) (replies.Atomic (atomic_reply call (number_in kind word))) 0 (view_state v) (view_state w)) (sym begin)
                         (is_called k laws s r id v at_me live own owns is a kind at call f operation);
+                    looks = looks_then k laws s r id v at_me live own owns is a kind at call begin;
                   },
+                  at_end k laws s r id v at_me live own owns is a kind at call,
                 ),
           ),
         )

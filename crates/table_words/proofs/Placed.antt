@@ -56,4 +56,5 @@ module _ (k : Begin) (laws : HistoryLaws) (s : TableState) (r : Kept k s) (id : 
     seen = r.log;
     is = ap (λ l. standing (called_view v l r.log) None leaf) (sym (paid_first (cost_of call) (record own { items = own.items ++ item ∷ [] }) owns) ∙ ap (λ l. paid (cost_of call) 0 (with_item l item)) (sym is));
     called = placing.is_called k laws s r id v at_me live own owns is (calls.Map m call) (replies.Map reply) place may (cost_of call) pays None (λ w at. absurd (none-some w at)) (λ w at inside. absurd (none-some w at)) leaf leaves v.spot (r.suits id v at_me live).spot begin;
+    looks = placing.looks_then k laws s r id v at_me live own owns is (calls.Map m call) (replies.Map reply) place may (cost_of call) pays None (λ w at. absurd (none-some w at)) (λ w at inside. absurd (none-some w at)) leaf leaves v.spot (r.suits id v at_me live).spot begin;
   }

@@ -33,11 +33,12 @@ use Rattle.table_rule.specs.Rule.{TableState, Kept}
 use Rattle.table_rule.specs.Shape.{Shape, start_of, Fine}
 use Rattle.table_words.specs.TrieLaws.{TrieLaws}
 use Rattle.table_rule.specs.Units.{with_unit}
-use Rattle.table_rule.specs.Views.{called_view, spend_own, view_state}
+use Rattle.table_rule.specs.Views.{called_view, spend_own, view_state, Looks}
 use Rattle.table_words.proofs.Frames.{Later, Apart, cut_on, room_on, stands_on}
 use Rattle.table_words.proofs.KeyCalls.{IsOn, ChangesKey, changes_key}
 use Rattle.table_words.proofs.Ledgers.{longer, MayPlace, with_one, adds_one, lawful_after, history_on, grows_on, none_after, fits_after, called, first}
 use Rattle.table_words.proofs.Lists.{past_end}
+use Rattle.table_words.proofs.Looking.{looks_so}
 use Rattle.table_words.proofs.Moves.{Keeps, moves}
 use Rattle.table_words.proofs.Publishing as publishing
 use Rattle.table_words.proofs.Sites.{Site}
@@ -155,6 +156,14 @@ module _ (k : Begin) (laws : HistoryLaws) (tries : TrieLaws) (s : TableState) (r
     abbrev shape : Shape
     shape = with_unit r.shape k.seed m l.level l.key own.next nodes
 
+    fits_now : Fits (callers_of k) (history_with r.log v.number item) (with_one r.calls v.number item) r.claim id view_after
+    fits_now = let f = fits_after k laws r.log r.calls (callers_of k) r.claim id r.lawful v own owns ready.is fits item may own_after refl in record { seen = f.seen; heard = f.heard; long = f.long; front = f.front; owns = f.owns }
+
+    -- the seat has then seen the whole history
+    pub looks_then : v.begin ≡ k → Looks view_after view_after
+    looks_then begin = looks_so k (history_with r.log v.number item) (with_one r.calls v.number item) r.claim id view_after (lawful_after k laws r.log r.calls (callers_of k) r.claim id r.lawful v own owns ready.is fits item may)
+        (none_after k laws r.log r.calls (callers_of k) r.claim id r.lawful v own owns ready.is fits item may r.none_else) fits_now begin
+
     module _ (x : ℕ) (fine : Fine k (with_unit r.shape k.seed m l.level l.key own.next nodes) (history_with r.log v.number item) (set s.words (slot_word l.node (nibble l.key k.seed l.level)) x)) where
       abbrev words : List ℕ
       words = set s.words (slot_word l.node (nibble l.key k.seed l.level)) x
@@ -252,9 +261,6 @@ module _ (k : Begin) (laws : HistoryLaws) (tries : TrieLaws) (s : TableState) (r
         upper = λ z e. absurd (none-some z (sym ready.alone ∙ e));
         nobody = λ e. absurd (let ne : suc (length owns) ≡ 0 = e in omega arith);
       }
-
-      fits_now : Fits (callers_of k) (history_with r.log v.number item) (with_one r.calls v.number item) r.claim id view_after
-      fits_now = let f = fits_after k laws r.log r.calls (callers_of k) r.claim id r.lawful v own owns ready.is fits item may own_after refl in record { seen = f.seen; heard = f.heard; long = f.long; front = f.front; owns = f.owns }
 
       keys_after : HasKeysBelow (2 ^ 32) (contents_after (start_of k) (history_with r.log v.number item))
       keys_after n q x at = elim (cases_eq q l.key) [
