@@ -1,6 +1,7 @@
 -- Operations through a caller's note.
 use Rattle.std.proofs.Common.{◌≡◌, ℕ, zero, suc, ◌<◌, ◌≤◌, true, false, List, [], ◌∷◌, ◌++◌, length, Some, IsSome, slice_get, slice_index, refl, sym, ap, ◌∙◌, subst, arith}
 use Rattle.std.proofs.lemmas.Option.{none-some, same_Some}
+use Rattle.atomic_table.specs.Table.{Me}
 use Rattle.sync_types.specs.declared.atomic_object.AtomicCall.{AtomicCall}
 use Rattle.sync_model.specs.declared.item.Item.{Item}
 use Rattle.sync_model.specs.declared.item.SharedCall.{SharedCall}
@@ -9,7 +10,7 @@ use Rattle.sync_model.specs.declared.item.SharedCall.TheVariants.{Atomic}
 use Rattle.sync_model.specs.declared.item.SharedReply.TheVariants as replies
 use Rattle.sync_model.specs.Note.{IsCounted, SameHome}
 use Rattle.sync_types.specs.SequentialAtomic.{atomic_reply}
-use Rattle.sync_types.specs.WordLayout.{number_in}
+use Rattle.sync_types.specs.WordLayout.{is_word, number_in}
 use Rattle.table_rule.specs.declared.begin.Begin.{Begin}
 use Rattle.table_words.specs.Seats.{begin_of}
 use Rattle.shared_table.specs.declared.note.SharedNote.{SharedNote}
@@ -17,8 +18,8 @@ use Rattle.shared_table.specs.declared.table.SharedTable.{SharedTable}
 use Rattle.table_rule.specs.declared.view.Own.{Own}
 use Rattle.table_rule.specs.declared.view.View.{View}
 use Rattle.shared_table.specs.Notes.{IsNoteOf, IsOperationOn}
-use Rattle.table_rule.specs.Operations.{PlacesCall, Operates}
-use Rattle.table_rule.specs.Views.{held_in, with_item, called_view, IsIdle}
+use Rattle.table_rule.specs.Operations.{IsAtEnd, PlacesCall, Operates}
+use Rattle.table_rule.specs.Views.{held_in, with_item, called_view, view_state, IsIdle}
 
 pub some_own : (n : ℕ) (owns : List Own) → IsSome (held_in n owns) → 0 < length owns
 some_own n [] is = absurd (let e : false ≡ true = is in (cc))
@@ -52,8 +53,12 @@ note_on home old new call reply is table_is empty places =
       counted = subst (λ own. IsCounted own new.seat.me.0.front) (sym places.called.own_new) (ap (slice_index new.seat.me.0.front) places.called.number ∙ places.called.counted);
     }
 
+-- what an operation tells a note of its table
+pub operated_on : (table : SharedTable) (old : SharedNote) (a : ℕ) (call : AtomicCall) (f : ℕ → ℕ) (found : ℕ) (after : Me (Unit {0}) View) → IsNoteOf table old → (on : IsOperationOn table a call f) → Operates a call old.seat.me found after
+    → (is_word on.kind found ≡ true) × PlacesCall (Atomic a call) (replies.Atomic (atomic_reply call (number_in on.kind found))) old.seat.me.0 after.0 × IsAtEnd (view_state after.0)
+operated_on table old a call f found after is on told = told.1 on.kind (ap (λ (b : Begin). slice_get b.kinds a) is.begin ∙ on.at)
+
 pub home_on : (table : SharedTable) (old new : SharedNote) (a : ℕ) (call : AtomicCall) (f : ℕ → ℕ) (found : ℕ) → IsNoteOf table old → IsOperationOn table a call f
     → new.seat.table_id ≡ old.seat.table_id → Operates a call old.seat.me found new.seat.me → SameHome IsNoteOf old new
 home_on table old new a call f found is on table_is told home at_home =
-    note_on home old new (Atomic a call) (replies.Atomic (atomic_reply call (number_in on.kind found))) at_home table_is told.0
-    (told.1 on.kind (ap (λ (b : Begin). slice_get b.kinds a) is.begin ∙ on.at)).1
+    note_on home old new (Atomic a call) (replies.Atomic (atomic_reply call (number_in on.kind found))) at_home table_is told.0 (operated_on table old a call f found new.seat.me is on told).1

@@ -19,7 +19,7 @@ use Rattle.table_rule.specs.Shape.{start_of}
 use Rattle.table_words.specs.Seats.{begin_of, IsSeatOf}
 use Rattle.table_rule.specs.Views.{held_in, view_state, made_by}
 use Rattle.table_rule.specs.Walking.{HasWords, IsFree}
-use Rattle.shared_table.proofs.Ranged.{let_go, looks_then, one_more, at_end, not_yet}
+use Rattle.shared_table.proofs.Ranged.{let_go, one_more, at_end, not_yet}
 
 -- a caller's seat has begun a cursor
 module _ (words : TableWords) (old mid new : Me (Unit {0}) View) (root m : ℕ) (cursor : TableCursor) (free : IsFree (begin_of words) old) (begun : BeginsCursor m old root mid)
@@ -79,7 +79,6 @@ module _ (words : TableWords) (old mid new : Me (Unit {0}) View) (root m : ℕ) 
         is_begin = refl;
         of = subst (λ (x : List Item × ℕ). IsCursorOf x.0 (first_spot x.1 m begun.2.0 v.front root)) (λ d. (sym more d, sym made d)) cursor_of;
       };
-      looks = looks_then w sweeps.looks;
     },
   )
     where

@@ -21,7 +21,7 @@ use Rattle.table_rule.specs.Shape.{start_of}
 use Rattle.table_words.specs.Seats.{begin_of, IsSeatOf}
 use Rattle.table_rule.specs.Views.{held_in, view_state}
 use Rattle.table_rule.specs.Walking.{HasWords, IsFree}
-use Rattle.shared_table.proofs.Ranged.{let_go, looks_then, one_more, one_step}
+use Rattle.shared_table.proofs.Ranged.{let_go, one_more, one_step}
 
 -- its seat took in the cursor's
 pub taken_in : (first mid me : Me (Unit {0}) View) (cursor held : Seat (Unit {0}) View) → mid ≡ (unmounted first.0, first.1) → held ≡ cursor → me ≡ (mounted mid.0 held.me.0, mid.1) → me ≡ (mounted (unmounted first.0) cursor.me.0, first.1)
@@ -93,5 +93,4 @@ module _ (words : TableWords) (first : Me (Unit {0}) View) (free : IsFree (begin
           is_begin = (here shown).3;
           of = subst (λ l. IsCursorOf l (showing (moved is.spot place) shown)) (sym more) of;
         };
-        looks = looks_then mid.0 sweeps.looks;
       }

@@ -1,5 +1,6 @@
 pub mod AllCallers
 pub mod Sights
+pub mod Seeing
 pub mod Walks
 pub mod MapCalls
 pub mod Payments

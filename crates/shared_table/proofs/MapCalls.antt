@@ -1,5 +1,5 @@
 -- A writer's way down to its key, and what its call leaves.
-use Rattle.std.proofs.Common.{◌≡◌, ℕ, suc, ◌<◌, Bool, true, false, MatchBool, [], ◌∷◌, length, Option, Some, None, refl, sym, ap, ◌∙◌, subst}
+use Rattle.std.proofs.Common.{◌≡◌, ℕ, suc, ◌<◌, Bool, true, false, MatchBool, List, [], ◌∷◌, ◌++◌, length, Option, Some, None, refl, sym, ap, ◌∙◌, subst}
 use Rattle.atomic_table.specs.Table.{Me}
 use Rattle.sync_model.specs.declared.item.SharedCall.TheVariants as calls
 use Rattle.sync_model.specs.declared.item.SharedReply.TheVariants as replies
@@ -11,20 +11,23 @@ use Rattle.sync_model.specs.Shared.{Called, cost_of}
 use Rattle.table_rule.specs.declared.begin.Begin.{Begin}
 use Rattle.shared_table.specs.declared.map_call.Reached.{Reached}
 use Rattle.shared_table.specs.declared.map_call.Reached.TheVariants.{Answered, Stands}
+use Rattle.table_rule.specs.declared.view.DeadNode.{DeadNode}
 use Rattle.table_rule.specs.declared.view.Gate.TheVariants.{Outside, Inside, Closed}
 use Rattle.table_rule.specs.declared.view.Leaf.{Leaf}
+use Rattle.table_rule.specs.declared.view.Lock.{Lock}
 use Rattle.table_rule.specs.declared.view.View.{View}
 use Rattle.table_rule.specs.declared.view.Walk.{Walk}
 use Rattle.sync_types.specs.KeyCalls.{is_key_entry, key_reply}
 use Rattle.trie_nodes.specs.declared.slot.Slot.TheVariants.{Empty, Node, Entry}
 use Rattle.table_rule.specs.Clearing.{Clears}
 use Rattle.table_rule.specs.Pruning.{having_cut}
-use Rattle.shared_table.specs.MapCalls.{AnswersAndPrunes, MakesAndPrunes, IsWriting, IsEnd, IsReached}
+use Rattle.shared_table.specs.MapCalls.{AnswersAndPrunes, MadeLocked, MakesAndPrunes, IsWriting, IsEnd, IsReached}
 use Rattle.table_rule.specs.Shape.{start_of}
 use Rattle.table_rule.specs.Views.{with_item, paid, called_view, view_state}
 use Rattle.table_rule.specs.Walking.{standing, walk_at, given_by, HasWords, Answers, FindsIn, Settles, IsFree, OnWay, AtEntry}
 use Rattle.table_rule.specs.Writing.{holding}
 use Rattle.shared_table.proofs.Walks.{IsAt}
+use Rattle.shared_table.proofs.Seeing.{looks_still}
 
 module _ (k : Begin) (first : Me (Unit {0}) View) (m key : ℕ) (writing : IsWriting k first m) where
   pub on_way : (me : Me (Unit {0}) View) (node level : ℕ) → IsAt first m key me node level → OnWay k me (walk_at m key node level (length me.0.seen))
@@ -56,6 +59,7 @@ module _ (k : Begin) (first : Me (Unit {0}) View) (m key : ℕ) (writing : IsWri
               seen = a.seen;
               is = whole ∙ ap (λ (u : View). standing u None None) a.is;
               called = subst (λ (z : MapReply × View). Called (start_of first.0.begin) (calls.Map m call) (replies.Map z.0) (cost_of call) (view_state first.0) (view_state z.1)) (λ i. (sym end.1 i, sym last_is i)) a.called;
+              looks = looks_still after.0 last None None after.0.lock after.0.upper after.0.gate after.0.spot after.0.pruned whole a.looks;
             }
     ends held leaf last below last_is (Stands n l) end settles = of_entry (is_key_entry call held) end.0 settles
       where
@@ -114,11 +118,27 @@ writing_on k first me m walk w is = subst (λ z. IsWriting k z m) (sym is) recor
 
 -- and its call is as if it had stood nowhere
 pub answers_on : (m : ℕ) (call : MapCall ℕ) (reply : MapReply) (words : ℕ) (v u w : View) (walk : Option Walk) → u ≡ standing v walk None → AnswersAndPrunes m call reply words u w → AnswersAndPrunes m call reply words v w
-answers_on m call reply words v u w walk is (cut, a) = let b = subst (λ z. Answers m call reply words None (having_cut z cut) w) is a in (cut, record { item = b.item; seen = b.seen; is = b.is; called = b.called })
+answers_on m call reply words v u w walk is (cut, a) = let b = subst (λ z. Answers m call reply words None (having_cut z cut) w) is a in (cut, record { item = b.item; seen = b.seen; is = b.is; called = b.called; looks = b.looks })
 
 -- a call that was answered on its way cut off no node
 pub answers_alone : (m : ℕ) (call : MapCall ℕ) (reply : MapReply) (words : ℕ) (v w : View) → Answers m call reply words None v w → AnswersAndPrunes m call reply words v w
-answers_alone m call reply words v w a = ([], record { item = a.item; seen = a.seen; is = a.is; called = a.called })
+answers_alone m call reply words v w a = ([], record { item = a.item; seen = a.seen; is = a.is; called = a.called; looks = a.looks })
+
+-- a call under a lock, from before the lock was taken until it was given back
+pub made_there : (m : ℕ) (call : MapCall ℕ) (key node level : ℕ) (reply : MapReply) (words : ℕ) (v u x y : View) (l : Lock) (cut : List DeadNode) → v.lock ≡ None → v.upper ≡ None → u ≡ holding v v.gate (Some l) None
+    → MadeLocked m call key node level reply words u x → y ≡ having_cut (standing (holding x x.gate None None) None None) cut → AnswersAndPrunes m call reply words v y
+made_there m call key node level reply words v u x y l cut free alone took made left =
+    let makes = (subst (λ (z : View). MadeLocked m call key node level reply words z x) took made).makes in (
+      cut,
+      record {
+        item = makes.item;
+        seen = makes.seen;
+        is = left ∙ ap (λ (z : View). having_cut (standing (holding z z.gate None None) None None) cut) makes.is
+            ∙ (λ i. record (called_view v (paid (cost_of call) words (with_item v.owns makes.item)) makes.seen) { walk = None; leaf = None; lock = sym free i; upper = sym alone i; pruned = cut ++ v.pruned });
+        called = subst (λ (z : View). Called (start_of v.begin) (calls.Map m call) (replies.Map reply) (cost_of call) (view_state v) (view_state z)) (sym left) makes.called;
+        looks = looks_still x y None None None None x.gate x.spot (cut ++ x.pruned) left makes.looks;
+      },
+    )
 
 -- a call inside the gate, between coming in and going out
 pub made_between : (k : Begin) (m : ℕ) (call : MapCall ℕ) (reply : MapReply) (words : ℕ) (first : Me (Unit {0}) View) (inside before after : View) → IsFree k first → inside ≡ holding first.0 (Inside m) None None → AnswersAndPrunes m call reply words inside before → after ≡ holding before Outside None None → MakesAndPrunes m call reply words first.0 after
@@ -132,6 +152,7 @@ made_between k m call reply words first inside before after free came (cut, made
         seen = a.seen;
         is = went ∙ ap (λ z. holding z Outside None None) a.is ∙ (λ i. record (called_view v (paid (cost_of call) words (with_item v.owns a.item)) a.seen) { walk = sym idle.walk i; leaf = sym idle.leaf i; gate = sym idle.gate i; lock = sym idle.lock i; upper = sym idle.upper i });
         called = subst (λ z. Called (start_of v.begin) (calls.Map m call) (replies.Map reply) (cost_of call) (view_state v) (view_state z)) (sym went) a.called;
+        looks = looks_still before after before.walk before.leaf None None Outside before.spot before.pruned went a.looks;
       },
     )
 

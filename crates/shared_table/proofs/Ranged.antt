@@ -19,6 +19,7 @@ use Rattle.shared_table.specs.CursorStays.{old_step, still_at, still_step}
 use Rattle.table_rule.specs.Operations.{PlacesCall}
 use Rattle.shared_table.specs.Ranging.{showing}
 use Rattle.table_rule.specs.Views.{held_in, called_view, with_item, view_state, Looks}
+use Rattle.shared_table.proofs.Seeing.{looks_still}
 
 -- a caller's seat let its cursor go when its call was placed: it is as after any other call
 pub let_go : (call : SharedCall) (reply : SharedReply) (v w : View) (before after : Option Spot) → v.spot ≡ None → v.leaf ≡ None → Sweeps call reply after None (record v { spot = before }) w → PlacesCall call reply v (unmounted w)
@@ -27,20 +28,7 @@ let_go call reply v w before after nowhere entry s = record {
   seen = s.seen;
   is = ap unmounted s.is ∙ (λ i. record (called_view v (with_item v.owns s.item) s.seen) { spot = sym nowhere i; leaf = sym entry i });
   called = s.called;
-}
-
-pub looks_then : (w : View) → Looks w w → Looks (unmounted w) (unmounted w)
-looks_then w looks = record {
-  log = looks.log;
-  calls = looks.calls;
-  is = ap unmounted looks.is;
-  seen = looks.seen;
-  heard = looks.heard;
-  lawful = looks.lawful;
-  none_else = looks.none_else;
-  owned = looks.owned;
-  made = looks.made;
-  long = looks.long;
+  looks = looks_still w (unmounted w) w.walk w.leaf w.lock w.upper w.gate None w.pruned refl s.looks;
 }
 
 -- the caller's list after its call

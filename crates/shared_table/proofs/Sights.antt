@@ -27,6 +27,7 @@ use Rattle.table_rule.specs.Shape.{start_of}
 use Rattle.table_rule.specs.Views.{MayPay, view_state}
 use Rattle.table_rule.specs.Walking.{standing, walk_at, given_by, HasWords, Answers, IsAlong, Affords, AtEntry}
 use Rattle.table_rule.specs.Writing.{holding, lock_at}
+use Rattle.shared_table.proofs.Seeing.{looks_still}
 
 -- a caller with a unit of room can pay
 pub unit_pays : (owns : List Own) (next cost : ℕ) → HasUnit owns next → cost ≡ 1 → Affords cost owns
@@ -113,6 +114,7 @@ module _ (k : Begin) (me after : Me (Unit {0}) View) (call : MapCall ℕ) (m key
         seen = a.seen;
         is = settled mid word is (ap (λ (z : View). z.upper) a.is ∙ stands.alone) ∙ ap (λ (z : View). record z { lock = Some (lock word) }) a.is;
         called = subst (λ (z : View). Called (start_of me.0.begin) (calls.Map m call) (replies.Map (key_reply call (leaf_value leaf key))) (cost_of call) (view_state me.0) (view_state z)) (sym is) a.called;
+        looks = looks_still mid after.0 mid.walk mid.leaf (Some (lock word)) None mid.gate mid.spot mid.pruned is a.looks;
       };
     }
 
@@ -191,6 +193,7 @@ made_locked k call m key node level next words leaf v w after p told =
         seen = makes.seen;
         is = makes.is;
         called = subst (λ z. Called (start_of v.begin) (calls.Map m call) (replies.Map z) (cost_of call) (view_state v) (view_state after.0)) reply_is makes.called;
+        looks = makes.looks;
       };
     }
 

@@ -21,6 +21,7 @@ use Rattle.table_rule.specs.Walking.{standing, walk_at, given_by, HasWords, Answ
 use Rattle.shared_table.specs.Notes.{own_by, IsNoteOf}
 use Rattle.table_words.specs.Seats.{begin_of}
 use Rattle.shared_table.proofs.Calling.{some_own}
+use Rattle.shared_table.proofs.Seeing.{looks_still}
 
 -- a note's seat may begin a walk
 pub free_seat : (table : SharedTable) (note : SharedNote) → IsNoteOf table note → IsSome (own_by note) → IsFree (begin_of table.words) note.seat.me
@@ -47,6 +48,7 @@ module _ (k : Begin) (first : Me (Unit {0}) View) (free : IsFree k first) (m key
     seen = a.seen;
     is = is ∙ ap (λ u. standing u None None) a.is ∙ (λ i. standing (called_view first.0 (with_item first.0.owns a.item) a.seen) (sym free.idle.walk i) (sym free.idle.leaf i));
     called = subst (λ u. Called (start_of first.0.begin) (calls.Map m (Load key)) (replies.Map reply) 0 (view_state first.0) (view_state u)) (sym is) a.called;
+    looks = looks_still mid last None None mid.lock mid.upper mid.gate mid.spot mid.pruned is a.looks;
   }
 
   module _ (me after : Me (Unit {0}) View) (node level : ℕ) (at : IsAt first m key me node level) (same : after.1 ≡ me.1) where

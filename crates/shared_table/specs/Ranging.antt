@@ -19,7 +19,7 @@ use Rattle.trie_nodes.specs.PlaceLists.{nodes_of, slots_of}
 use Rattle.table_rule.specs.Cursors.{at_spot, Sweeps, Sweeping, IsCursorOf}
 use Rattle.table_rule.specs.Operations.{PlacesCall}
 use Rattle.table_words.specs.Seats.{begin_of, IsSeatOf}
-use Rattle.table_rule.specs.Views.{view_state, Looks}
+use Rattle.table_rule.specs.Views.{view_state}
 use Rattle.table_rule.specs.Walking.{HasWords}
 
 -- where a cursor stands that has come to this place
@@ -72,8 +72,7 @@ pub record IsCursor (words : TableWords) (cursor : TableCursor) (m b : ℕ) (ite
   pub is_begin : spot.begin ≡ b
   pub of : IsCursorOf items spot
 
--- a caller's seat made a call of its cursor, which then walks over map m, and call number b of the caller began it. The seat has then seen the whole history
+-- a caller's seat made a call of its cursor, which then walks over map m, and call number b of the caller began it
 pub record RangesOn (words : TableWords) (cursor : TableCursor) (m b : ℕ) (call : SharedCall) (reply : SharedReply) (v w : View) : Type 0 where
   pub placed : PlacesCall call reply v w
   pub stands : IsCursor words cursor m b (items_of (view_state w).own)
-  pub looks : Looks w w

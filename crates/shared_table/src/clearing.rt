@@ -15,7 +15,7 @@ ghost use Rattle.table_rule.specs.Making.{HasUnit};
 ghost use Rattle.table_words.specs.Seats.{begin_of, IsSeatOf};
 ghost use Rattle.table_rule.specs.Walking.{IsFree};
 ghost use Rattle.table_rule.specs.Writing.{holding, HasRoomWithin};
-ghost use Rattle.shared_table.specs.Notes.{front_by, own_by, seen_by, IsNoteOf};
+ghost use Rattle.shared_table.specs.Notes.{front_by, own_by, seen_by, IsLawfulFor, IsNoteOf};
 ghost use Rattle.shared_table.specs.Tables.{maps_of, first_of};
 
 use crate::note::SharedNote;
@@ -37,6 +37,7 @@ impl SharedTable {
         requires spare { ForSome (own_by note.old) (λ holding. 1 ≤ holding.spare) }
         ensures home { SameHome IsNoteOf note.old note.new }
         ensures called { Called (first_of self.now) (calls.Map map Clear) (replies.Map Done) 1 (state_of own_by front_by seen_by note.old) (state_of own_by front_by seen_by note.new) }
+        ensures lawful { IsLawfulFor self.now note.new }
     {
         self.clear(rt, &mut note.seat, map, note.next);
         note.next += NODE_WORDS as u64;

@@ -10,7 +10,7 @@ ghost use Rattle.table_rule.specs.declared.view.Leaf.{Leaf};
 ghost use Rattle.table_rule.specs.Operations.{PlacesCall};
 ghost use Rattle.table_words.specs.Seats.{begin_of, IsSeatOf};
 ghost use Rattle.table_rule.specs.Walking.{standing, given_by, HasWords, IsFree, AtEntry};
-ghost use Rattle.shared_table.specs.Notes.{front_by, own_by, seen_by, IsNoteOf};
+ghost use Rattle.shared_table.specs.Notes.{front_by, own_by, seen_by, IsLawfulFor, IsNoteOf};
 ghost use Rattle.shared_table.specs.Tables.{maps_of, first_of};
 
 use crate::note::SharedNote;
@@ -36,6 +36,7 @@ impl SharedTable {
         requires map { map < maps_of self.now }
         ensures home { SameHome IsNoteOf note.old note.new }
         ensures called { Called (first_of self.now) (calls.Map map (Load key)) (replies.Map (Found result)) 0 (state_of own_by front_by seen_by note.old) (state_of own_by front_by seen_by note.new) }
+        ensures lawful { IsLawfulFor self.now note.new }
         ensures cost { steps.new ≤ steps.old + 11 }
         ensures least { MatchOption result (steps.old + 2 ≤ steps.new) (λ value. steps.old + 4 ≤ steps.new) }
     {

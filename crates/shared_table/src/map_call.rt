@@ -10,7 +10,7 @@ ghost use Rattle.sync_model.specs.declared.item.SharedCall.TheVariants as calls;
 ghost use Rattle.sync_model.specs.declared.item.SharedReply.TheVariants as replies;
 ghost use Rattle.sync_model.specs.Note.{SameHome};
 ghost use Rattle.sync_model.specs.Shared.{Called, cost_of, state_of};
-ghost use Rattle.shared_table.specs.Notes.{front_by, own_by, seen_by, IsNoteOf};
+ghost use Rattle.shared_table.specs.Notes.{front_by, own_by, seen_by, IsLawfulFor, IsNoteOf};
 ghost use Rattle.table_rule.specs.Making.{HasUnit, leaf_value, Publishes, StandsLocked};
 ghost use Rattle.table_words.specs.Seats.{begin_of, IsSeatOf};
 ghost use Rattle.shared_table.specs.Drafts.{IsPoised};
@@ -96,6 +96,7 @@ impl SharedTable {
         requires spare { ForSome (own_by note.old) (λ holding. cost_of call ≤ holding.spare) }
         ensures home { SameHome IsNoteOf note.old note.new }
         ensures called { Called (first_of self.now) (calls.Map map call) (replies.Map result) (cost_of call) (state_of own_by front_by seen_by note.old) (state_of own_by front_by seen_by note.new) }
+        ensures lawful { IsLawfulFor self.now note.new }
     {
         let made = self.make(rt, &mut note.seat, call, map, key, note.number, note.next);
         note.next += made.words;

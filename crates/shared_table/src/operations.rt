@@ -2,7 +2,9 @@
 //! call of its caller, placed at that step.
 ghost use Rattle.std.specs.Prelude.{IsSome};
 ghost use Rattle.sync_model.specs.Note.{SameHome};
-ghost use Rattle.shared_table.specs.Notes.{own_by, IsNoteOf, IsOperationOn, Operated};
+ghost use Rattle.shared_table.specs.Notes.{front_by, own_by, seen_by, IsLawfulFor, IsNoteOf, IsOperationOn, Operated};
+ghost use Rattle.sync_model.specs.Shared.{state_of};
+ghost use Rattle.table_rule.specs.Operations.{IsAtEnd};
 ghost use Rattle.table_rule.specs.WordSteps.{word_after};
 
 use crate::note::SharedNote;
@@ -25,6 +27,8 @@ impl SharedTable {
         requires operation { IsOperationOn self.now atomic call (word_after step) }
         ensures home { SameHome IsNoteOf note.old note.new }
         ensures called { Operated self.now atomic call result note.old note.new }
+        ensures lawful { IsLawfulFor self.now note.new }
+        ensures last { IsAtEnd (state_of own_by front_by seen_by note.new) }
     {
         self.words.operate(&mut note.seat, atomic, call, step)
     }

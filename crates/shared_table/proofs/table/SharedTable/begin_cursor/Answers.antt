@@ -12,4 +12,4 @@ returns-clause-home c home is = note_on home c.args.note.now _ (calls.Begin c.ar
 pub returns-clause-lawful : goal.returns-clause-lawful
 returns-clause-lawful c =
     let begun = c.begin.ensures.begun.1 in
-    lawful_for c.args.self.now _ c.begin.new.seat.me.0 (ap (λ (u : View). u.begin) begun.placed.is ∙ c.requires.note.0.begin) begun.looks
+    lawful_for c.args.self.now _ c.begin.new.seat.me.0 (ap (λ (u : View). u.begin) begun.placed.is ∙ c.requires.note.0.begin) begun.placed.looks

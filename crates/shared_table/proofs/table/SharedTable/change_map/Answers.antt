@@ -1,4 +1,6 @@
-use Rattle.std.proofs.Common.{rules}
+use Rattle.std.proofs.Common.{rules, ap, ◌∙◌}
+use Rattle.table_rule.specs.declared.view.View.{View}
+use Rattle.shared_table.proofs.Noting.{lawful_for}
 use Rattle.shared_table.proofs.Payments.{has_unit, next_small}
 use Rattle.shared_table.proofs.table.SharedTable.change_map.Goals as goal
 
@@ -10,3 +12,8 @@ overflow_add-note g c =
     let small = next_small c.args.self.now c.args.note.now c.args.map c.args.call c.make-made.result.reply c.make-made.result.words c.make-made.new.seat.me.0 c.requires.note.0 c.requires.call.1
     (has_unit c.args.note.now _ c.requires.note.1 c.requires.note.0.unwritten c.requires.call.1 c.requires.spare) c.make-made.ensures.made.1.0 c.make-made.ensures.made.1.1 c.make-made.ensures.room in
     search rules
+
+pub returns-clause-lawful : goal.returns-clause-lawful
+returns-clause-lawful g c =
+    let made = c.make-made.ensures.made.1.1 in
+    lawful_for c.args.self.now _ c.make-made.new.seat.me.0 (ap (λ (u : View). u.begin) made.is ∙ c.requires.note.0.begin) made.looks

@@ -1,6 +1,8 @@
-use Rattle.std.proofs.Common.{rules, [], ◌∷◌, refl}
+use Rattle.std.proofs.Common.{rules, [], ◌∷◌, refl, ap, ◌∙◌}
 use Rattle.sync_types.specs.declared.map_object.MapCall.TheVariants.{Clear}
 use Rattle.sync_types.specs.declared.map_object.MapReply.TheVariants.{Done}
+use Rattle.table_rule.specs.declared.view.View.{View}
+use Rattle.shared_table.proofs.Noting.{lawful_for}
 use Rattle.shared_table.proofs.Payments.{has_unit, next_small}
 use Rattle.shared_table.proofs.table.SharedTable.clear_map.Goals as goal
 
@@ -12,3 +14,8 @@ overflow_add-note g c =
     let small = next_small c.args.self.now c.args.note.now c.args.map Clear Done 18 c.clear.new.seat.me.0 c.requires.note.0 refl
     (has_unit c.args.note.now 1 c.requires.note.1 c.requires.note.0.unwritten refl c.requires.spare) (c.clear.ensures.made.1.0 ∷ []) c.clear.ensures.made.1.2 c.clear.ensures.room in
     search rules
+
+pub returns-clause-lawful : goal.returns-clause-lawful
+returns-clause-lawful g c =
+    let made = c.clear.ensures.made.1.2 in
+    lawful_for c.args.self.now _ c.clear.new.seat.me.0 (ap (λ (u : View). u.begin) made.is ∙ c.requires.note.0.begin) made.looks

@@ -1,9 +1,17 @@
+use Rattle.std.proofs.Common.{ap, ◌∙◌}
 use Rattle.sync_model.specs.declared.item.SharedCall.TheVariants as calls
 use Rattle.sync_model.specs.declared.item.SharedReply.TheVariants as replies
 use Rattle.sync_types.specs.declared.map_object.MapCall.TheVariants.{Load}
 use Rattle.sync_types.specs.declared.map_object.MapReply.TheVariants.{Found}
+use Rattle.table_rule.specs.declared.view.View.{View}
 use Rattle.shared_table.proofs.Calling.{note_on}
+use Rattle.shared_table.proofs.Noting.{lawful_for}
 use Rattle.shared_table.proofs.table.SharedTable.look_up.Goals as goal
 
 pub returns-clause-home : goal.returns-clause-home
 returns-clause-home g c home is = note_on home c.args.note.now _ (calls.Map c.args.map (Load c.args.key)) (replies.Map (Found c.walk.result)) is c.walk.ensures.table c.walk.ensures.called.0 c.walk.ensures.called.1
+
+pub returns-clause-lawful : goal.returns-clause-lawful
+returns-clause-lawful g c =
+    let placed = c.walk.ensures.called.1 in
+    lawful_for c.args.self.now _ c.walk.new.seat.me.0 (ap (λ (u : View). u.begin) placed.is ∙ c.requires.note.0.begin) placed.looks

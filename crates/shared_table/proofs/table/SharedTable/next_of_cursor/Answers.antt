@@ -42,4 +42,4 @@ pub returns-clause-lawful : goal.returns-clause-lawful
 returns-clause-lawful c =
     let is = c.requires.cursor in
     let stepped = c.next.ensures.stepped is.0 is.1 (of_holder (IsCursor c.args.self.now.words c.args.cursor.now is.0 is.1) (own_by c.args.note.now) c.requires.note.1 is.2) in
-    lawful_for c.args.self.now _ c.next.new.seat.me.0 (ap (λ (u : View). u.begin) stepped.placed.is ∙ c.requires.note.0.begin) stepped.looks
+    lawful_for c.args.self.now _ c.next.new.seat.me.0 (ap (λ (u : View). u.begin) stepped.placed.is ∙ c.requires.note.0.begin) stepped.placed.looks
