@@ -5,8 +5,9 @@ ghost use Rattle.sync_types.specs.declared.atomic_object.Number.{Number};
 ghost use Rattle.sync_types.specs.Replies.{atomic_form};
 ghost use Rattle.sync_types.specs.SequentialAtomic.{is_atomic_call, is_of};
 ghost use Rattle.sync_model.specs.Shared.{Called, IsCallerAt, state_of};
-ghost use Rattle.shared_table.specs.Notes.{front_by, own_by, seen_by, IsNoteOf};
+ghost use Rattle.shared_table.specs.Notes.{front_by, own_by, seen_by, IsLawfulFor, IsNoteOf};
 ghost use Rattle.shared_table.specs.Tables.{kinds_of, first_of};
+ghost use Rattle.table_rule.specs.Operations.{IsAtEnd};
 
 use shared_table::{SharedNote, SharedTable, WordStep};
 use sync_model::{Caller, SharedCall, SharedReply};
@@ -31,6 +32,8 @@ pub fn atomic_call(
     ensures held { (number : Number) → result ≡ AtomicReply.Held number → is_of kind number ≡ true }
     ensures home { SameHome IsNoteOf caller.old.note caller.new.note }
     ensures called { Called (first_of table.now) (SharedCall.Atomic atomic call) (SharedReply.Atomic result) 0 (state_of own_by front_by seen_by caller.old.note) (state_of own_by front_by seen_by caller.new.note) }
+    ensures lawful { IsLawfulFor table.now caller.new.note }
+    ensures last { IsAtEnd (state_of own_by front_by seen_by caller.new.note) }
 {
     steps_on_words();
     let note = &mut caller.note;

@@ -3,6 +3,7 @@
 
 pub mod atomic;
 mod call;
+pub mod laws;
 pub mod value;
 
 pub use atomic::{Atomic, Bool, Int32, Int64, Uint32, Uint64};

@@ -15,9 +15,9 @@ use Rattle.shared_table.specs.Ranging.{IsCursor}
 use Rattle.shared_table.specs.Tables.{first_of}
 use Rattle.go_map.specs.declared.cursor.Cursor.{Cursor}
 
--- a note's holder made a call of a walk, and was answered so: the call is one more of the holder's own
+-- a note's holder made a call of a walk, and was answered so: the call is one more of the holder's own. What the holder has then seen is lawful with all callers' calls
 abbrev pub MakesStep : SharedTable → SharedCall → SharedReply → SharedNote → SharedNote → Type 0
-MakesStep table call reply old new = SameHome IsNoteOf old new × Called (first_of table) call reply 0 (state_of own_by front_by seen_by old) (state_of own_by front_by seen_by new)
+MakesStep table call reply old new = SameHome IsNoteOf old new × Called (first_of table) call reply 0 (state_of own_by front_by seen_by old) (state_of own_by front_by seen_by new) × IsLawfulFor table new
 
 -- how many calls a note's holder has made
 abbrev pub calls_by : SharedNote → ℕ

@@ -3,7 +3,7 @@ use Rattle.go_map.proofs.RangeLaw.{keeps_range}
 use Rattle.go_map.proofs.cursor.Cursor.next.Goals as goal
 
 pub returns-clause-called : goal.returns-clause-called
-returns-clause-called c begin stands = (c.next_of_cursor.ensures.home, c.next_of_cursor.ensures.called c.args.map.now.number begin stands)
+returns-clause-called c begin stands = (c.next_of_cursor.ensures.home, c.next_of_cursor.ensures.called c.args.map.now.number begin stands, c.next_of_cursor.ensures.lawful)
 
 pub returns-clause-stands : goal.returns-clause-stands
 returns-clause-stands c begin stands = c.next_of_cursor.ensures.stands c.args.map.now.number begin stands
