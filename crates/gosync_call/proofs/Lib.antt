@@ -5,9 +5,13 @@ pub mod Lines
 pub mod MadeLines
 pub mod MessageTexts
 pub mod Reading
+pub mod ReplyTexts
+pub mod ReportNames
 pub mod Runs
 pub mod Seeds
 pub mod Shown
 pub mod Statuses
+pub mod TextCuts
+pub mod Told
 pub mod WriteCounts
 pub mod Writing

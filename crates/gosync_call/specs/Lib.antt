@@ -8,4 +8,5 @@ pub mod MadeText
 pub mod Messages
 pub mod ReportText
 pub mod Shown
+pub mod Told
 pub mod Writes
