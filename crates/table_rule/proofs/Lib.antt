@@ -1,3 +1,4 @@
 pub mod Standing
 pub mod Holders
 pub mod CutNodes
+pub mod Unused

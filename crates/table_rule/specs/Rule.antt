@@ -1,5 +1,5 @@
 -- The rule of a shared table: whatever its seats do, there is one history, which is lawful with all callers' calls, and of which the words are the outcome.
-use Rattle.std.specs.Prelude.{◌≡◌, ℕ, ◌<◌, ◌≤◌, ◌^◌, true, List, []}
+use Rattle.std.specs.Prelude.{◌≡◌, ℕ, ◌<◌, ◌≤◌, ◌^◌, true, List, [], slice_index}
 use mathlib.Core.Option.{some}
 use lib.ListN.{get_elem?}
 use Rattle.atomic_table.specs.Table.{State}
@@ -15,6 +15,7 @@ use Rattle.table_rule.specs.Ledger.{Fits}
 use Rattle.table_rule.specs.Shape.{Shape, start_of, Fine}
 use Rattle.table_rule.specs.Gates.{Gated}
 use Rattle.table_rule.specs.Owed.{Suits}
+use Rattle.table_rule.specs.Unused.{IsUnused}
 
 -- a table without slots
 abbrev pub TableState : Type 0
@@ -32,5 +33,6 @@ pub record Kept (k : Begin) (s : TableState) : Type 0 where
   pub keys : HasKeysBelow (2 ^ 32) (contents_after (start_of k) log)
   pub fine : Fine k shape log s.words
   pub gates : (m : ℕ) → m < k.maps → Gated k shape s.words m
+  pub unused : (i : ℕ) → IsUnused k shape s.views i → slice_index s.words i ≡ 0
   pub fits : (j : ℕ) (v : View) → get_elem? s.views j ≡ some v → v.live ≡ true → Fits (callers_of k) log calls claim j v
   pub suits : (j : ℕ) (v : View) → get_elem? s.views j ≡ some v → v.live ≡ true → Suits k shape log calls s.words v

@@ -90,7 +90,6 @@ module _ (k : Begin) (sh : Shape) (log : List SharedEntry) (ws : List ℕ) where
   -- the words are those of this shape after this history
   pub record Fine : Type 0 where
     pub wide : length ws ≡ size_of k
-    pub zero_word : slice_index ws 0 ≡ 0
     pub numbers : (a : ℕ) (kind : AtomicKind) → slice_get k.kinds a ≡ Some kind → IsNumber kind (slice_index ws (atomic_word a)) (number_at (contents_after (start_of k) log) a)
     -- blocks lie behind the heads
     pub headed : (i : ℕ) → i < heads k → sh.part_of i ≡ 0

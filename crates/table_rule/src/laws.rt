@@ -1,22 +1,25 @@
 //! What the rule is for, in the words of whoever uses a table. Each law is the contract of a function that does nothing. They speak of
 //! any state of a table in which the rule holds (`Kept`): so it is at every moment, whatever the seats do.
-ghost use Rattle.std.specs.Prelude.{◌≡◌, ◌≢◌, ◌⊎◌, ℕ, suc, ◌+◌, ◌^◌, ◌<◌, ◌≤◌, true, false, Bool, Contains, Some, None, length, slice_index};
+ghost use Rattle.std.specs.Prelude.{◌≡◌, ◌≢◌, ◌⊎◌, ℕ, suc, ◌+◌, ◌*◌, ◌^◌, ◌<◌, ◌≤◌, true, false, Bool, Contains, Some, None, length, slice_get, slice_index};
+ghost use Rattle.atomic_table.specs.Table.{Me, Allows};
 ghost use Rattle.sync_model.specs.Journal.{Begins};
 ghost use Rattle.sync_model.specs.SharedHistory.{value_at, contents_at, contents_after};
 ghost use Rattle.trie_nodes.specs.declared.slot.Slot.TheVariants.{Node};
-ghost use Rattle.trie_nodes.specs.Layout.{slot_word, dead_word};
+ghost use Rattle.trie_nodes.specs.Layout.{atomic_word, slot_word, unit_words, dead_word};
 ghost use Rattle.trie_nodes.specs.Nodes.{slot_at, stands_for};
 ghost use Rattle.trie_nodes.specs.Paths.{nibble, route};
 ghost use Rattle.table_rule.specs.declared.begin.Begin.{Begin};
 ghost use Rattle.table_rule.specs.declared.view.CutNode.{CutNode};
 ghost use Rattle.table_rule.specs.declared.view.Gate.TheVariants.{Inside, Closed};
 ghost use Rattle.table_rule.specs.declared.view.Leaf.{Leaf};
+ghost use Rattle.table_rule.specs.declared.view.Own.{Own};
 ghost use Rattle.table_rule.specs.declared.view.View.{View};
 ghost use Rattle.table_rule.specs.Layout.{root_word, gate_word};
 ghost use Rattle.table_rule.specs.LawWords.{IsSeat, StandsFor, AllAtRest};
 ghost use Rattle.table_rule.specs.Owed.{HoldsLock};
 ghost use Rattle.table_rule.specs.Rule.{TableState, Kept};
 ghost use Rattle.table_rule.specs.Shape.{start_of};
+ghost use Rattle.table_rule.specs.Unused.{IsLeftOut};
 ghost use Rattle.table_rule.specs.Views.{IsIdle};
 
 pub mod steps;
@@ -127,4 +130,22 @@ pub fn a_caller_between_two_calls_holds_nothing()
     ensures gate { (k : Begin) (s : TableState) (r : Kept k s) (j m caller : ℕ) (v : View) → IsSeat s j v → IsIdle v → StandsFor v caller
         → (r.shape.inside m caller ≡ false) × (r.shape.closed_by m ≢ suc caller) }
     ensures open { (k : Begin) (s : TableState) (r : Kept k s) (m : ℕ) → AllAtRest k s → m < k.maps → slice_index s.words (gate_word k m) ≡ 0 }
+{}
+
+/// A word that nothing uses is 0 at every moment. Word 0 is one, which a cursor reads at its end, and so are the other words that the
+/// layout leaves out (`left_out`). No step on such a word is allowed that leaves anything else there (`no_step`). Behind what a caller has
+/// drafted its room is 0 (`room`), and so are the words that it went past without using them, and those at the end of a room that was
+/// used up: a word that isn't 0 is an atomic's, a map's root word or gate, a word of a node or an entry, or one that a caller has drafted
+/// (`used`).
+pub fn words_that_nothing_uses_stay_0()
+    ensures first { (k : Begin) (s : TableState) → Kept k s → slice_index s.words 0 ≡ 0 }
+    ensures left_out { (k : Begin) (s : TableState) → Kept k s → (i : ℕ) → IsLeftOut k i → slice_index s.words i ≡ 0 }
+    ensures no_step { (k : Begin) (s : TableState) → Kept k s → (id i : ℕ) (me : Me (Unit {0}) View) (f : ℕ → ℕ)
+        → IsSeat s id me.0 → IsLeftOut k i → Allows (Kept k) (length s.homes) id me i f (λ found after. Unit {0}) → f 0 ≡ 0 }
+    ensures room { (k : Begin) (s : TableState) (r : Kept k s) (j n i : ℕ) (v : View) (own : Own) → IsSeat s j v → slice_get v.owns n ≡ Some own → length own.draft ≤ i
+        → i < unit_words * own.spare → slice_index s.words (own.next + i) ≡ 0 }
+    ensures used { (k : Begin) (s : TableState) (r : Kept k s) (i : ℕ) → 0 < slice_index s.words i
+        → ((a : ℕ) → a < length k.kinds → i ≢ atomic_word a) → ((m : ℕ) → m < k.maps → (i ≢ root_word k m) × (i ≢ gate_word k m))
+        → ((p : ℕ) → r.shape.kind_of p ≡ 1 → p ≤ i → i < p + 18 → ⊥) → ((p : ℕ) → r.shape.kind_of p ≡ 2 → p ≤ i → i < p + 2 → ⊥)
+        → ((j n : ℕ) (v : View) (own : Own) → IsSeat s j v → slice_get v.owns n ≡ Some own → own.next ≤ i → i < own.next + length own.draft → ⊥) → ⊥ }
 {}

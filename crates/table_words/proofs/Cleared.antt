@@ -39,6 +39,8 @@ use Rattle.table_words.proofs.Ledgers.{longer, MayPlace, with_one, adds_one, law
 use Rattle.table_words.proofs.Lists.{past_end, in_more, words_at, words_at-index}
 use Rattle.table_words.proofs.Looking.{looks_so}
 use Rattle.table_words.proofs.Moves.{Keeps, moves}
+use Rattle.table_rule.specs.Unused.{IsUndrafted}
+use Rattle.table_words.proofs.Unused.{others_too, mine_now}
 use Rattle.table_words.proofs.NewRoots.{with_root, old_node, cut_here, Ground, EmptiesMap, behind_heads, fine_rooted, gates_rooted, later_rooted, apart_rooted, part_out, was_held}
 
 module _ (k : Begin) (laws : HistoryLaws) (s : TableState) (r : Kept k s) (id : ℕ) (me : Me (Unit {0}) View) (at_me : get_elem? s.views id ≡ some me.0) (own : Own) (owns : List Own) (is : me.0.owns ≡ own ∷ owns)
@@ -229,6 +231,13 @@ module _ (k : Begin) (laws : HistoryLaws) (s : TableState) (r : Kept k s) (id : 
     others = (adds_one r.calls me.0.number item).others;
     fits = fits_now;
     suits = suits_after;
+    old = me.0;
+    at_old = at_me;
+    live = has.live;
+    leaves = record {
+      drafts = λ i u. subst (λ os. IsUndrafted os i) (sym is) (others_too own own_after owns i (λ past. let none_drafted : length own.draft ≡ 0 = ap length blank in omega arith) (mine_now k shape s.views id me.0 view_after at_me has.live i u));
+      same = λ i u. get_or-set_other s.words (root_word k m) i own.next 0 (u.root m gate.0);
+    };
   }
 
   pub kept_cleared : Kept k record { words = set s.words (root_word k m) own.next; homes = s.homes; views = set s.views id view_after }

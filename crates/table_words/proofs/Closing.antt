@@ -27,6 +27,7 @@ use Rattle.table_words.proofs.Frames.{Later, Apart}
 use Rattle.table_words.proofs.Gating.{free, behind, no_root, no_gate, gate_within, closed_large, open_at, tries}
 use Rattle.table_words.proofs.Outside.{same, later_out, apart_out, fine_out}
 use Rattle.table_words.proofs.Quiet.{later_same, apart_same, kept_standing}
+use Rattle.table_words.proofs.Unused.{map_gate, no_word}
 use Rattle.table_words.proofs.Still.{owned, still, fits_holding, suits_holding, holds_none}
 
 -- the same shape, with gates closed by others
@@ -85,7 +86,6 @@ module _ (k : Begin) (sh : Shape) (log : List SharedEntry) (ws : List ℕ) (j x 
   pub fine_closed : Fine k (with_closers sh now) log (set ws j x)
   fine_closed = let f = fine_out k sh log ws j x sh.inside fine none_there past other_root in record {
     wide = f.wide;
-    zero_word = f.zero_word;
     numbers = f.numbers;
     headed = f.headed;
     nodes = λ p is. let n = f.nodes p is in record { lies = n.lies; within = n.within; words = n.words; map = n.map; level = n.level; key = n.key; below = n.below; is_key = n.is_key; path = n.path };
@@ -159,6 +159,8 @@ module _ (k : Begin) (laws : HistoryLaws) (s : TableState) (r : Kept k s) (id : 
       → AtGate k (with_closers r.shape (closers r.shape.closed_by m who)) v.number gate → Kept k record { words = set s.words (gate_word k m) x; homes = s.homes; views = set s.views id (holding v gate None None) }
   kept_gate word others back knows at_gate = let u = r.suits id v at_me live in
       still k laws s r id v at_me live own owns is (with_closers r.shape (closers r.shape.closed_by m who)) (set s.words (gate_word k m) x) (holding v gate None None)
+      live
+      (map_gate k (with_closers r.shape (closers r.shape.closed_by m who)) s.views id v (holding v gate None None) at_me live refl s.words m x below)
       (fits_holding k laws s r id v at_me live own owns is gate None None)
       (fine_closed k r.shape r.log s.words (gate_word k m) x (closers r.shape.closed_by m who) r.fine (free k s r m below) (behind k s r m below) (no_root k s r m below))
       (gates_now word)
@@ -232,6 +234,8 @@ module _ (k : Begin) (laws : HistoryLaws) (s : TableState) (r : Kept k s) (id : 
   kept_alone : slice_index s.words (gate_word k m) ≡ 2 ^ 32 → Kept k record { words = s.words; homes = s.homes; views = set s.views id (holding me.0 (Closed m true) None None) }
   kept_alone word = let u = r.suits id me.0 at_me has.live in
       still k laws s r id me.0 at_me has.live own owns is r.shape s.words (holding me.0 (Closed m true) None None)
+      has.live
+      (no_word k r.shape s.views id me.0 (holding me.0 (Closed m true) None None) at_me has.live refl s.words)
       (fits_holding k laws s r id me.0 at_me has.live own owns is (Closed m true) None None)
       r.fine r.gates (later_same r.shape r.log s.words) (apart_same k me.0.number r.shape s.words)
       (suits_holding k laws s r id me.0 at_me has.live own owns is r.shape s.words (Closed m true) None None (later_same r.shape r.log s.words)

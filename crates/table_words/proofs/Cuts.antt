@@ -28,6 +28,8 @@ use Rattle.table_words.proofs.Cutting.{with_cut, Stub, fine_cut, gates_cut, late
 use Rattle.table_words.proofs.Frames.{Later}
 use Rattle.table_words.proofs.Lists.{in_more, zeros}
 use Rattle.table_words.proofs.LockWords.{by_first, same_map}
+use Rattle.table_words.proofs.Outside.{nibble_below}
+use Rattle.table_words.proofs.Unused.{node_word}
 use Rattle.table_words.proofs.Still.{still, fits_holding, suits_holding}
 use Rattle.table_words.proofs.UpperLocks.{above_other}
 
@@ -168,7 +170,10 @@ module _ (k : Begin) (laws : HistoryLaws) (tries : TrieLaws) (s : TableState) (r
   fits_after = let f = fits_holding k laws s r id me.0 at_me both.live own owns is me.0.gate (Some (bare u)) None in record { seen = f.seen; heard = f.heard; long = f.long; front = f.front; owns = f.owns }
 
   pub kept_cut : Kept k record { words = set s.words (slot_word u.node (nibble u.key k.seed u.level)) 0; homes = s.homes; views = set s.views id view_after }
-  kept_cut = still k laws s r id me.0 at_me both.live own owns is shape words view_after fits_after
+  kept_cut = still k laws s r id me.0 at_me both.live own owns is shape words view_after
+      both.live
+      (node_word k shape s.views id me.0 view_after at_me both.live refl s.words u.node (slot_word u.node (nibble u.key k.seed u.level)) 0 upper.2.node (omega arith) (let small = nibble_below u.key k.seed u.level in omega arith))
+      fits_after
       fine_after
       (λ m below. gates_cut k r.shape r.log s.words u.node u.level u.key l.node tries stub m below (r.gates m below))
       later

@@ -271,7 +271,6 @@ module _ (k : Begin) (sh : Shape) (log : List SharedEntry) (ws : List ℕ) (p d 
   pub fine_cut : Fine k (with_cut sh child (length log)) log (set ws (slot_word p (nibble key k.seed d)) 0)
   fine_cut = record {
     wide = length-set ws (slot_word p (nibble key k.seed d)) 0 ∙ fine.wide;
-    zero_word = head 0 (omega arith) ∙ fine.zero_word;
     numbers = λ a kind at. let below = slice_get_within k.kinds a kind at in
         subst (λ n. IsNumber kind n (number_at (contents_after (start_of k) log) a)) (sym (head (atomic_word a) (omega arith))) (fine.numbers a kind at);
     headed = fine.headed;

@@ -1,5 +1,5 @@
 -- A caller writes the next word of its own room, which nobody else reads yet.
-use Rattle.std.proofs.Common.{◌≡◌, ◌≢◌, ℕ, zero, suc, ◌+◌, ◌*◌, ◌<◌, ◌≤◌, true, List, [], ◌∷◌, ◌++◌, length, set, Some, slice_get, slice_index, inl, inr, refl, sym, ap, ◌∙◌, subst, arith, get_or-set_same, Bool, None}
+use Rattle.std.proofs.Common.{◌≡◌, ◌≢◌, ℕ, zero, suc, ◌+◌, ◌*◌, ◌<◌, ◌≤◌, true, List, [], ◌∷◌, ◌++◌, length, set, Some, slice_get, slice_index, inl, inr, refl, sym, ap, ◌∙◌, subst, arith, get_or-set_same, length-append, Bool, None}
 use Rattle.std.proofs.lemmas.Bool.{cases_eq}
 use Rattle.std.proofs.lemmas.List.{append-nil}
 use Rattle.std.proofs.lemmas.Option.{same_Some}
@@ -24,6 +24,8 @@ use Rattle.table_rule.specs.Writing.{with_word, Drafts}
 use Rattle.table_words.proofs.Frames.{Later, walks_on, leaf_on, cut_on, stands_on}
 use Rattle.table_words.proofs.Outside.{with_inside, same, in_node, later_out, apart_out, fine_out}
 use Rattle.table_words.proofs.Lists.{past_end}
+use Rattle.table_rule.specs.Unused.{IsUndrafted, IsUnused}
+use Rattle.table_words.proofs.Unused.{LeavesUnused, others_too, mine_now}
 use Rattle.table_words.proofs.Still.{still}
 
 -- the words of a draft with one more
@@ -178,8 +180,20 @@ module _ (k : Begin) (laws : HistoryLaws) (s : TableState) (r : Kept k s) (id : 
   pub zero_there : slice_index s.words (own.next + length own.draft) ≡ 0
   zero_there = mine.words (length own.draft) room ∙ past_end own.draft (length own.draft) (omega arith)
 
+  leaves : LeavesUnused k new s.views id v.owns view_after s.words words
+  leaves = record {
+    drafts = λ i u. subst (λ os. IsUndrafted os i) (sym is) (others_too own own_after owns i (λ past. let more = drafted_now i u past in let long = length-append own.draft (x ∷ []) in omega arith) (mine_now k new s.views id v view_after at_me live i u));
+    same = λ i u. elsewhere i (λ e. let more = drafted_now i u (omega arith) in let long = length-append own.draft (x ∷ []) in omega arith);
+  }
+    where
+      drafted_now : (i : ℕ) → IsUnused k new (set s.views id view_after) i → own.next ≤ i → own.next + length (own.draft ++ x ∷ []) ≤ i
+      drafted_now i u = mine_now k new s.views id v view_after at_me live i u 0 own_after refl
+
   pub kept_drafted : Kept k record { words = set s.words (own.next + length own.draft) x; homes = s.homes; views = set s.views id view_after }
-  kept_drafted = still k laws s r id v at_me live own owns is (with_inside r.shape r.shape.inside) (set s.words (own.next + length own.draft) x) view_after fits_on
+  kept_drafted = still k laws s r id v at_me live own owns is (with_inside r.shape r.shape.inside) (set s.words (own.next + length own.draft) x) view_after
+      live
+      leaves
+      fits_on
       (fine_out k r.shape r.log s.words (own.next + length own.draft) x r.shape.inside r.fine unused behind no_root)
       gates_on
       later

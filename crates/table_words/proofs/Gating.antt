@@ -23,6 +23,7 @@ use Rattle.table_rule.specs.Writing.{holding, ComesIn, IsInside, GoesOut}
 use Rattle.table_words.proofs.Frames.{Later}
 use Rattle.table_words.proofs.Outside.{with_inside, same, later_out, apart_out, fine_out}
 use Rattle.table_words.proofs.Quiet.{kept_standing}
+use Rattle.table_words.proofs.Unused.{map_gate}
 use Rattle.table_words.proofs.Still.{owned, still, fits_holding, suits_holding, holds_none}
 
 -- the writers, when a caller has come in to a map, or gone out
@@ -186,6 +187,8 @@ module _ (k : Begin) (laws : HistoryLaws) (s : TableState) (r : Kept k s) (id : 
   pub kept_inside : Kept k record { words = set s.words (gate_word k m) (old + 1); homes = s.homes; views = set s.views id (holding me.0 (Inside m) None None) }
   kept_inside = let u = r.suits id me.0 at_me outside.live in
       still k laws s r id me.0 at_me outside.live own owns is (with_inside r.shape (writers r.shape.inside m me.0.number true)) (set s.words (gate_word k m) (old + 1)) (holding me.0 (Inside m) None None)
+      outside.live
+      (map_gate k (with_inside r.shape (writers r.shape.inside m me.0.number true)) s.views id me.0 (holding me.0 (Inside m) None None) at_me outside.live refl s.words m (old + 1) below)
       (fits_holding k laws s r id me.0 at_me outside.live own owns is (Inside m) None None)
       (fine_out k r.shape r.log s.words (gate_word k m) (old + 1) (writers r.shape.inside m me.0.number true) r.fine (free k s r m below) (behind k s r m below) (no_root k s r m below))
       gates_now
@@ -288,6 +291,8 @@ module _ (k : Begin) (laws : HistoryLaws) (s : TableState) (r : Kept k s) (id : 
   pub kept_gone : Kept k record { words = set s.words (gate_word k m) word; homes = s.homes; views = set s.views id (holding me.0 Outside None None) }
   kept_gone = let u = r.suits id me.0 at_me writer.live in
       still k laws s r id me.0 at_me writer.live own owns is (with_inside r.shape (writers r.shape.inside m me.0.number false)) (set s.words (gate_word k m) word) (holding me.0 Outside None None)
+      writer.live
+      (map_gate k (with_inside r.shape (writers r.shape.inside m me.0.number false)) s.views id me.0 (holding me.0 Outside None None) at_me writer.live refl s.words m word below)
       (fits_holding k laws s r id me.0 at_me writer.live own owns is Outside None None)
       (fine_out k r.shape r.log s.words (gate_word k m) word (writers r.shape.inside m me.0.number false) r.fine (free k s r m below) (behind k s r m below) (no_root k s r m below))
       gates_out

@@ -136,7 +136,6 @@ module _ (k : Begin) (sh : Shape) (log : List SharedEntry) (ws : List ℕ) (node
   pub fine_hold : Fine k (with_holder sh node holder) log (set ws node x)
   fine_hold = record {
     wide = length-set ws node x ∙ fine.wide;
-    zero_word = head 0 (omega arith) ∙ fine.zero_word;
     numbers = λ a kind at. let below = slice_get_within k.kinds a kind at in
         subst (λ n. IsNumber kind n (number_at (contents_after (start_of k) log) a)) (sym (head (atomic_word a) (omega arith))) (fine.numbers a kind at);
     headed = fine.headed;

@@ -11,6 +11,7 @@ pub mod Slots
 pub mod Ledgers
 pub mod KeyBounds
 pub mod Lists
+pub mod Unused
 pub mod Moves
 pub mod Numbers
 pub mod Opening

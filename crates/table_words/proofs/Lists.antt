@@ -24,6 +24,16 @@ module _ {V : Type 0} where
   at_end (x ∷ xs) a b zero e = inl e
   at_end (x ∷ xs) a b (suc j) e = ⊎_elim (λ t. inl t) (λ t. inr (ap suc t.0, t.1)) (at_end xs a b j e)
 
+  -- a list with one more has what it had, and that one
+  pub at_start : (views : List V) (a b : V) (j : ℕ) → get_elem? views j ≡ some b → get_elem? (views ++ a ∷ []) j ≡ some b
+  at_start [] a b j e = absurd (some-ne-none b (sym e))
+  at_start (x ∷ xs) a b zero e = e
+  at_start (x ∷ xs) a b (suc j) e = at_start xs a b j e
+
+  pub at_last : (views : List V) (a : V) → get_elem? (views ++ a ∷ []) (length views) ≡ some a
+  at_last [] a = refl
+  at_last (x ∷ xs) a = at_last xs a
+
   -- the view that was put in
   pub set_here : (views : List V) (i : ℕ) (v w : V) → get_elem? views i ≡ some v → get_elem? (set views i w) i ≡ some w
   set_here [] i v w e = absurd (some-ne-none v (sym e))
@@ -45,6 +55,16 @@ module _ {A : Type 0} where
   item_on [] z x (suc i) e = absurd (none-some x e)
   item_on (a ∷ xs) z x zero e = inl e
   item_on (a ∷ xs) z x (suc i) e = elim (item_on xs z x i e) [ inl h ↦ inl h | inr h ↦ inr (ap suc h.0, h.1) ]
+
+  -- an item of a list is one of a longer list, before or behind the others
+  pub item_front : (xs ys : List A) (x : A) (i : ℕ) → slice_get xs i ≡ Some x → slice_get (xs ++ ys) i ≡ Some x
+  item_front [] ys x i e = absurd (none-some x e)
+  item_front (a ∷ xs) ys x zero e = e
+  item_front (a ∷ xs) ys x (suc i) e = item_front xs ys x i e
+
+  pub item_back : (xs ys : List A) (x : A) (i : ℕ) → slice_get ys i ≡ Some x → slice_get (xs ++ ys) (length xs + i) ≡ Some x
+  item_back [] ys x i e = let at : i ≡ 0 + i = omega arith in subst (λ n. slice_get ys n ≡ Some x) at e
+  item_back (a ∷ xs) ys x i e = let at : suc (length xs + i) ≡ suc (length xs) + i = omega arith in subst (λ n. slice_get (a ∷ (xs ++ ys)) n ≡ Some x) at (item_back xs ys x i e)
 
   pub item_there : (xs : List A) (i : ℕ) → i < length xs → (x : A) × (slice_get xs i ≡ Some x)
   item_there [] i below = absurd (omega arith)

@@ -24,6 +24,7 @@ use Rattle.table_rule.specs.Writing.{holding}
 use Rattle.table_words.proofs.Frames.{Later}
 use Rattle.table_words.proofs.Holding.{with_holder, holder_of, other_holder, here, behind, other_node, gates_hold, later_hold, apart_hold, fine_hold, room_hold}
 use Rattle.table_words.proofs.Quiet.{later_same, apart_same, kept_standing}
+use Rattle.table_words.proofs.Unused.{node_word, no_word}
 use Rattle.table_words.proofs.Still.{KnowsLocks, owned, still, fits_holding, suits_holding}
 
 pub not_dead : (n : ℕ) → n < 2 ^ 32 → n ≢ dead_word
@@ -100,8 +101,11 @@ module _ (k : Begin) (laws : HistoryLaws) (s : TableState) (r : Kept k s) (id : 
         u.only knows u.closer locks uppers u.nobody
 
     -- the seat then knows this
-    pub kept_as : (w : View) → Fits (callers_of k) r.log r.calls r.claim id w → Suits k (with_holder r.shape node holder) r.log r.calls (set s.words node x) w → Kept k record { words = set s.words node x; homes = s.homes; views = set s.views id w }
-    kept_as w fits suits = still k laws s r id v at_me live own owns is new words w fits
+    pub kept_as : (w : View) → w.live ≡ true → w.owns ≡ v.owns → Fits (callers_of k) r.log r.calls r.claim id w → Suits k (with_holder r.shape node holder) r.log r.calls (set s.words node x) w → Kept k record { words = set s.words node x; homes = s.homes; views = set s.views id w }
+    kept_as w alive same_owns fits suits = still k laws s r id v at_me live own owns is new words w
+        alive
+        (node_word k new s.views id v w at_me alive same_owns s.words node node x is_node (omega arith) (omega arith))
+        fits
         (fine_hold k r.shape r.log s.words node x holder r.fine is_node holds empty)
         (λ m below. gates_hold k r.shape r.log s.words node x holder r.fine is_node holds empty m below (r.gates m below))
         later
@@ -119,7 +123,7 @@ module _ (k : Begin) (laws : HistoryLaws) (s : TableState) (r : Kept k s) (id : 
         → ((z : Lock) → lock ≡ Some z → (m : ℕ) × (v.gate ≡ Inside m) × Locks k (with_holder r.shape node holder) (set s.words node x) v.number m z)
         → ((z : Lock) → upper ≡ Some z → (m : ℕ) × (v.gate ≡ Inside m) × Locks k (with_holder r.shape node holder) (set s.words node x) v.number m z)
         → Kept k record { words = set s.words node x; homes = s.homes; views = set s.views id (holding v v.gate lock upper) }
-    kept_held lock upper knows locks uppers = kept_as (holding v v.gate lock upper) (fits_holding k laws s r id v at_me live own owns is v.gate lock upper) (suits_held lock upper knows locks uppers)
+    kept_held lock upper knows locks uppers = kept_as (holding v v.gate lock upper) live refl (fits_holding k laws s r id v at_me live own owns is v.gate lock upper) (suits_held lock upper knows locks uppers)
 
   -- the lock is free, and the seat takes it
   module _ (m node key level : ℕ) (at : IsReachable k r.shape m node key level) (free : slice_index s.words node ≡ 0) where
@@ -179,7 +183,7 @@ module _ (k : Begin) (laws : HistoryLaws) (s : TableState) (r : Kept k s) (id : 
   -- the seat knows more of the node whose lock it holds, and nothing changes
   pub kept_knowing : (z : Lock) → ((p : ℕ) → HoldsLock v p → z.node ≡ p) → ((y : Lock) → Some z ≡ Some y → (m : ℕ) × (v.gate ≡ Inside m) × Locks k r.shape s.words v.number m y) → Kept k record { words = s.words; homes = s.homes; views = set s.views id (holding v v.gate (Some z) None) }
   kept_knowing z one locks = let u = r.suits id v at_me live in
-      still k laws s r id v at_me live own owns is r.shape s.words (holding v v.gate (Some z) None) (fits_holding k laws s r id v at_me live own owns is v.gate (Some z) None)
+      still k laws s r id v at_me live own owns is r.shape s.words (holding v v.gate (Some z) None) live (no_word k r.shape s.views id v (holding v v.gate (Some z) None) at_me live refl s.words) (fits_holding k laws s r id v at_me live own owns is v.gate (Some z) None)
       r.fine r.gates (later_same r.shape r.log s.words) (apart_same k v.number r.shape s.words)
       (suits_holding k laws s r id v at_me live own owns is r.shape s.words v.gate (Some z) None (later_same r.shape r.log s.words) u.steady u.room u.gate u.only
       (λ p i o at reach held. (z, inl refl, one p (u.holder p i o at reach held))) u.closer locks (λ y e. absurd (none-some y e)) u.nobody)

@@ -49,7 +49,7 @@ module _ (k : Begin) (laws : HistoryLaws) (s : TableState) (r : Kept k s) (id : 
   }
 
   pub kept_seen : Kept k record { words = s.words; homes = s.homes; views = set s.views id (record v { seen = r.log }) }
-  kept_seen = with_view k s r id (record v { seen = r.log }) fits_seen suits_seen
+  kept_seen = with_view k s r id v (record v { seen = r.log }) at_me live refl fits_seen suits_seen
 
 -- what it then knows
 pub looks_so : (k : Begin) (log : List SharedEntry) (calls : ℕ → List Item) (claim : ℕ → ℕ) (id : ℕ) (v : View) → Lawful (start_of k) log calls → ((c : ℕ) → callers_of k ≤ c → calls c ≡ []) → Fits (callers_of k) log calls claim id v → v.begin ≡ k → Looks v (record v { seen = log })

@@ -1,10 +1,11 @@
 -- A cursor begins, and its seat is taken in by its caller's and let go again.
 use Rattle.std.proofs.Common.{◌≡◌, ℕ, ◌<◌, true, List, [], ◌∷◌, length, set, Some, slice_index, refl, sym, ap, ◌∙◌, subst, arith}
 use Rattle.std.proofs.lemmas.List.{append-nil, set-get_or}
-use Rattle.std.proofs.lemmas.Option.{none-some, same_Some}
+use Rattle.std.proofs.lemmas.Option.{none-some, same_Some, slice_get_within}
 use mathlib.Core.Option.{some}
 use lib.ListN.{get_elem?}
 use Rattle.atomic_table.proofs.Lists.{set_else}
+use Rattle.table_words.proofs.Unused.{taken_in}
 use Rattle.atomic_table.specs.Table.{Me, keeps, Allows, Splits, Joins}
 use Rattle.sync_model.specs.declared.item.SharedCall.TheVariants as calls
 use Rattle.sync_model.specs.declared.item.SharedReply.TheVariants as replies
@@ -66,6 +67,7 @@ begins_cursor k laws sweep id me m live begin some_owns below = by_owns me.0.own
 -- a caller's seat takes in its cursor's
 pub mounts : (k : Begin) (id : ℕ) (v : View) (other : ℕ) (w : View) → v.live ≡ true → w.live ≡ true → length w.owns ≡ 0 → Joins (Kept k) id v other w (mounted v w) spent
 mounts k id v other w live live_it nobody s r at_me apart at_it = with_views k s r r.claim (set (set s.views id (mounted v w)) other spent)
+    (taken_in k r.shape s.views id other v w (mounted v w) spent at_me at_w apart live (λ i mine. (mine, λ n own at. let inside = slice_get_within w.owns n own at in absurd (omega arith))))
     (each_after (λ j u. u.live ≡ true → Fits (callers_of k) r.log r.calls r.claim j u) (set s.views id (mounted v w)) other spent (λ alive. absurd (cc))
     (λ j u not_it at. each_after (λ j u. u.live ≡ true → Fits (callers_of k) r.log r.calls r.claim j u) s.views id (mounted v w) (λ alive. fits_mounted) (λ j u not_me at. r.fits j u at) j u at))
     (each_after (λ j u. u.live ≡ true → Suits k r.shape r.log r.calls s.words u) (set s.views id (mounted v w)) other spent (λ alive. absurd (cc))
@@ -103,6 +105,9 @@ unmounts k id v live outside s r at_me =
     divided k s r id v at_me (unmounted v) (cursor_seat v) r.claim (λ d j other is. is)
     record { seen = f.seen; heard = f.heard; long = f.long; front = f.front; owns = f.owns }
     (fits_copied k s r id v at_me live (length (set s.views id (unmounted v))))
+    live
+    live
+    (λ i left right. left)
     record {
       begin = u.begin;
       walk = u.walk;

@@ -17,8 +17,10 @@ use Rattle.table_rule.specs.Ledger.{Fits}
 use Rattle.table_rule.specs.Owed.{Suits}
 use Rattle.table_rule.specs.Rule.{TableState, Kept}
 use Rattle.table_rule.specs.Shape.{Shape, start_of, Fine}
+use Rattle.table_rule.specs.Unused.{IsUnused}
 use Rattle.table_words.proofs.Frames.{Later, Apart, suits_on, fits_on}
 use Rattle.table_words.proofs.Lists.{each_after}
+use Rattle.table_words.proofs.Unused.{LeavesUnused, was_unused, no_word}
 
 -- what a step of caller c leads to, and that it keeps each part
 pub record Keeps (k : Begin) (s : TableState) (r : Kept k s) (id c : ℕ) (words : List ℕ) (w : View) : Type 0 where
@@ -37,6 +39,11 @@ pub record Keeps (k : Begin) (s : TableState) (r : Kept k s) (id c : ℕ) (words
   pub others : (d : ℕ) → d ≢ c → calls d ≡ r.calls d
   pub fits : Fits (callers_of k) log calls r.claim id w
   pub suits : Suits k shape log calls words w
+  -- the view that the seat had, and that the step writes no word that nothing uses
+  pub old : View
+  pub at_old : get_elem? s.views id ≡ some old
+  pub live : w.live ≡ true
+  pub leaves : LeavesUnused k shape s.views id old.owns w s.words words
 
 -- no other seat stands for a caller of this one
 pub away : (k : Begin) (s : TableState) (r : Kept k s) (id c : ℕ) → r.claim c ≡ id → (j : ℕ) (u : View) → j ≢ id → get_elem? s.views j ≡ some u → u.live ≡ true
@@ -55,6 +62,7 @@ moves k laws s r id c words w step = record {
   keys = step.keys;
   fine = step.fine;
   gates = step.gates;
+  unused = λ i u. step.leaves.same i u ∙ r.unused i (was_unused k step.shape s.views id step.old w step.at_old step.live r.shape step.later.node step.later.entry i (step.leaves.drafts i u) u);
   fits = each_after (λ j u. u.live ≡ true → Fits (callers_of k) step.log step.calls r.claim j u) s.views id w (λ live. step.fits)
       (λ j u other at live. fits_on k r.shape step.shape r.log step.log s.words words step.later laws r.calls step.calls step.grows (callers_of k) c r.claim r.claim j u
       (λ d is. (is, step.others d (λ e. other (sym is ∙ ap r.claim e ∙ step.mine)))) (r.fits j u at live));
@@ -63,10 +71,10 @@ moves k laws s r id c words w step = record {
 }
 
 -- no word changes, and the history and the shape stay: what is owed to the seats is all that there is to show
-pub with_views : (k : Begin) (s : TableState) (r : Kept k s) (claim : ℕ → ℕ) (views : List View)
+pub with_views : (k : Begin) (s : TableState) (r : Kept k s) (claim : ℕ → ℕ) (views : List View) → ((i : ℕ) → IsUnused k r.shape views i → IsUnused k r.shape s.views i)
     → ((j : ℕ) (u : View) → get_elem? views j ≡ some u → u.live ≡ true → Fits (callers_of k) r.log r.calls claim j u)
     → ((j : ℕ) (u : View) → get_elem? views j ≡ some u → u.live ≡ true → Suits k r.shape r.log r.calls s.words u) → Kept k record { words = s.words; homes = s.homes; views = views }
-with_views k s r claim views fits suits = record {
+with_views k s r claim views unused fits suits = record {
   log = r.log;
   calls = r.calls;
   claim = claim;
@@ -77,12 +85,14 @@ with_views k s r claim views fits suits = record {
   keys = r.keys;
   fine = r.fine;
   gates = r.gates;
+  unused = λ i u. r.unused i (unused i u);
   fits = fits;
   suits = suits;
 }
 
 -- one seat alone goes elsewhere
-pub with_view : (k : Begin) (s : TableState) (r : Kept k s) (id : ℕ) (w : View) → Fits (callers_of k) r.log r.calls r.claim id w → Suits k r.shape r.log r.calls s.words w → Kept k record { words = s.words; homes = s.homes; views = set s.views id w }
-with_view k s r id w fits suits = with_views k s r r.claim (set s.views id w)
+pub with_view : (k : Begin) (s : TableState) (r : Kept k s) (id : ℕ) (v w : View) → get_elem? s.views id ≡ some v → w.live ≡ true → w.owns ≡ v.owns → Fits (callers_of k) r.log r.calls r.claim id w → Suits k r.shape r.log r.calls s.words w → Kept k record { words = s.words; homes = s.homes; views = set s.views id w }
+with_view k s r id v w at_me live owns fits suits = with_views k s r r.claim (set s.views id w)
+    (λ i u. was_unused k r.shape s.views id v w at_me live r.shape (λ p is. is) (λ p is. is) i ((no_word k r.shape s.views id v w at_me live owns s.words).drafts i u) u)
     (each_after (λ j u. u.live ≡ true → Fits (callers_of k) r.log r.calls r.claim j u) s.views id w (λ live. fits) (λ j u other at. r.fits j u at))
     (each_after (λ j u. u.live ≡ true → Suits k r.shape r.log r.calls s.words u) s.views id w (λ live. suits) (λ j u other at. r.suits j u at))

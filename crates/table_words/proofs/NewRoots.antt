@@ -375,7 +375,6 @@ module _ (k : Begin) (sh : Shape) (log log' : List SharedEntry) (ws : List ℕ) 
   pub fine_rooted : Fine k (with_root sh m unit (length log)) log' (set ws (root_word k m) unit)
   fine_rooted = record {
     wide = length-set ws (root_word k m) unit ∙ fine.wide;
-    zero_word = same 0 (λ e. absurd (omega arith)) ∙ fine.zero_word;
     numbers = λ a kind at. let below = slice_get_within k.kinds a kind at in
         subst (λ (z : ℕ × List _). IsNumber kind z.0 (slice_index_or z.1 a (Truth false))) (λ i. (sym (same (atomic_word a) (λ e. absurd (omega arith))) i, sym empties.numbers i)) (fine.numbers a kind at);
     headed = λ i below. let lies = ground.lies in part_out i (λ from to. absurd (omega arith)) ∙ fine.headed i below;

@@ -140,7 +140,6 @@ module _ (k : Begin) (laws : HistoryLaws) (sh : Shape) (log log' : List SharedEn
       pub fine_on : IsNumber kind word number → Fine k sh log' (set ws (atomic_word a) word)
       fine_on now = record {
         wide = length-set ws (atomic_word a) word ∙ fine.wide;
-        zero_word = same 0 (λ e. omega arith) ∙ fine.zero_word;
         numbers = numbers_on now;
         headed = fine.headed;
         nodes = fine.nodes;

@@ -202,7 +202,6 @@ module _ (k : Begin) (begin : IsBegin k) (ws : List ℕ) (is_blank : IsBlank k w
   blank_fine : Fine k blank [] ws
   blank_fine = record {
     wide = is_blank.wide;
-    zero_word = is_blank.others 0 (λ m inside e. omega arith);
     numbers = λ a kind at. let below = slice_get_within k.kinds a kind at in
         subst (λ (x : ℕ × Number). IsNumber kind x.0 x.1) (λ i. (sym (is_blank.others (1 + a) (λ m inside e. omega arith)) i, sym (zeros_at k.kinds a kind (Truth false) at) i)) (zero_number kind);
     headed = λ i below. ap (λ b. cond b (heads k + 18 * ((i - heads k) / 18)) 0) (not_true (in_roots i) (λ e. let from = leb-true (heads k) i (both (nat_le (heads k) i) (nat_lt i (first_room k)) e).0 in omega arith));
@@ -277,6 +276,7 @@ module _ (k : Begin) (begin : IsBegin k) (ws : List ℕ) (is_blank : IsBlank k w
     keys = λ m key value at. let none_there : FinMap nat_cmp ℕ = empty in absurd (none-some value (sym (ap (λ held. get held key) (same_for_all k.maps m none_there) ∙ get-empty nat_cmp key) ∙ at));
     fine = blank_fine;
     gates = blank_gates;
+    unused = λ i u. is_blank.others i (λ m below. u.root m below);
     fits = λ j v at live. let t = only_one j v at in subst (λ (x : ℕ × View). Fits (callers_of k) [] (λ c. []) (λ c. 0) x.0 x.1) (λ i. (sym t.0 i, t.1 i)) blank_fits;
     suits = λ j v at live. let t = only_one j v at in subst (Suits k blank [] (λ c. []) ws) t.1 blank_suits;
   }

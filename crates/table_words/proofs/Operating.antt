@@ -1,6 +1,6 @@
 -- An operation on an atomic's word keeps the rule, and places its call.
-use Rattle.std.proofs.Common.{◌≡◌, ℕ, zero, suc, ◌+◌, ◌<◌, true, List, [], ◌∷◌, ◌++◌, length, set, Some, slice_get, slice_index, refl, sym, ap, ◌∙◌, subst, arith, Bool, None}
-use Rattle.std.proofs.lemmas.Option.{same_Some}
+use Rattle.std.proofs.Common.{◌≡◌, ℕ, zero, suc, ◌+◌, ◌<◌, true, List, [], ◌∷◌, ◌++◌, length, set, Some, slice_get, slice_index, refl, sym, ap, ◌∙◌, subst, arith, get_or-set_other, Bool, None}
+use Rattle.std.proofs.lemmas.Option.{same_Some, slice_get_within}
 use mathlib.Core.Option.{some}
 use lib.ListN.{get_elem?}
 use Rattle.atomic_table.specs.Table.{Me, keeps, Allows}
@@ -34,6 +34,8 @@ use Rattle.table_words.proofs.KeyBounds.{keys_on}
 use Rattle.table_words.proofs.Ledgers.{longer, bound_at_end, MayPlace, with_one, adds_one, lawful_after, history_on, grows_on, none_after, fits_after, called, contents_on, first}
 use Rattle.table_words.proofs.Looking.{looks_so}
 use Rattle.table_words.proofs.Moves.{Keeps, moves}
+use Rattle.table_rule.specs.Unused.{IsUndrafted}
+use Rattle.table_words.proofs.Unused.{others_too, mine_now}
 use Rattle.table_words.proofs.Numbers.{gates_on, apart_on, later_on, fine_on}
 
 -- what is owed to a seat stays so at its own step on an atomic
@@ -180,6 +182,13 @@ module _ (k : Begin) (laws : HistoryLaws) (s : TableState) (r : Kept k s) (id : 
       others = (adds_one r.calls v.number item).others;
       fits = fits_now;
       suits = suits_after;
+      old = v;
+      at_old = at_me;
+      live = live;
+      leaves = record {
+        drafts = λ i u. subst (λ os. IsUndrafted os i) (sym is) (others_too own own_after owns i (mine_now k r.shape s.views id v view_after at_me live i u 0 own_after refl) (mine_now k r.shape s.views id v view_after at_me live i u));
+        same = λ i u. get_or-set_other s.words (atomic_word a) i (f found) 0 (u.atomic a (slice_get_within k.kinds a kind at));
+      };
     }
 
     pub kept_after : Kept k record { words = set s.words (atomic_word a) (f (slice_index s.words (atomic_word a))); homes = s.homes; views = set s.views id view_after }

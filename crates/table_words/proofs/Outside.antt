@@ -95,7 +95,6 @@ module _ (k : Begin) (sh : Shape) (log : List SharedEntry) (ws : List ℕ) (j x 
   pub fine_out : Fine k (with_inside sh inside) log (set ws j x)
   fine_out = record {
     wide = length-set ws j x ∙ fine.wide;
-    zero_word = same 0 (λ e. absurd (omega arith)) ∙ fine.zero_word;
     numbers = λ a kind at. let below = slice_get_within k.kinds a kind at in
         subst (λ n. IsNumber kind n (number_at (contents_after (start_of k) log) a)) (sym (same (atomic_word a) (λ e. absurd (omega arith)))) (fine.numbers a kind at);
     headed = fine.headed;

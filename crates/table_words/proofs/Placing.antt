@@ -1,5 +1,5 @@
 -- A call that is no entry is placed. No word changes, and its seat goes elsewhere.
-use Rattle.std.proofs.Common.{◌≡◌, ℕ, zero, suc, ◌+◌, true, false, List, [], ◌∷◌, ◌++◌, length, set, Option, Some, None, slice_get, slice_index, ◌⊎◌, refl, sym, ap, ◌∙◌, subst, arith, Bool}
+use Rattle.std.proofs.Common.{◌≡◌, ℕ, zero, suc, ◌+◌, ◌≤◌, true, false, List, [], ◌∷◌, ◌++◌, length, set, Option, Some, None, slice_get, slice_index, ◌⊎◌, refl, sym, ap, ◌∙◌, subst, arith, Bool}
 use Rattle.std.proofs.lemmas.Option.{same_Some}
 use mathlib.Core.Option.{some}
 use lib.ListN.{get_elem?}
@@ -27,6 +27,8 @@ use Rattle.table_words.proofs.Frames.{suits_on, stands_on}
 use Rattle.table_words.proofs.Ledgers.{MayPlace, with_one, adds_one, lawful_after, grows_on, none_after, fits_after, called, first}
 use Rattle.table_words.proofs.Looking.{looks_so}
 use Rattle.table_words.proofs.Moves.{Keeps, moves}
+use Rattle.table_rule.specs.Unused.{IsUndrafted, IsUnused}
+use Rattle.table_words.proofs.Unused.{others_too, mine_now}
 use Rattle.table_words.proofs.Quiet.{later_same, apart_same}
 
 -- what a call leaves to its caller
@@ -126,6 +128,13 @@ module _ (k : Begin) (laws : HistoryLaws) (s : TableState) (r : Kept k s) (id : 
   fits_now : Fits (callers_of k) r.log (with_one r.calls v.number item) r.claim id view_after
   fits_now = let f = fits_after k laws r.log r.calls (callers_of k) r.claim id r.lawful v own owns is fits item may own_after (paid_items cost (record own { items = own.items ++ item ∷ [] })) in record { seen = f.seen; heard = f.heard; long = f.long; front = f.front; owns = f.owns }
 
+  drafts_then : (i : ℕ) → IsUnused k r.shape (set s.views id view_after) i → IsUndrafted v.owns i
+  drafts_then i u = let now = mine_now k r.shape s.views id v view_after at_me live i u in subst (λ os. IsUndrafted os i) (sym is) (others_too own own_after owns i (by_cost cost pays (now 0 own_after refl)) now)
+    where
+      by_cost : (c : ℕ) → MayPay c own → ((paid_own c 0 (record own { items = own.items ++ item ∷ [] })).next ≤ i → (paid_own c 0 (record own { items = own.items ++ item ∷ [] })).next + length (paid_own c 0 (record own { items = own.items ++ item ∷ [] })).draft ≤ i) → own.next ≤ i → own.next + length own.draft ≤ i
+      by_cost zero free now past = now past
+      by_cost (suc c) pays now past = let none_drafted : length own.draft ≡ 0 = ap length pays.2 in omega arith
+
   keeps_placed : Keeps k s r id v.number s.words view_after
   keeps_placed = record {
     log = r.log;
@@ -143,6 +152,10 @@ module _ (k : Begin) (laws : HistoryLaws) (s : TableState) (r : Kept k s) (id : 
     others = (adds_one r.calls v.number item).others;
     fits = fits_now;
     suits = suits_after;
+    old = v;
+    at_old = at_me;
+    live = live;
+    leaves = record { drafts = drafts_then; same = λ i u. refl };
   }
 
   pub kept_placed : Kept k record { words = s.words; homes = s.homes; views = set s.views id view_after }

@@ -1,5 +1,5 @@
 -- The step that publishes a call's change: the call is placed there as an entry, and one unit of its caller's room is used up.
-use Rattle.std.proofs.Common.{◌≡◌, ◌≢◌, inl, inr, ℕ, zero, suc, ◌+◌, ◌*◌, ◌^◌, ◌<◌, ◌≤◌, true, false, cond, List, [], ◌∷◌, ◌++◌, length, set, Option, Some, None, slice_get, slice_index, refl, sym, ap, ◌∙◌, subst, arith, Bool}
+use Rattle.std.proofs.Common.{◌≡◌, ◌≢◌, inl, inr, ℕ, zero, suc, ◌+◌, ◌*◌, ◌^◌, ◌<◌, ◌≤◌, true, false, cond, List, [], ◌∷◌, ◌++◌, length, set, Option, Some, None, slice_get, slice_index, refl, sym, ap, ◌∙◌, subst, arith, get_or-set_other, Bool}
 use Rattle.std.proofs.lemmas.Bool.{cases_eq}
 use Rattle.std.proofs.lemmas.Option.{none-some, same_Some}
 use mathlib.Core.Option.{some}
@@ -32,7 +32,7 @@ use Rattle.table_rule.specs.Owed.{HasRoom, Locks, AtGate, Suits, HoldsLock}
 use Rattle.table_rule.specs.Rule.{TableState, Kept}
 use Rattle.table_rule.specs.Shape.{Shape, start_of, Fine}
 use Rattle.table_words.specs.TrieLaws.{TrieLaws}
-use Rattle.table_rule.specs.Units.{with_unit}
+use Rattle.table_rule.specs.Units.{link_at, with_unit}
 use Rattle.table_rule.specs.Views.{called_view, spend_own, view_state, Looks}
 use Rattle.table_words.proofs.Frames.{Later, Apart, cut_on, room_on, stands_on}
 use Rattle.table_words.proofs.KeyCalls.{IsOn, ChangesKey, changes_key}
@@ -40,9 +40,12 @@ use Rattle.table_words.proofs.Ledgers.{longer, MayPlace, with_one, adds_one, law
 use Rattle.table_words.proofs.Lists.{past_end}
 use Rattle.table_words.proofs.Looking.{looks_so}
 use Rattle.table_words.proofs.Moves.{Keeps, moves}
+use Rattle.table_words.proofs.Outside.{nibble_below}
 use Rattle.table_words.proofs.Publishing as publishing
 use Rattle.table_words.proofs.Sites.{Site}
 use Rattle.table_words.proofs.Still.{holds_one}
+use Rattle.table_rule.specs.Unused.{IsUndrafted, IsUnused}
+use Rattle.table_words.proofs.Unused.{in_node, others_too, mine_now}
 use Rattle.table_words.proofs.Units as units
 
 -- a caller that holds a node's lock knows the word in the slot for a key, which isn't a node's, and has a unit of room
@@ -268,6 +271,14 @@ module _ (k : Begin) (laws : HistoryLaws) (tries : TrieLaws) (s : TableState) (r
         | inr other ↦ r.keys n q x (sym (changes.others n q (inr other)) ∙ at)
       ]
 
+      -- what was drafted is now the words of an entry and of nodes
+      used_up : (i : ℕ) → IsUnused k shape (set s.views id view_after) i → own.next ≤ i → own.next + length own.draft ≤ i
+      used_up i u past = let all = beyond nodes (omega arith) in let short = ready.short in omega arith
+        where
+          beyond : (n : ℕ) → n ≤ nodes → own.next + 2 + 18 * n ≤ i
+          beyond zero le = let behind = u.entry own.next (units.entry_kind r.shape tries k.seed m l.level l.key own.next nodes) past in omega arith
+          beyond (suc n) le = let before = beyond n (omega arith) in let behind = u.node (link_at own.next n) (units.link_kind r.shape tries k.seed m l.level l.key own.next nodes n (omega arith)) before in omega arith
+
       keeps_all : Keeps k s r id v.number words view_after
       keeps_all = record {
         log = history_with r.log v.number item;
@@ -285,6 +296,14 @@ module _ (k : Begin) (laws : HistoryLaws) (tries : TrieLaws) (s : TableState) (r
         others = (adds_one r.calls v.number item).others;
         fits = fits_now;
         suits = suits_after;
+        old = v;
+        at_old = at_me;
+        live = ready.live;
+        leaves = record {
+          drafts = λ i u. subst (λ os. IsUndrafted os i) (sym ready.is) (others_too own own_after owns i (used_up i u) (mine_now k shape s.views id v view_after at_me ready.live i u));
+          same = λ i u. let small = nibble_below l.key k.seed l.level in get_or-set_other s.words (slot_word l.node (nibble l.key k.seed l.level)) i x 0
+              (in_node k shape (set s.views id view_after) l.node (slot_word l.node (nibble l.key k.seed l.level)) i (later.node l.node locks.node) (omega arith) (omega arith) u);
+        };
       }
 
       pub kept_published : Kept k record { words = set s.words (slot_word l.node (nibble l.key k.seed l.level)) x; homes = s.homes; views = set s.views id view_after }

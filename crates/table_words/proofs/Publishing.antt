@@ -359,7 +359,6 @@ module _ (k : Begin) (sh : Shape) (log log' : List SharedEntry) (ws : List ℕ) 
     pub fine_published : Fine k (with_unit sh k.seed m d key unit nodes) log' (set ws (slot_word p (nibble key k.seed d)) x)
     fine_published = record {
       wide = length-set ws here_at x ∙ fine.wide;
-      zero_word = head 0 (omega arith) ∙ fine.zero_word;
       numbers = λ a kind at. let below = slice_get_within k.kinds a kind at in
           subst (λ (z : ℕ × List _). IsNumber kind z.0 (slice_index_or z.1 a (Truth false))) (λ i. (sym (head (atomic_word a) (omega arith)) i, sym changes.numbers i)) (fine.numbers a kind at);
       headed = λ i below. let lies = site.lies in units.part_outside sh tries k.seed m d key unit nodes i (λ past. absurd (omega arith)) ∙ fine.headed i below;

@@ -80,4 +80,4 @@ module _ (k : Begin) (s : TableState) (r : Kept k s) (id : ℕ) (v : View) (at_m
   }
 
   pub kept_standing : Kept k record { words = s.words; homes = s.homes; views = set s.views id (standing v walk leaf) }
-  kept_standing = with_view k s r id (standing v walk leaf) fits_there suits_there
+  kept_standing = with_view k s r id v (standing v walk leaf) at_me live refl fits_there suits_there

@@ -8,6 +8,8 @@ use mathlib.Core.Option.{some}
 use lib.ListN.{get_elem?}
 use Rattle.atomic_table.specs.Table.{Splits, Joins}
 use Rattle.atomic_table.proofs.Lists.{set_else}
+use Rattle.table_rule.specs.Unused.{IsUndrafted}
+use Rattle.table_words.proofs.Unused.{cut_in_two, taken_in}
 use Rattle.sync_model.specs.declared.item.SharedEntry.{SharedEntry}
 use Rattle.sync_model.specs.declared.item.Item.{Item}
 use Rattle.sync_model.specs.Front.{AtLeast}
@@ -25,7 +27,7 @@ use Rattle.table_rule.specs.Owed.{HasRoom, AtGate, Suits}
 use Rattle.table_words.proofs.Still.{holds_none}
 use Rattle.table_rule.specs.Rule.{TableState, Kept}
 use Rattle.table_rule.specs.Views.{IsIdle, first_of, others_of, copied, dealt, kept, most, longest, joined, spent}
-use Rattle.table_words.proofs.Lists.{each_after, at_end, item_there}
+use Rattle.table_words.proofs.Lists.{each_after, at_end, item_there, item_front, item_back}
 use Rattle.table_words.proofs.Moves.{with_views}
 
 module _ (callers : ℕ) (log : List SharedEntry) (calls : ℕ → List Item) where
@@ -48,15 +50,23 @@ in_others : (owns : List Own) (i : ℕ) (own : Own) → slice_get (others_of own
 in_others [] i own at = absurd (none-some own at)
 in_others (first ∷ owns) i own at = at
 
+-- what neither part has drafted, nobody has
+both_parts : (owns : List Own) (i : ℕ) → IsUndrafted (others_of owns) i → IsUndrafted (first_of owns) i → IsUndrafted owns i
+both_parts [] i others first n own at = absurd (none-some own at)
+both_parts (o ∷ owns) i others first zero own at = first 0 own at
+both_parts (o ∷ owns) i others first (suc n) own at = others n own at
+
 out_of : (g : Gate) (m : ℕ) → g ≡ Outside → g ≡ Inside m → ⊥
 out_of g m out inside = let e : Outside ≡ Inside m = sym out ∙ inside in absurd (cc)
 
 -- a seat is cut in two
 module _ (k : Begin) (s : TableState) (r : Kept k s) (id : ℕ) (v : View) (at_me : get_elem? s.views id ≡ some v) (left right : View) (claim : ℕ → ℕ) (stays : (d j : ℕ) → j ≢ id → r.claim d ≡ j → claim d ≡ j)
     (fits_left : Fits (callers_of k) r.log r.calls claim id left) (fits_right : Fits (callers_of k) r.log r.calls claim (length (set s.views id left)) right)
+    (live_left : left.live ≡ true) (live_right : right.live ≡ true) (owns : (i : ℕ) → IsUndrafted left.owns i → IsUndrafted right.owns i → IsUndrafted v.owns i)
     (suits_left : Suits k r.shape r.log r.calls s.words left) (suits_right : Suits k r.shape r.log r.calls s.words right) where
   pub divided : Kept k record { words = s.words; homes = s.homes; views = set s.views id left ++ right ∷ [] }
   divided = with_views k s r claim (set s.views id left ++ right ∷ [])
+      (cut_in_two k r.shape s.views id v left right at_me live_left live_right owns)
       (λ j u at live. elim (at_end (set s.views id left) right u j at) [
         | inl old ↦ each_after (λ j u. u.live ≡ true → Fits (callers_of k) r.log r.calls claim j u) s.views id left (λ live. fits_left)
             (λ j u other at live. fits_claim (callers_of k) r.log r.calls r.claim claim j u (λ d. stays d j other) (r.fits j u at live)) j u old live
@@ -92,7 +102,7 @@ module _ (k : Begin) (s : TableState) (r : Kept k s) (id : ℕ) (v : View) (at_m
 
 -- a copy of a seat
 pub copies : (k : Begin) (id : ℕ) (v : View) → v.live ≡ true → IsIdle v → Splits (Kept k) id v v (copied v)
-copies k id v live idle s r at_me = divided k s r id v at_me v (copied v) r.claim (λ d j other is. is) (r.fits id v at_me live) (fits_copied k s r id v at_me live (length (set s.views id v))) (r.suits id v at_me live) (suits_copied k s r id v at_me live idle.gate)
+copies k id v live idle s r at_me = divided k s r id v at_me v (copied v) r.claim (λ d j other is. is) (r.fits id v at_me live) (fits_copied k s r id v at_me live (length (set s.views id v))) live live (λ i left right. left) (r.suits id v at_me live) (suits_copied k s r id v at_me live idle.gate)
 
 -- a new seat for the first caller
 pub deals : (k : Begin) (id : ℕ) (v : View) → v.live ≡ true → IsIdle v → 0 < length v.owns → Splits (Kept k) id v (kept v) (dealt v)
@@ -115,6 +125,9 @@ deals k id v live idle stands s r at_me =
       owns = λ i own at. let first = in_first v.owns i own at in let o = f.owns i own first.1 in let is = first.0 in let number : v.number + i ≡ v.number = omega arith in
           record { below = o.below; claimed = ap claim number ∙ mine; items = o.items; counted = o.counted; knew = o.knew };
     }
+    live
+    live
+    (λ i left right. both_parts v.owns i left right)
     record {
       begin = u.begin;
       walk = u.walk;
@@ -211,6 +224,7 @@ module _ {A : Type 0} where
 -- a seat takes in another, which stands for the next callers
 pub joins : (k : Begin) → HistoryLaws → (id : ℕ) (v : View) (other : ℕ) (w : View) → v.live ≡ true → w.live ≡ true → IsIdle w → (0 < length w.owns → v.number + length v.owns ≡ w.number) → Joins (Kept k) id v other w (joined v w) spent
 joins k laws id v other w live live_it idle next_callers s r at_me apart at_it = with_views k s r claim (set (set s.views id (joined v w)) other spent)
+    (taken_in k r.shape s.views id other v w (joined v w) spent at_me at_w apart live (λ i both. (λ n own at. both n own (item_front v.owns w.owns own n at), λ n own at. both (length v.owns + n) own (item_back v.owns w.owns own n at))))
     (each_after (λ j u. u.live ≡ true → Fits (callers_of k) r.log r.calls claim j u) (set s.views id (joined v w)) other spent (λ alive. absurd (cc))
     (λ j u not_it at. each_after (λ j u. j ≢ other → u.live ≡ true → Fits (callers_of k) r.log r.calls claim j u) s.views id (joined v w) (λ ne alive. fits_joined)
     (λ j u not_me at ne alive. fits_claim (callers_of k) r.log r.calls r.claim claim j u (λ d is. stays d j is ne) (r.fits j u at alive)) j u at not_it))

@@ -26,6 +26,7 @@ use Rattle.table_rule.specs.Shape.{Shape, Fine}
 use Rattle.table_words.proofs.Frames.{Later, Apart, walks_on, leaf_on, cut_on, stands_on}
 use Rattle.table_words.proofs.Ledgers.{first}
 use Rattle.table_words.proofs.Moves.{moves}
+use Rattle.table_words.proofs.Unused.{LeavesUnused}
 
 -- a seat that stands to a gate so, and holds these locks, holds those of all reachable nodes that its callers hold
 abbrev pub KnowsLocks : View → Shape → Gate → Option Lock → Option Lock → Type 0
@@ -46,9 +47,9 @@ module _ (k : Begin) (laws : HistoryLaws) (s : TableState) (r : Kept k s) (id : 
   pub owned : Owned (callers_of k) r.calls r.claim id v.front v.number own
   owned = first k laws r.log r.calls (callers_of k) r.claim id r.lawful v own owns is fits
 
-  pub still : (new : Shape) (words : List ℕ) (w : View) → Fits (callers_of k) r.log r.calls r.claim id w → Fine k new r.log words → ((m : ℕ) → m < k.maps → Gated k new words m) → Later r.shape new r.log r.log s.words words → Apart k v.number r.shape new s.words words
+  pub still : (new : Shape) (words : List ℕ) (w : View) → w.live ≡ true → LeavesUnused k new s.views id v.owns w s.words words → Fits (callers_of k) r.log r.calls r.claim id w → Fine k new r.log words → ((m : ℕ) → m < k.maps → Gated k new words m) → Later r.shape new r.log r.log s.words words → Apart k v.number r.shape new s.words words
       → Suits k new r.log r.calls words w → Kept k record { words = words; homes = s.homes; views = set s.views id w }
-  still new words w fits_now fine gates later apart suits = moves k laws s r id v.number words w record {
+  still new words w alive leaves fits_now fine gates later apart suits = moves k laws s r id v.number words w record {
     log = r.log;
     calls = r.calls;
     shape = new;
@@ -64,6 +65,10 @@ module _ (k : Begin) (laws : HistoryLaws) (s : TableState) (r : Kept k s) (id : 
     others = λ d other. refl;
     fits = fits_now;
     suits = suits;
+    old = v;
+    at_old = at_me;
+    live = alive;
+    leaves = leaves;
   }
 
   pub fits_holding : (gate : Gate) (lock upper : Option Lock) → Fits (callers_of k) r.log r.calls r.claim id (holding v gate lock upper)

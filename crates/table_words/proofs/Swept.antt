@@ -51,7 +51,7 @@ module _ (k : Begin) (s : TableState) (r : Kept k s) (id : ℕ) (v : View) (at_m
   }
 
   pub kept_there : Kept k record { words = s.words; homes = s.homes; views = set s.views id (at_spot v spot v.leaf) }
-  kept_there = with_view k s r id (at_spot v spot v.leaf) fits_there suits_there
+  kept_there = with_view k s r id v (at_spot v spot v.leaf) at_me live refl fits_there suits_there
 
 -- a call of a cursor is placed
 module _ (k : Begin) (laws : HistoryLaws) (s : TableState) (r : Kept k s) (id : ℕ) (v : View) (at_me : get_elem? s.views id ≡ some v) (live : v.live ≡ true) (own : Own) (owns : List Own) (is : v.owns ≡ own ∷ owns)
