@@ -5,3 +5,4 @@ pub mod OnceSpelling
 pub mod OnceRunning
 pub mod CondSpelling
 pub mod StartsSpelling
+pub mod OnceTold

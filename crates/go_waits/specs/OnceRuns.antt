@@ -10,8 +10,12 @@ use Rattle.go_waits.specs.declared.once_run.OnceRun.{OnceRun}
 use Rattle.go_waits.specs.declared.once_run.OnceRun.TheVariants.{Ran, Already}
 use Rattle.go_waits.specs.OnceCalls.{OnceDeeds, Begins}
 
--- The function ran exactly where the beginning was answered that it runs; then the call ends it, and answers what the function answered.
+-- The function ran exactly where the beginning was answered that it runs. Then the call ends it, keeps what is to be kept of what the function came to, and answers what it came to.
+abbrev pub Runs : {T E : Type 0} → (Result Unit E → T) → (Result Unit E → Type 0) → OnceDeeds T → Answer (OnceRun E) → Type 0
+Runs kept result deeds (Done (Ran outcome)) = result outcome × (deeds ≡ Event Begin reply.Run ∷ (Event (End (kept outcome)) reply.Ended ∷ []))
+Runs {T} kept result deeds (Done Already) = (value : T) × Begins deeds (Done (begun.Already value))
+Runs {T} {E} kept result deeds (Halted misuse) = ((outcome : Result Unit E) × result outcome × (deeds ≡ Event Begin reply.Run ∷ (Refused (End (kept outcome)) misuse ∷ []))) ⊎ Begins {T = T} deeds (Halted misuse)
+
+-- the same of a once that keeps nothing, as Go's
 abbrev pub Does : {E : Type 0} → (Result Unit E → Type 0) → OnceDeeds (Unit {0}) → Answer (OnceRun E) → Type 0
-Does result deeds (Done (Ran outcome)) = result outcome × (deeds ≡ Event Begin reply.Run ∷ (Event (End tt) reply.Ended ∷ []))
-Does result deeds (Done Already) = Begins deeds (Done (begun.Already tt))
-Does {E} result deeds (Halted misuse) = ((outcome : Result Unit E) × result outcome × (deeds ≡ Event Begin reply.Run ∷ (Refused (End tt) misuse ∷ []))) ⊎ Begins {T = Unit {0}} deeds (Halted misuse)
+Does result = Runs (λ outcome. tt) result

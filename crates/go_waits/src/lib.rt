@@ -6,15 +6,18 @@ mod answers;
 pub mod cond;
 mod do_once;
 pub mod group;
+pub mod keeps;
 pub mod laws;
 pub mod once;
 pub mod once_begun;
 pub mod once_run;
 pub mod once_value;
 pub mod starts;
+mod stored;
 
 pub use cond::{Cond, CondPass};
 pub use group::{GroupPass, MAX_START, WaitGroup};
+pub use keeps::Keeps;
 pub use once::{Once, OncePass};
 pub use once_begun::{OnceBegun, Running};
 pub use once_run::OnceRun;

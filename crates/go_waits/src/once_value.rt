@@ -18,6 +18,7 @@ mod renew;
 
 use crate::once::{Once, OncePass};
 use crate::once_begun::OnceBegun;
+use crate::stored::Stored;
 use ruled_object::MAX_CALLS;
 use ruled_object::laws::growth;
 use std::alloc::{AllocError, Global};
@@ -27,18 +28,18 @@ use sync_outside::{At, Clock};
 use sync_types::Misuse;
 use wait_cores::OnceCore;
 
-/// A stored function that is called at most once, by the first call, and whose result every call answers. A pair of values
-/// serves for Go's `OnceValues`.
+/// A stored function that is called at most once, by the first call, and whose result every call answers. It may be one that
+/// can't be called twice. A pair of values serves for Go's `OnceValues`.
 #[derive(Drop)]
 pub struct OnceValue<T: Copy, F, N: Note> {
     pub(crate) once: Once<T, N>,
-    pub(crate) function: F,
+    pub(crate) function: Stored<F>,
 }
 
 /// A stored function that is called at most once, and that succeeds or fails: every call answers which.
 pub type OnceFunc<E, F, N> = OnceValue<Result<(), E>, F, N>;
 
-impl<T: Copy, F: Fn() -> T, N: Note> OnceValue<T, F, N> {
+impl<T: Copy, F: FnOnce() -> T + Drop, N: Note> OnceValue<T, F, N> {
     /// A function that hasn't been called, for callers 0 to `callers - 1`, and their passes, each good for `calls` calls.
     pub fn new(
         alloc: Global,
@@ -54,11 +55,12 @@ impl<T: Copy, F: Fn() -> T, N: Note> OnceValue<T, F, N> {
         ensures passes { IfOk result (λ made. AreNew (once_of made.0) calls made.1.items) }
     {
         let (once, passes) = Once::new(alloc, callers, calls, note)?;
+        let function = Stored::new(function);
         Ok((OnceValue { once, function }, passes))
     }
 
-    /// The function's result. The first call calls it, once its caller is known to run it (`HasBegun`), and each other one
-    /// waits for its return, which synchronizes before that call's.
+    /// The function's result. The first call moves it out and calls it, once its caller is known to run it (`HasBegun`), and
+    /// each other one waits for its return, which synchronizes before that call's.
     pub fn call<C: Clock, R: Wait>(
         &self,
         rt: &R,
@@ -79,7 +81,8 @@ impl<T: Copy, F: Fn() -> T, N: Note> OnceValue<T, F, N> {
         growth::<OnceCore<T>, N>();
         match self.once.begin(rt, at, pass, note) {
             Answer::Done(OnceBegun::Run(running)) => {
-                let value = (self.function)();
+                let function = self.function.take(rt, &self.once, pass);
+                let value = function();
                 match self.once.end(running, rt, at, pass, note, value) {
                     Answer::Done(()) => Answer::Done(value),
                     Answer::Halted(misuse) => Answer::Halted(misuse),

@@ -9,7 +9,7 @@ use crate::once::OncePass;
 use ruled_object::MAX_CALLS;
 use sync_model::Note;
 
-impl<T: Copy, F: Fn() -> T, N: Note> OnceValue<T, F, N> {
+impl<T: Copy, F: FnOnce() -> T + Drop, N: Note> OnceValue<T, F, N> {
     /// Makes a pass good for so many calls from now on. It is no event, and all else of the pass stays as it is.
     pub fn renew(&self, pass: &mut OncePass<T, N>, calls: u64)
         requires pass { IsPassOf (once_of self.now) pass.old }
