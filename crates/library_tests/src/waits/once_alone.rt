@@ -36,6 +36,28 @@ fn a_pair_of_values_is_kept(rt: HostRuntime) -> Result<(), Fail> {
     Ok(())
 }
 
+// What can be spent once.
+#[derive(Drop)]
+struct Ticket {
+    number: u64,
+}
+
+// Spends a ticket, and tells its number.
+fn spent(ticket: Ticket) -> u64 {
+    ticket.number
+}
+
+#[test]
+fn a_function_that_spends_what_it_has_is_stored(rt: HostRuntime) -> Result<(), Fail> {
+    let ticket = Ticket { number: 7 };
+    let (value, mut passes) = stored(rt.alloc(), 1, move || -> u64 { spent(ticket) })?;
+    let mut only = last_stored(&value, &mut passes);
+    let mut note = knows(0);
+    assert!(rt; value.call(&rt, &HERE, &mut only, &mut note) == Answer::Done(7));
+    assert!(rt; value.call(&rt, &HERE, &mut only, &mut note) == Answer::Done(7));
+    Ok(())
+}
+
 #[test]
 fn the_end_synchronizes_before_the_return_of_each_call(rt: HostRuntime) -> Result<(), Fail> {
     let (once, mut passes) = once(rt.alloc(), 2)?;

@@ -101,7 +101,7 @@ impl<'a> Runner<'a> {
 }
 
 /// A function that is called once.
-pub(super) fn stored<T: Copy, F: Fn() -> T + Drop>(
+pub(super) fn stored<T: Copy, F: FnOnce() -> T + Drop>(
     alloc: Global,
     callers: u32,
     function: F,

@@ -1,14 +1,16 @@
 //! Onces by callers in threads of their own.
 ghost use Rattle.std.specs.Thread.{IsSync};
+ghost use Rattle.go_waits.specs.OnceValues.{once_of, function_of};
+ghost use Rattle.library_tests.specs.Fresh.{IsFresh};
 
-use super::once_setup::{Runner, once};
-use super::setup::{knows, pause, until};
-use go_waits::OnceRun;
+use super::once_setup::{Runner, last_stored, once, stored};
+use super::setup::{HERE, knows, pause, until};
+use go_waits::{OncePass, OnceRun, OnceValue};
 use std::sync::Wait;
 use std::sync::atomic::{AtomicU64, Ordering};
 use std::test::Fail;
 use std::thread::{Threads, join};
-use sync_model::Answer;
+use sync_model::{Answer, FrontNote};
 use sync_types::Misuse;
 
 type Ran = Option<Answer<OnceRun<u32>>>;
@@ -121,6 +123,38 @@ fn a_caller_that_finds_the_function_run_finds_what_it_did(rt: HostRuntime) -> Re
     let first = Runner::last(&once, &mut passes, knows(0)).expect(&rt, "a pass");
     let (ran, found) = marked_beside(&rt, first, second);
     assert!(rt; (ran, found) == (RAN, (ALREADY, 1)));
+    Ok(())
+}
+
+// One call of a stored function, by a caller that made none before.
+fn call_stored<R: Wait, F: FnOnce() -> u64 + Drop>(
+    rt: &R,
+    function: &OnceValue<u64, F, FrontNote>,
+    mut pass: OncePass<u64, FrontNote>,
+) -> Answer<u64>
+    requires pass { IsFresh (once_of function.now) pass }
+    requires function { F.pre (function_of function.now) }
+{
+    function.call(rt, &HERE, &mut pass, &mut knows(0))
+}
+
+// The function tells how often it was called before. Who runs it takes it out, and the other one is answered what it came to.
+#[test]
+fn two_threads_call_a_stored_function(rt: HostRuntime) -> Result<(), Fail> {
+    let runs = AtomicU64::new(0);
+    let (function, mut passes) = stored(rt.alloc(), 2, || -> u64 {
+        pause();
+        runs.fetch_add(1, Ordering::SeqCst)
+    })?;
+    let second = last_stored(&function, &mut passes);
+    let first = last_stored(&function, &mut passes);
+    let found = join(
+        &rt,
+        || call_stored(&rt, &function, first),
+        || call_stored(&rt, &function, second),
+    );
+    assert!(rt; found == (Answer::Done(0), Answer::Done(0)));
+    assert!(rt; runs.load(Ordering::SeqCst) == 1);
     Ok(())
 }
 
