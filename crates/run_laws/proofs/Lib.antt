@@ -18,6 +18,7 @@ mod ExplainedOnceValue
 mod ExplainedPool
 mod ExplainedRwMutex
 mod ExplainedWaitGroup
+mod ExplainedWriter
 mod FrontNumbers
 mod Holders
 mod KeyAtEnd

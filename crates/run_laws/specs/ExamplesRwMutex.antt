@@ -1,8 +1,8 @@
 -- A reader/writer mutex `w` is locked for reading and unlocked by worker 0, and locked for writing by worker 1.
 use Rattle.std.specs.Prelude.{ℕ, List, [], ◌∷◌}
-use Rattle.rw_core.specs.declared.event.RwEvent.TheVariants.{ReadArrive, ReadUnlock, WriteArrive}
-use Rattle.rw_core.specs.declared.reply.RwReply.TheVariants.{Arrived, Unlocked}
-use Rattle.rw_core.specs.declared.reply.Arrival.TheVariants.{Acquired}
+use Rattle.rw_core.specs.declared.event.RwEvent.TheVariants.{ReadArrive, ReadUnlock, WriteArrive, Leave}
+use Rattle.rw_core.specs.declared.reply.RwReply.TheVariants.{Arrived, Unlocked, Left}
+use Rattle.rw_core.specs.declared.reply.Arrival.TheVariants.{Acquired, Queued}
 use Rattle.rw_core.specs.declared.reply.Unlocking.TheVariants as unlocking
 use Rattle.script_calls.specs.declared.call.Operation.TheVariants as operations
 use Rattle.script_calls.specs.declared.call.Reply.{Reply}
@@ -49,3 +49,21 @@ one_after_the_other = in_order (reads ∷ read_unlocks ∷ writes ∷ [])
 -- the writer has it before that unlock, while the reader has it
 abbrev pub beside_a_reader : Record
 beside_a_reader = in_order (reads ∷ writes ∷ read_unlocks ∷ [])
+
+-- worker 1 waits behind worker 0, and leaves
+abbrev pub waits : ObjectEntry
+waits = entry 1 (event.RwMutex (WriteArrive 0)) (reply.RwMutex (Arrived Queued))
+
+abbrev pub leaves : ObjectEntry
+leaves = entry 1 (event.RwMutex Leave) (reply.RwMutex Left)
+
+abbrev pub waiting : List ObjectEntry → Record
+waiting journal = record_of (journal ∷ []) (Entered 1 reads ∷ Entered 1 read_unlocks ∷ []) (Entered 1 waits ∷ Entered 1 leaves ∷ [])
+
+-- behind the reader's unlock, which grants it the lock
+abbrev pub granted : Record
+granted = waiting (reads ∷ waits ∷ read_unlocks ∷ leaves ∷ [])
+
+-- before that unlock
+abbrev pub left_too_early : Record
+left_too_early = waiting (reads ∷ waits ∷ leaves ∷ read_unlocks ∷ [])

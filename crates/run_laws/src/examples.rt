@@ -32,6 +32,13 @@ pub fn a_writer_is_not_beside_a_reader()
     ensures refused { (outcome : Outcome) → Explains rw_mutex.plan outcome rw_mutex.beside_a_reader → ⊥ }
 {}
 
+/// A writer that waits behind a reader, and leaves behind its unlock, is explained: its lock is these two events. One that leaves before
+/// that unlock isn't.
+pub fn a_writer_leaves_behind_the_last_reader()
+    ensures explained { Explains rw_mutex.plan rw_mutex.outcome rw_mutex.granted }
+    ensures refused { (outcome : Outcome) → Explains rw_mutex.plan outcome rw_mutex.left_too_early → ⊥ }
+{}
+
 /// A wait on a wait group that returns behind the `done` which brings its counter to 0 is explained. One that returns before it, while
 /// the counter is 1, isn't.
 pub fn a_group_is_not_left_at_one()

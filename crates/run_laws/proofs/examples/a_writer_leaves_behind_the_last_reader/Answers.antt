@@ -1,0 +1,8 @@
+use Rattle.run_laws.proofs.ExplainedWriter as example
+use Rattle.run_laws.proofs.examples.a_writer_leaves_behind_the_last_reader.Goals as goal
+
+pub returns-clause-explained : goal.returns-clause-explained
+returns-clause-explained c = example.explained
+
+pub returns-clause-refused : goal.returns-clause-refused
+returns-clause-refused c = example.refused
