@@ -18,7 +18,7 @@ use Rattle.sync_model.specs.Shared.{CallerState, Called}
 use Rattle.table_rule.specs.Operations.{IsAtEnd}
 
 -- the number in the reply of a load
-number_held : Number → SharedReply → Number
+abbrev number_held : Number → SharedReply → Number
 number_held else_number (replies.Atomic (Held number)) = number
 number_held else_number reply = else_number
 

@@ -1,5 +1,12 @@
-use Rattle.std.proofs.Common.{◌≡◌, true, subst}
+use Rattle.std.proofs.Common.{◌≡◌, true, sym, subst}
+use Rattle.sync_types.specs.declared.atomic_object.AtomicCall.{AtomicCall}
+use Rattle.sync_types.specs.declared.atomic_object.AtomicReply.TheVariants.{Done}
+use Rattle.sync_model.specs.declared.item.SharedCall.TheVariants as calls
+use Rattle.sync_model.specs.declared.item.SharedReply.TheVariants as replies
+use Rattle.sync_model.specs.Shared.{Called, state_of}
 use Rattle.sync_types.specs.SequentialAtomic.{is_atomic_call}
+use Rattle.shared_table.specs.Notes.{front_by, own_by, seen_by}
+use Rattle.shared_table.specs.Tables.{first_of}
 use Rattle.go_atomic.proofs.Callers.{stays}
 use Rattle.go_atomic.proofs.Steps.{both, exchanges, swapped}
 use Rattle.go_atomic.proofs.call.atomic_call.Goals as goal
@@ -22,6 +29,11 @@ returns-in-CompareAndSwap-clause-called c =
     let found = c.operate-found-in-CompareAndSwap.result in
     let told = c.operate-found-in-CompareAndSwap.ensures.called c.args.kind c.requires.kind in
     swapped _ c.args.atomic c.args.call c.args.kind arm.old arm.new c.to_word-old.result found _ _ arm.is c.to_word-old.ensures.word (c.steps_on_words.ensures.compared c.args.kind found arm.old told.0 fits.0) told.1
+
+pub returns-in-Store-clause-called : goal.returns-in-Store-clause-called
+returns-in-Store-clause-called c =
+    let told = c.operate.ensures.called c.args.kind c.requires.kind in
+    subst (λ (call : AtomicCall). Called (first_of c.args.table.now) (calls.Atomic c.args.atomic call) (replies.Atomic Done) 0 (state_of own_by front_by seen_by c.args.caller.now.note) (state_of own_by front_by seen_by c.operate.new.note)) (sym c.in-Store.is) told.1
 
 pub returns-in-Load-clause-caller : goal.returns-in-Load-clause-caller
 returns-in-Load-clause-caller c = stays c.args.table.now _ _ _ c.args.caller.now.note c.operate-found.new.note c.requires.caller.0 c.operate-found.ensures.home (c.operate-found.ensures.called c.args.kind c.requires.kind).1
