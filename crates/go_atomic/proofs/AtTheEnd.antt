@@ -1,12 +1,10 @@
 -- A load that lies at the end of what its caller has seen.
-use Rattle.std.proofs.Common.{◌≡◌, ℕ, ◌+◌, ◌≤◌, false, cond, List, [], ◌∷◌, ◌++◌, length, Some, refl, sym, ap, ◌∙◌, le_refl}
+use Rattle.std.proofs.Common.{◌≡◌, ℕ, ◌+◌, ◌≤◌, cond, List, length, sym, ap, ◌∙◌, le_refl}
 use Rattle.std.proofs.lemmas.List.{same_from_push}
 use Rattle.std.proofs.lemmas.Option.{same_Some}
 use Rattle.sync_types.specs.declared.atomic_object.AtomicCall.TheVariants.{Load}
 use Rattle.sync_types.specs.declared.atomic_object.AtomicReply.TheVariants.{Held}
-use Rattle.sync_types.specs.declared.atomic_object.AtomicReply.{AtomicReply}
 use Rattle.sync_types.specs.declared.atomic_object.Number.{Number}
-use Rattle.sync_model.specs.declared.item.Item.{Item}
 use Rattle.sync_model.specs.declared.item.SharedCall.TheVariants.{Atomic}
 use Rattle.sync_model.specs.declared.item.SharedEntry.{SharedEntry}
 use Rattle.sync_model.specs.declared.item.SharedReply.{SharedReply}

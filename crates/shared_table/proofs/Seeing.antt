@@ -7,7 +7,6 @@ use Rattle.table_rule.specs.declared.view.Lock.{Lock}
 use Rattle.table_rule.specs.declared.view.Spot.{Spot}
 use Rattle.table_rule.specs.declared.view.View.{View}
 use Rattle.table_rule.specs.declared.view.Walk.{Walk}
-use Rattle.table_rule.specs.Cursors.{unmounted}
 use Rattle.table_rule.specs.Views.{Looks}
 
 module _ (v w : View) (walk : Option Walk) (leaf : Option Leaf) (lock upper : Option Lock) (gate : Gate) (spot : Option Spot) (pruned : List DeadNode) where
