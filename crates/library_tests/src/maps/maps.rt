@@ -12,6 +12,7 @@ mod merged;
 mod race;
 mod ranges;
 mod shared;
+mod started;
 mod threads;
 
 use go_map::Map;
