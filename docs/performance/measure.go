@@ -1,14 +1,19 @@
-// Measures a pair of calls of Go's sync types, and a call of its sync.Map and atomic.Int64: nanoseconds for each thread.
-// go run measure.go ROUNDS
+// Measures a pair of calls of Go's sync types and of x/sync's, and a call of sync.Map and atomic.Int64: nanoseconds for each
+// thread.
+// GO111MODULE=off GOPATH=/usr/share/gocode go run measure.go ROUNDS
 package main
 
 import (
+	"context"
 	"fmt"
 	"os"
 	"strconv"
 	"sync"
 	"sync/atomic"
 	"time"
+
+	"golang.org/x/sync/semaphore"
+	"golang.org/x/sync/singleflight"
 )
 
 // apart makes an object that shares no cache line with another one.
@@ -157,6 +162,42 @@ func maps(rounds int) {
 	})
 }
 
+// The keys of flights: one for each caller.
+var flightKeys = [8]string{"0", "1", "2", "3", "4", "5", "6", "7"}
+
+func sema(name string, rounds int, size int64) {
+	each(name, rounds, func() caller {
+		s := apart[semaphore.Weighted]()
+		*s = *semaphore.NewWeighted(size)
+		return func(_, rounds int) {
+			for i := 0; i < rounds; i++ {
+				s.Acquire(context.Background(), 1)
+				s.Release(1)
+			}
+		}
+	})
+}
+
+// work is what a flight does for so long that others join it.
+func work() (any, error) {
+	begin := time.Now()
+	for time.Since(begin) < 10*time.Microsecond {
+	}
+	return int64(1), nil
+}
+
+func flight(name string, rounds int, key func(number int) string, work func() (any, error)) {
+	each(name, rounds, func() caller {
+		g := apart[singleflight.Group]()
+		return func(number, rounds int) {
+			key := key(number)
+			for i := 0; i < rounds; i++ {
+				g.Do(key, work)
+			}
+		}
+	})
+}
+
 func main() {
 	rounds, err := strconv.Atoi(os.Args[1])
 	if err != nil {
@@ -217,5 +258,10 @@ func main() {
 			}
 		}
 	})
+	sema("sema", rounds, 64)
+	sema("sema-one", rounds, 1)
+	flight("flight", rounds, func(number int) string { return flightKeys[number] },
+		func() (any, error) { return int64(1), nil })
+	flight("flight-joined", rounds/20, func(int) string { return flightKeys[0] }, work)
 	maps(rounds / 2)
 }

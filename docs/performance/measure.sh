@@ -3,18 +3,20 @@
 # two tables in Markdown, in nanoseconds. It takes some three minutes once the program is proved and built, on a machine that
 # should do nothing else meanwhile.
 #
-# It needs rt; go, 1.24 or later for a sync.Map that is a hash trie; and rustc. OTHER=PROGRAM adds a column of another build of
+# It needs rt; go, 1.24 or later for a sync.Map that is a hash trie, with golang.org/x/sync below GOPATH (Debian's
+# golang-golang-x-sync-dev has it below /usr/share/gocode); and rustc. OTHER=PROGRAM adds a column of another build of
 # the measuring program, for what it takes on words.
 set -euo pipefail
 
 TURNS=${TURNS:-7}
 ROUNDS=100000        # pairs of each thread here
+JOINED_ROUNDS=5000   # where a flight's work takes microseconds
 NATIVE_ROUNDS=500000 # and in Go and Rust, whose pairs are shorter; half as many calls on a map
 STORES=50000         # stores and deletes of all threads together on a map on words: each takes 2 KB while the map is made
 CYCLES=16384         # rounds of each thread where 4,096 keys are stored and deleted: twice
 HOWS='one two-own four-own two-shared four-shared eight-shared'
 
-PAIRS='mutex read write group once pool'
+PAIRS='mutex read write group once pool sema sema-one flight flight-joined'
 # notes, clock and callers of each column
 COLUMNS=('front machine 4' 'front standing 4' 'empty machine 4' 'empty standing 4' 'front machine 64' 'empty standing 64')
 PAIR_HEADS='front, clock|front|empty, clock|empty|front, clock, of 64|empty, of 64|Go|Rust'
@@ -37,7 +39,8 @@ build() {
         cat "$work/build.log" >&2
         exit 1
     fi
-    (cd "$here" && GOCACHE="$work/cache" go build -o "$work/go" measure.go && rustc -O -o "$work/rust" measure.rs)
+    (cd "$here" && GO111MODULE=off GOPATH=${GOPATH:-/usr/share/gocode} GOCACHE="$work/cache" \
+        go build -o "$work/go" measure.go && rustc -O -o "$work/rust" measure.rs)
 }
 
 threads_of() { # HOW
@@ -50,14 +53,15 @@ threads_of() { # HOW
 }
 
 pairs_here() {
-    local column pair how notes clock callers threads
+    local column pair how notes clock callers threads rounds
     for column in "${!COLUMNS[@]}"; do
         read -r notes clock callers <<<"${COLUMNS[$column]}"
         for pair in $PAIRS; do
             for how in $HOWS; do
                 threads=$(threads_of "$how")
+                rounds=$([ "$pair" = flight-joined ] && echo "$JOINED_ROUNDS" || echo "$ROUNDS")
                 echo "$column $pair $how" \
-                    "$("$measure" "$pair" "$how" "$notes" "$clock" "$((threads > callers ? threads : callers))" "$ROUNDS")"
+                    "$("$measure" "$pair" "$how" "$notes" "$clock" "$((threads > callers ? threads : callers))" "$rounds")"
             done
         done
     done

@@ -1,6 +1,7 @@
 //! Measures what a pair of calls on each running type costs.
 #![tactic(auto)]
 
+mod flight;
 mod fresh;
 mod group;
 mod map_and_int;
@@ -13,9 +14,11 @@ mod plan;
 mod pool;
 mod run;
 mod rw_mutex;
+mod sema;
 mod standing_clock;
 mod table_objects;
 
+use crate::flight::Flights;
 use crate::fresh::FreshNote;
 use crate::map_and_int::MapAndInt;
 use crate::one_call::{Add, Churn, Load, Mix, On, Path, Store, Wide};
@@ -36,11 +39,13 @@ use std::{env, io, rt};
 use sync_model::{FrontNote, NoNote};
 use sync_outside::Clock;
 use system_io::SystemClock;
+use weighted_sema::Sema;
 
 /// What is printed where the words aren't taken.
 const USAGE: &str = "usage: measure WHAT HOW NOTES CLOCK CALLERS ROUNDS
 Prints how many nanoseconds a pair of calls takes, for each thread.
   WHAT     mutex | read | write | group | once | pool
+           sema | sema-one | flight | flight-joined
            plain-load | plain-store | plain-churn | plain-wide | plain-mix | plain-add
            trie-load | trie-store | trie-churn | trie-path | trie-wide | trie-mix | word-add
   HOW      one | two-own | four-own | two-shared | four-shared | eight-shared
@@ -83,6 +88,8 @@ fn with_notes<N: FreshNote, C: Clock + Sync, R: Threads + Wait + rt::Clock + Syn
         What::Group => measure::<WaitGroup<N>, C, R>(rt, alloc, clock, plan),
         What::Once => measure::<Once<(), N>, C, R>(rt, alloc, clock, plan),
         What::Pool => measure::<Pool<N>, C, R>(rt, alloc, clock, plan),
+        What::Sema(_) => measure::<Sema<N>, C, R>(rt, alloc, clock, plan),
+        What::Flight(_) => measure::<Flights<N>, C, R>(rt, alloc, clock, plan),
         What::Plain(call) => with_shared_call::<PlainObjects, C, R>(rt, alloc, clock, plan, call),
         What::Table(call) => with_shared_call::<TableObjects, C, R>(rt, alloc, clock, plan, call),
     }

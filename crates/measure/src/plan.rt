@@ -16,10 +16,32 @@ pub enum What {
     Once,
     /// A pool's `put` and `get`.
     Pool,
+    /// A semaphore's `acquire` and `release` of weight 1.
+    Sema(Room),
+    /// A group's `begin`, and the `land` where the caller leads a flight.
+    Flight(Keys),
     /// A call on a map or an int64 that take turns.
     Plain(Call),
     /// A call on a map or an int64 on words.
     Table(Call),
+}
+
+/// How many callers a semaphore has room for.
+#[derive(Clone, Copy, PartialEq, Eq)]
+pub enum Room {
+    /// All of them, so nobody waits.
+    All,
+    /// One.
+    One,
+}
+
+/// Which keys callers come for.
+#[derive(Clone, Copy, PartialEq, Eq)]
+pub enum Keys {
+    /// Each for its own, so it leads a flight of its own. Its work is nothing.
+    Own,
+    /// All for one. The work takes some microseconds, so that others join.
+    One,
 }
 
 /// The call on a shared map or atomic.
@@ -42,13 +64,17 @@ pub enum Call {
 }
 
 /// The words of what is measured.
-const WHATS: [(&str, What); 19] = [
+const WHATS: [(&str, What); 23] = [
     ("mutex", What::Mutex),
     ("read", What::Read),
     ("write", What::Write),
     ("group", What::Group),
     ("once", What::Once),
     ("pool", What::Pool),
+    ("sema", What::Sema(Room::All)),
+    ("sema-one", What::Sema(Room::One)),
+    ("flight", What::Flight(Keys::Own)),
+    ("flight-joined", What::Flight(Keys::One)),
     ("plain-load", What::Plain(Call::Load)),
     ("plain-store", What::Plain(Call::Store)),
     ("plain-churn", What::Plain(Call::Churn)),
