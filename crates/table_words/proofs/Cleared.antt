@@ -202,9 +202,6 @@ module _ (k : Begin) (laws : HistoryLaws) (s : TableState) (r : Kept k s) (id : 
     nobody = λ e. absurd (let ne : suc (length owns) ≡ 0 = e in omega arith);
   }
 
-  fits_now : Fits (callers_of k) (history_with r.log me.0.number item) (with_one r.calls me.0.number item) r.claim id view_after
-  fits_now = fits_after k laws r.log r.calls (callers_of k) r.claim id r.lawful me.0 own owns is fits item may own_after refl
-
   keys_after : HasKeysBelow (2 ^ 32) (contents_after (start_of k) (history_with r.log me.0.number item))
   keys_after n q x at = elim (cases_eq n m) [
     | inl mine ↦ absurd (none-some x (sym (empties.here q) ∙ subst (λ i. value_at (contents_after (start_of k) (history_with r.log me.0.number item)) i q ≡ Some x) mine at))
