@@ -11,7 +11,7 @@ use Rattle.sync_model.specs.Shared.{Called, cost_of}
 use Rattle.table_rule.specs.declared.begin.Begin.{Begin}
 use Rattle.shared_table.specs.declared.map_call.Reached.{Reached}
 use Rattle.shared_table.specs.declared.map_call.Reached.TheVariants.{Answered, Stands}
-use Rattle.table_rule.specs.declared.view.DeadNode.{DeadNode}
+use Rattle.table_rule.specs.declared.view.CutNode.{CutNode}
 use Rattle.table_rule.specs.declared.view.Gate.TheVariants.{Outside, Inside, Closed}
 use Rattle.table_rule.specs.declared.view.Leaf.{Leaf}
 use Rattle.table_rule.specs.declared.view.Lock.{Lock}
@@ -59,7 +59,7 @@ module _ (k : Begin) (first : Me (Unit {0}) View) (m key : ℕ) (writing : IsWri
               seen = a.seen;
               is = whole ∙ ap (λ (u : View). standing u None None) a.is;
               called = subst (λ (z : MapReply × View). Called (start_of first.0.begin) (calls.Map m call) (replies.Map z.0) (cost_of call) (view_state first.0) (view_state z.1)) (λ i. (sym end.1 i, sym last_is i)) a.called;
-              looks = looks_still after.0 last None None after.0.lock after.0.upper after.0.gate after.0.spot after.0.pruned whole a.looks;
+              looks = looks_still after.0 last None None after.0.lock after.0.upper after.0.gate after.0.spot after.0.cut whole a.looks;
             }
     ends held leaf last below last_is (Stands n l) end settles = of_entry (is_key_entry call held) end.0 settles
       where
@@ -125,7 +125,7 @@ pub answers_alone : (m : ℕ) (call : MapCall ℕ) (reply : MapReply) (words : �
 answers_alone m call reply words v w a = ([], record { item = a.item; seen = a.seen; is = a.is; called = a.called; looks = a.looks })
 
 -- a call under a lock, from before the lock was taken until it was given back
-pub made_there : (m : ℕ) (call : MapCall ℕ) (key node level : ℕ) (reply : MapReply) (words : ℕ) (v u x y : View) (l : Lock) (cut : List DeadNode) → v.lock ≡ None → v.upper ≡ None → u ≡ holding v v.gate (Some l) None
+pub made_there : (m : ℕ) (call : MapCall ℕ) (key node level : ℕ) (reply : MapReply) (words : ℕ) (v u x y : View) (l : Lock) (cut : List CutNode) → v.lock ≡ None → v.upper ≡ None → u ≡ holding v v.gate (Some l) None
     → MadeLocked m call key node level reply words u x → y ≡ having_cut (standing (holding x x.gate None None) None None) cut → AnswersAndPrunes m call reply words v y
 made_there m call key node level reply words v u x y l cut free alone took made left =
     let makes = (subst (λ (z : View). MadeLocked m call key node level reply words z x) took made).makes in (
@@ -134,9 +134,9 @@ made_there m call key node level reply words v u x y l cut free alone took made 
         item = makes.item;
         seen = makes.seen;
         is = left ∙ ap (λ (z : View). having_cut (standing (holding z z.gate None None) None None) cut) makes.is
-            ∙ (λ i. record (called_view v (paid (cost_of call) words (with_item v.owns makes.item)) makes.seen) { walk = None; leaf = None; lock = sym free i; upper = sym alone i; pruned = cut ++ v.pruned });
+            ∙ (λ i. record (called_view v (paid (cost_of call) words (with_item v.owns makes.item)) makes.seen) { walk = None; leaf = None; lock = sym free i; upper = sym alone i; cut = cut ++ v.cut });
         called = subst (λ (z : View). Called (start_of v.begin) (calls.Map m call) (replies.Map reply) (cost_of call) (view_state v) (view_state z)) (sym left) makes.called;
-        looks = looks_still x y None None None None x.gate x.spot (cut ++ x.pruned) left makes.looks;
+        looks = looks_still x y None None None None x.gate x.spot (cut ++ x.cut) left makes.looks;
       },
     )
 
@@ -152,7 +152,7 @@ made_between k m call reply words first inside before after free came (cut, made
         seen = a.seen;
         is = went ∙ ap (λ z. holding z Outside None None) a.is ∙ (λ i. record (called_view v (paid (cost_of call) words (with_item v.owns a.item)) a.seen) { walk = sym idle.walk i; leaf = sym idle.leaf i; gate = sym idle.gate i; lock = sym idle.lock i; upper = sym idle.upper i });
         called = subst (λ z. Called (start_of v.begin) (calls.Map m call) (replies.Map reply) (cost_of call) (view_state v) (view_state z)) (sym went) a.called;
-        looks = looks_still before after before.walk before.leaf None None Outside before.spot before.pruned went a.looks;
+        looks = looks_still before after before.walk before.leaf None None Outside before.spot before.cut went a.looks;
       },
     )
 
@@ -179,6 +179,7 @@ clears_between k m first closed alone before after free shut known cleared opene
           is = opened.1 ∙ ap (λ z. holding z Outside None None) made.is
               ∙ (λ i. record (called_view (having_cut first.0 (d ∷ [])) (paid (cost_of Clear) 18 (with_item first.0.owns made.item)) made.seen) { gate = sym idle.gate i; lock = sym idle.lock i; upper = sym idle.upper i });
           called = subst (λ z. Called (start_of first.0.begin) (calls.Map m Clear) (replies.Map Done) (cost_of Clear) (view_state first.0) (view_state z)) (sym opened.1) made.called;
+          looks = looks_still before.0 after.0 before.0.walk before.0.leaf None None Outside before.0.spot before.0.cut opened.1 made.looks;
         },
       ),
     )

@@ -28,7 +28,7 @@ let_go call reply v w before after nowhere entry s = record {
   seen = s.seen;
   is = ap unmounted s.is ∙ (λ i. record (called_view v (with_item v.owns s.item) s.seen) { spot = sym nowhere i; leaf = sym entry i });
   called = s.called;
-  looks = looks_still w (unmounted w) w.walk w.leaf w.lock w.upper w.gate None w.pruned refl s.looks;
+  looks = looks_still w (unmounted w) w.walk w.leaf w.lock w.upper w.gate None w.cut refl s.looks;
 }
 
 -- the caller's list after its call

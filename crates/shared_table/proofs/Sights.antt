@@ -114,7 +114,7 @@ module _ (k : Begin) (me after : Me (Unit {0}) View) (call : MapCall ℕ) (m key
         seen = a.seen;
         is = settled mid word is (ap (λ (z : View). z.upper) a.is ∙ stands.alone) ∙ ap (λ (z : View). record z { lock = Some (lock word) }) a.is;
         called = subst (λ (z : View). Called (start_of me.0.begin) (calls.Map m call) (replies.Map (key_reply call (leaf_value leaf key))) (cost_of call) (view_state me.0) (view_state z)) (sym is) a.called;
-        looks = looks_still mid after.0 mid.walk mid.leaf (Some (lock word)) None mid.gate mid.spot mid.pruned is a.looks;
+        looks = looks_still mid after.0 mid.walk mid.leaf (Some (lock word)) None mid.gate mid.spot mid.cut is a.looks;
       };
     }
 

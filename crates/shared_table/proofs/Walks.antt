@@ -48,7 +48,7 @@ module _ (k : Begin) (first : Me (Unit {0}) View) (free : IsFree k first) (m key
     seen = a.seen;
     is = is ∙ ap (λ u. standing u None None) a.is ∙ (λ i. standing (called_view first.0 (with_item first.0.owns a.item) a.seen) (sym free.idle.walk i) (sym free.idle.leaf i));
     called = subst (λ u. Called (start_of first.0.begin) (calls.Map m (Load key)) (replies.Map reply) 0 (view_state first.0) (view_state u)) (sym is) a.called;
-    looks = looks_still mid last None None mid.lock mid.upper mid.gate mid.spot mid.pruned is a.looks;
+    looks = looks_still mid last None None mid.lock mid.upper mid.gate mid.spot mid.cut is a.looks;
   }
 
   module _ (me after : Me (Unit {0}) View) (node level : ℕ) (at : IsAt first m key me node level) (same : after.1 ≡ me.1) where
