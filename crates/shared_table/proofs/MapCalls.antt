@@ -177,8 +177,8 @@ clears_between k m first closed alone before after free shut known cleared opene
           item = made.item;
           seen = made.seen;
           is = opened.1 ∙ ap (λ z. holding z Outside None None) made.is
-              ∙ (λ i. record (called_view (having_cut first.0 (d ∷ [])) (paid (cost_of Clear) 18 (with_item first.0.owns made.item)) made.seen) { gate = sym idle.gate i; lock = sym idle.lock i; upper = sym idle.upper i });
-          called = subst (λ z. Called (start_of first.0.begin) (calls.Map m Clear) (replies.Map Done) (cost_of Clear) (view_state first.0) (view_state z)) (sym opened.1) made.called;
+              ∙ (λ i. record (called_view (having_cut first.0 (d ∷ [])) (paid (cost_of {K = ℕ} Clear) 18 (with_item first.0.owns made.item)) made.seen) { gate = sym idle.gate i; lock = sym idle.lock i; upper = sym idle.upper i });
+          called = subst (λ z. Called (start_of first.0.begin) (calls.Map m Clear) (replies.Map Done) (cost_of {K = ℕ} Clear) (view_state first.0) (view_state z)) (sym opened.1) made.called;
           looks = looks_still before.0 after.0 before.0.walk before.0.leaf None None Outside before.0.spot before.0.cut opened.1 made.looks;
         },
       ),
