@@ -1,0 +1,5 @@
+mod CondCut
+mod CutLemmas
+mod GroupCut
+mod LineCut
+mod MutexCut

@@ -1,0 +1,194 @@
+-- That a list is cut into the line that it is.
+use Rattle.std.proofs.Common.{◌≡◌, ◌∙◌, ℕ, ◌+◌, Bool, true, false, ◌&&◌, cond, List, [], ◌∷◌, ◌++◌, map, length, Option, Some, None, refl, sym, ap, subst, append_assoc, arith}
+use Rattle.std.specs.Prelude.{All, Ok, Err}
+use Rattle.std.specs.List.{flat_map, list_all}
+use Rattle.std.proofs.lemmas.Bool.{and_parts, and_from, cond-true}
+use Rattle.std.proofs.lemmas.List.{append-nil, length-append}
+use Rattle.std.proofs.lemmas.List.Elements.{All-nil, All-cons, All-head, All-tail}
+use Rattle.sync_types.specs.declared.misuse.Misuse.{Misuse}
+use Rattle.sync_types.specs.declared.misuse.Misuse.TheVariants.{UnlockOfUnlockedMutex, RUnlockOfUnlockedRwMutex, UnlockOfUnlockedRwMutex, NegativeWaitGroupCounter, WaitGroupReused}
+use Rattle.script_calls.specs.declared.call.Call.{Call}
+use Rattle.script_calls.specs.declared.call.Reply.{Reply}
+use Rattle.sync_model.specs.declared.answer.Answer.TheVariants.{Done, Halted}
+use Rattle.sync_model.specs.declared.item.Item.{Item}
+use Rattle.sync_model.specs.declared.journal.Deed.{Deed}
+use Rattle.sync_model.specs.declared.journal.Deed.TheVariants.{Event, Refused, Halt}
+use Rattle.protocols.specs.Spelling.{CallAnswer}
+use Rattle.run_record.specs.declared.entered.ObjectEvent.{ObjectEvent}
+use Rattle.run_record.specs.declared.entered.ObjectReply.{ObjectReply}
+use Rattle.run_record.specs.declared.made.Made.TheVariants.{Shared, Entered}
+use Rattle.run_record.specs.declared.made.Made.{Made}
+use Rattle.run_record.specs.Calls.{SpellsCall}
+use Rattle.run_record.specs.Explains.{HasEnded}
+use Rattle.run_record.specs.Lines.{Line, SpeltCall, LineEnd, whole as at_end, misused, halted, unfinished, script_of, items_of, IsHalt, AreSpelt, EndsBy, IsLineOf}
+use Rattle.run_record.specs.Record.{shared_in}
+use Rattle.workload.specs.Plan.{Plan}
+use Rattle.run_cuts.specs.Cuts.{Beginning, whole, within, wrong, Cutter, Cuts}
+use Rattle.run_cuts.specs.OneLine.{CutsLines}
+use Rattle.run_cuts.specs.LineCuts.{by_call, ends_in_call, halts_by, if_none_is_left, is_halt, line_cut, same_misuse, with_spelt}
+
+some_line : {a b : Line} → Some a ≡ Some b → a ≡ b
+some_line e = cc
+
+none_some : {a : Line} → None ≡ Some a → ⊥
+none_some e = cc
+
+shared_append : (a b : List Made) → shared_in (a ++ b) ≡ shared_in a ++ shared_in b
+shared_append [] b = refl
+shared_append (Shared x ∷ a) b = ap (λ (l : List Item). x ∷ l) (shared_append a b)
+shared_append (Entered object entry ∷ a) b = shared_append a b
+
+shared_more : (a b : List Made) → length (shared_in (a ++ b)) ≡ length (shared_in a) + length (shared_in b)
+shared_more a b = ap (λ (l : List Item). length l) (shared_append a b) ∙ length-append (shared_in a) (shared_in b)
+
+-- misuses and halts
+misuse_is : (a b : Misuse) → same_misuse a b ≡ true → a ≡ b
+misuse_is UnlockOfUnlockedMutex UnlockOfUnlockedMutex h = refl
+misuse_is RUnlockOfUnlockedRwMutex RUnlockOfUnlockedRwMutex h = refl
+misuse_is UnlockOfUnlockedRwMutex UnlockOfUnlockedRwMutex h = refl
+misuse_is NegativeWaitGroupCounter NegativeWaitGroupCounter h = refl
+misuse_is WaitGroupReused WaitGroupReused h = refl
+misuse_is a b h = absurd cc
+
+misuse_same : (a : Misuse) → same_misuse a a ≡ true
+misuse_same UnlockOfUnlockedMutex = refl
+misuse_same RUnlockOfUnlockedRwMutex = refl
+misuse_same UnlockOfUnlockedRwMutex = refl
+misuse_same NegativeWaitGroupCounter = refl
+misuse_same WaitGroupReused = refl
+
+halt_is : (misuse : Misuse) (d : Deed ObjectEvent ObjectReply) → halts_by misuse d ≡ true → d ≡ Halt misuse
+halt_is misuse (Halt other) h = ap (λ (m : Misuse). let d : Deed ObjectEvent ObjectReply = Halt m in d) (misuse_is other misuse h)
+halt_is misuse (Event e r) h = absurd cc
+halt_is misuse (Refused e m) h = absurd cc
+
+is_halt_told : (misuse : Misuse) (m : Made) → is_halt misuse m ≡ true → IsHalt misuse m
+is_halt_told misuse (Shared x) h = absurd cc
+is_halt_told misuse (Entered object entry) h = halt_is misuse entry.deed h
+
+is_halt_tells : (misuse : Misuse) (m : Made) → IsHalt misuse m → is_halt misuse m ≡ true
+is_halt_tells misuse (Shared x) h = absurd h
+is_halt_tells misuse (Entered object entry) h = ap (halts_by misuse) h ∙ misuse_same misuse
+
+all_told : (misuse : Misuse) (list : List Made) → list_all (is_halt misuse) list ≡ true → All (IsHalt misuse) list
+all_told misuse [] h = All-nil (IsHalt misuse)
+all_told misuse (m ∷ list) h =
+    let parts = and_parts (is_halt misuse m) (list_all (is_halt misuse) list) h in
+    All-cons (IsHalt misuse) m list (is_halt_told misuse m parts.0) (all_told misuse list parts.1)
+
+all_tells : (misuse : Misuse) (list : List Made) → All (IsHalt misuse) list → list_all (is_halt misuse) list ≡ true
+all_tells misuse [] h = refl
+all_tells misuse (m ∷ list) h = and_from (is_halt misuse m) (list_all (is_halt misuse) list) (is_halt_tells misuse m (All-head (IsHalt misuse) m list h)) (all_tells misuse list (All-tail (IsHalt misuse) m list h))
+
+module _ (plan : Plan) (worker : ℕ) (cut : ℕ → Call → Cutter (Reply ℕ)) (cuts : (before : ℕ) (call : Call) → Cuts (SpellsCall plan worker before call) (cut before call)) where
+  -- how many calls on maps and atomics a line's completed calls make, behind so many
+  abbrev made_by : ℕ → List SpeltCall → ℕ
+  made_by before spelt = before + length (shared_in (flat_map (λ s. s.items) spelt))
+
+  -- the line is one of this script and list, from a number of calls on
+  pub record IsLineFrom (before : ℕ) (script : List Call) (list : List Made) (line : Line) : Type 0 where
+    pub script_is : script_of line ≡ script
+    pub list_is : items_of line ≡ list
+    pub calls : AreSpelt plan worker before line.spelt
+    pub ends : EndsBy plan worker (made_by before line.spelt) line.ending line.rest line.last
+
+  -- a line that ends in its first call
+  first_call : (before : ℕ) (script : List Call) (last : List Made) (ending : LineEnd) (line : Line) → Some (ends_in_call script last ending) ≡ Some line → EndsBy plan worker before ending script last → IsLineFrom before script last line
+  first_call before script last ending line e ends =
+      let n : before ≡ before + 0 = omega arith in
+      let own : IsLineFrom before script last (ends_in_call script last ending) = record { script_is = refl; list_is = refl; calls = tt; ends = subst (λ (k : ℕ). EndsBy plan worker k ending script last) n ends } in
+      subst (λ (l : Line). IsLineFrom before script last l) (some_line e) own
+
+  -- one completed call more
+  one_call : (before : ℕ) (call : Call) (script : List Call) (items rest : List Made) (reply : Reply ℕ) (line : Line) → SpellsCall plan worker before call items (Done (Ok reply)) → IsLineFrom (before + length (shared_in items)) script rest line
+      → (let s : SpeltCall = record { call = call; items = items; reply = reply } in IsLineFrom before (call ∷ script) (items ++ rest) (record { spelt = s ∷ line.spelt; last = line.last; rest = line.rest; ending = line.ending }))
+  one_call before call script items rest reply line spelt is =
+      let flat : List Made = flat_map (λ s. s.items) line.spelt in
+      let n : made_by (before + length (shared_in items)) line.spelt ≡ before + length (shared_in (items ++ flat)) = omega (arith, shared_more items flat) in record {
+        script_is = ap (λ (l : List Call). call ∷ l) is.script_is;
+        list_is = append_assoc items flat line.last ∙ ap (λ (l : List Made). items ++ l) is.list_is;
+        calls = (spelt, is.calls);
+        ends = subst (λ (k : ℕ). EndsBy plan worker k line.ending line.rest line.last) n is.ends;
+      }
+
+  pub line_sound : (script : List Call) (before : ℕ) (list : List Made) (line : Line) → line_cut cut before script list ≡ Some line → IsLineFrom before script list line
+  line_sound [] before [] line e = first_call before [] [] at_end line e (refl, refl)
+  line_sound [] before (m ∷ list) line e = absurd (none_some e)
+  line_sound (call ∷ script) before list line e = by (cut before call list) refl e (λ n l x f. line_sound script n l x f)
+    where
+      with_one : (items rest : List Made) (reply : Reply ℕ) → cut before call list ≡ whole items (Done (Ok reply)) rest → (found : Option Line) → (let s : SpeltCall = record { call = call; items = items; reply = reply } in with_spelt s found ≡ Some line)
+          → ((l : Line) → found ≡ Some l → IsLineFrom (before + length (shared_in items)) script rest l) → IsLineFrom before (call ∷ script) list line
+      with_one items rest reply is None e on = absurd (none_some e)
+      with_one items rest reply is (Some l) e on =
+          let one = (cuts before call).sound list items rest (Done (Ok reply)) is in
+          subst (λ (x : List Made). IsLineFrom before (call ∷ script) x line) (sym one.0)
+          (subst (λ (x : Line). IsLineFrom before (call ∷ script) (items ++ rest) x) (some_line e) (one_call before call script items rest reply l one.1 (on l refl)))
+
+      misuse_ends : (items rest : List Made) (misuse : Misuse) → cut before call list ≡ whole items (Done (Err misuse)) rest → (b : Bool) → list_all (is_halt misuse) rest ≡ b → cond b (Some (ends_in_call (call ∷ script) (items ++ rest) (misused misuse))) None ≡ Some line → IsLineFrom before (call ∷ script) list line
+      misuse_ends items rest misuse is true halts e =
+          let one = (cuts before call).sound list items rest (Done (Err misuse)) is in
+          subst (λ (x : List Made). IsLineFrom before (call ∷ script) x line) (sym one.0)
+          (first_call before (call ∷ script) (items ++ rest) (misused misuse) line e (items, rest, refl, one.1, all_told misuse rest halts))
+      misuse_ends items rest misuse is false halts e = absurd (none_some e)
+
+      halt_ends : (items rest : List Made) (misuse : Misuse) → cut before call list ≡ whole items (Halted misuse) rest → if_none_is_left rest (ends_in_call (call ∷ script) items (halted misuse)) ≡ Some line → IsLineFrom before (call ∷ script) list line
+      halt_ends items [] misuse is e =
+          let one = (cuts before call).sound list items [] (Halted misuse) is in
+          subst (λ (x : List Made). IsLineFrom before (call ∷ script) x line) (sym (one.0 ∙ append-nil items)) (first_call before (call ∷ script) items (halted misuse) line e one.1)
+      halt_ends items (m ∷ rest) misuse is e = absurd (none_some e)
+
+      by : (found : Beginning (Reply ℕ)) → cut before call list ≡ found → by_call before call script list found (λ later rest. line_cut cut later script rest) ≡ Some line
+          → ((n : ℕ) (l : List Made) (x : Line) → line_cut cut n script l ≡ Some x → IsLineFrom n script l x) → IsLineFrom before (call ∷ script) list line
+      by (whole items (Done (Ok reply)) rest) is e on = with_one items rest reply is (line_cut cut (before + length (shared_in items)) script rest) e (λ l f. on (before + length (shared_in items)) rest l f)
+      by (whole items (Done (Err misuse)) rest) is e on = misuse_ends items rest misuse is (list_all (is_halt misuse) rest) refl e
+      by (whole items (Halted misuse) rest) is e on = halt_ends items rest misuse is e
+      by within is e on = first_call before (call ∷ script) list unfinished line e ((cuts before call).goes_on list is)
+      by wrong is e on = absurd (none_some e)
+
+  -- the last call of a line is found as it ends, unless it is unfinished
+  ended : (before : ℕ) (ending : LineEnd) (rest : List Call) (last : List Made) → HasEnded ending → EndsBy plan worker before ending rest last → line_cut cut before rest last ≡ Some (ends_in_call rest last ending)
+  ended before at_end rest last e (none, also) =
+      ap (λ (c : List Call). line_cut cut before c last) none ∙ ap (λ (l : List Made). if_none_is_left l (ends_in_call [] [] at_end)) also
+      ∙ ap (λ (c : List Call). Some (ends_in_call c [] at_end)) (sym none) ∙ ap (λ (l : List Made). Some (ends_in_call rest l at_end)) (sym also)
+  ended before (misused misuse) [] last e nothing = absurd nothing
+  ended before (misused misuse) (call ∷ rest) last e (items, halts, are, spelt, all) =
+      let found : cut before call last ≡ whole items (Done (Err misuse)) halts = ap (cut before call) are ∙ (cuts before call).complete items halts (Done (Err misuse)) spelt in
+      ap (λ (f : Beginning (Reply ℕ)). by_call before call rest last f (λ later left. line_cut cut later rest left)) found
+      ∙ cond-true (list_all (is_halt misuse) halts) (Some (ends_in_call (call ∷ rest) (items ++ halts) (misused misuse))) None (all_tells misuse halts all)
+      ∙ ap (λ (l : List Made). Some (ends_in_call (call ∷ rest) l (misused misuse))) (sym are)
+  ended before (halted misuse) [] last e nothing = absurd nothing
+  ended before (halted misuse) (call ∷ rest) last e spelt =
+      let found : cut before call last ≡ whole last (Halted misuse) [] = ap (cut before call) (sym (append-nil last)) ∙ (cuts before call).complete last [] (Halted misuse) spelt in
+      ap (λ (f : Beginning (Reply ℕ)). by_call before call rest last f (λ later left. line_cut cut later rest left)) found
+  ended before unfinished rest last e ends = absurd e
+
+  all_found : (spelt : List SpeltCall) (before : ℕ) (ending : LineEnd) (rest : List Call) (last : List Made) → HasEnded ending → AreSpelt plan worker before spelt → EndsBy plan worker (made_by before spelt) ending rest last
+      → (let line : Line = record { spelt = spelt; last = last; rest = rest; ending = ending } in line_cut cut before (script_of line) (items_of line) ≡ Some line)
+  all_found [] before ending rest last e calls ends =
+      let n : before + 0 ≡ before = omega arith in
+      ended before ending rest last e (subst (λ (k : ℕ). EndsBy plan worker k ending rest last) n ends)
+  all_found (s ∷ spelt) before ending rest last e (one, calls) ends =
+      let flat : List Made = flat_map (λ s. s.items) spelt in
+      let n : before + length (shared_in (s.items ++ flat)) ≡ made_by (before + length (shared_in s.items)) spelt = omega (arith, shared_more s.items flat) in
+      let script : List Call = map (λ s. s.call) spelt ++ rest in
+      let later = all_found spelt (before + length (shared_in s.items)) ending rest last e calls (subst (λ (k : ℕ). EndsBy plan worker k ending rest last) n ends) in
+      let found : cut before s.call ((s.items ++ flat) ++ last) ≡ whole s.items (Done (Ok s.reply)) (flat ++ last) =
+          ap (cut before s.call) (append_assoc s.items flat last) ∙ (cuts before s.call).complete s.items (flat ++ last) (Done (Ok s.reply)) one in
+      ap (λ (f : Beginning (Reply ℕ)). by_call before s.call script ((s.items ++ flat) ++ last) f (λ more left. line_cut cut more script left)) found
+      ∙ ap (with_spelt s) later
+
+  -- a line that has ended is the one that its list and script are cut into
+  pub line_complete : (line : Line) → HasEnded line.ending → AreSpelt plan worker 0 line.spelt → EndsBy plan worker (length (shared_in (flat_map (λ s. s.items) line.spelt))) line.ending line.rest line.last
+      → line_cut cut 0 (script_of line) (items_of line) ≡ Some line
+  line_complete line e calls ends =
+      let n : length (shared_in (flat_map (λ s. s.items) line.spelt)) ≡ made_by 0 line.spelt = omega arith in
+      all_found line.spelt 0 line.ending line.rest line.last e calls (subst (λ (k : ℕ). EndsBy plan worker k line.ending line.rest line.last) n ends)
+
+  pub lines_cut : CutsLines plan worker cut
+  lines_cut = record {
+    is_line = λ script list line e.
+        let is = line_sound script 0 list line e in
+        let n : made_by 0 line.spelt ≡ length (shared_in (flat_map (λ s. s.items) line.spelt)) = omega arith in
+        (is.script_is, is.list_is, record { calls = is.calls; ends = subst (λ (k : ℕ). EndsBy plan worker k line.ending line.rest line.last) n is.ends });
+    is_cut = λ line e is. line_complete line e is.calls is.ends;
+  }

@@ -1,0 +1,20 @@
+-- That a worker's list is cut into one line.
+use Rattle.std.specs.Prelude.{◌≡◌, ℕ, List, Option, Some}
+use Rattle.script_calls.specs.declared.call.Call.{Call}
+use Rattle.script_calls.specs.declared.call.Reply.{Reply}
+use Rattle.workload.specs.Plan.{Plan}
+use Rattle.run_record.specs.Calls.{SpellsCall}
+use Rattle.run_record.specs.Explains.{HasEnded}
+use Rattle.run_record.specs.Lines.{Line, IsLineOf, items_of, script_of}
+use Rattle.run_record.specs.declared.made.Made.{Made}
+use Rattle.run_cuts.specs.Cuts.{Cutter, Cuts}
+use Rattle.run_cuts.specs.LineCuts.{line_cut}
+
+-- each call is cut from a list just as it is spelt
+abbrev pub CutsCalls : Plan → ℕ → (ℕ → Call → Cutter (Reply ℕ)) → Type 0
+CutsCalls plan worker cut = (before : ℕ) (call : Call) → Cuts (SpellsCall plan worker before call) (cut before call)
+
+-- What a list and a script are cut into is a line of them. A line of them that has ended is what they are cut into.
+pub record CutsLines (plan : Plan) (worker : ℕ) (cut : ℕ → Call → Cutter (Reply ℕ)) : Type 0 where
+  pub is_line : (script : List Call) (list : List Made) (line : Line) → line_cut cut 0 script list ≡ Some line → (script_of line ≡ script) × (items_of line ≡ list) × IsLineOf plan worker line
+  pub is_cut : (line : Line) → HasEnded line.ending → IsLineOf plan worker line → line_cut cut 0 (script_of line) (items_of line) ≡ Some line

@@ -1,0 +1,30 @@
+//! That the functions cut lists as the record of a run spells them. Each law is the contract of a function that does nothing.
+ghost use Rattle.std.specs.Prelude.{ℕ};
+ghost use Rattle.run_record.specs.CondKind.{cond_call};
+ghost use Rattle.run_record.specs.MutexKind.{mutex_call};
+ghost use Rattle.run_record.specs.WaitGroupKind.{wait_group_call};
+ghost use Rattle.run_cuts.specs.CondCuts.{cond_cut};
+ghost use Rattle.run_cuts.specs.Cuts.{Cuts, Cutter};
+ghost use Rattle.run_cuts.specs.GroupCuts.{group_cut};
+ghost use Rattle.run_cuts.specs.MutexCuts.{mutex_cut};
+ghost use Rattle.run_cuts.specs.OneLine.{CutsCalls, CutsLines};
+ghost use Rattle.script_calls.specs.declared.call.Call.{Call};
+ghost use Rattle.script_calls.specs.declared.call.Reply.{Reply};
+ghost use Rattle.workload.specs.Plan.{Plan};
+
+use sync_types::{CondCall, MutexCall, WaitGroupCall};
+
+/// The calls of a mutex, a cond and a wait group are cut from a list by a function just as they are spelt: what is found spells the
+/// call, what spells it is found whatever stands behind, a list that ends within it goes on to one that spells it, and one that
+/// begins with none still does so however it goes on.
+pub fn calls_are_cut_as_they_are_spelt()
+    ensures mutex { (object : ℕ) (call : MutexCall) → Cuts (mutex_call object call) (mutex_cut object call) }
+    ensures cond { (object mutex : ℕ) (call : CondCall) → Cuts (cond_call object mutex call) (cond_cut object mutex call) }
+    ensures wait_group { (object : ℕ) (call : WaitGroupCall) → Cuts (wait_group_call object call) (group_cut object call) }
+{}
+
+/// Where each call is cut as it is spelt, a list and a script are cut into one line. What they are cut into is a line of them, and a
+/// line of them that has ended is what they are cut into. An unfinished line isn't, where its last call is spelt whole.
+pub fn a_list_is_cut_into_one_line()
+    ensures { (plan : Plan) (worker : ℕ) (cut : ℕ → Call → Cutter (Reply ℕ)) → CutsCalls plan worker cut → CutsLines plan worker cut }
+{}

@@ -1,0 +1,4 @@
+//! How a worker's list is cut into calls, told by functions. Nothing of it runs.
+#![tactic(auto)]
+
+pub mod laws;
