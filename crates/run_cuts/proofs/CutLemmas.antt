@@ -181,19 +181,22 @@ module _ {O P : Type 0} (first : Part O) (next : O → Part P) (cut : Cutter O) 
   begin_sound list (whole before (Done (Ok outcome)) more) is items rest answer e =
       let one = cuts.sound list before more (Done (Ok outcome)) is in
       let two = behind_whole before (cut_next outcome more) items rest answer e in
-      let then = (cuts_next outcome).sound more two.others rest answer two.is in
-      (one.0 ∙ ap (λ (l : List Made). before ++ l) then.0 ∙ sym (append_assoc before two.others rest) ∙ ap (λ (l : List Made). l ++ rest) (sym two.are),
-      (before, two.others, Done (Ok outcome), two.are, one.1, then.1))
+      let then = (cuts_next outcome).sound more two.others rest answer two.is in (
+        one.0 ∙ ap (λ (l : List Made). before ++ l) then.0 ∙ sym (append_assoc before two.others rest) ∙ ap (λ (l : List Made). l ++ rest) (sym two.are),
+        (before, two.others, Done (Ok outcome), two.are, one.1, then.1),
+      )
   begin_sound list (whole before (Done (Err misuse)) more) is items rest answer e =
       let one = cuts.sound list before more (Done (Err misuse)) is in
-      let same = same_whole before items (Done (Err misuse)) answer more rest e in
-      (one.0 ∙ ap (λ (l : List Made). l ++ more) same.items_are ∙ ap (λ (l : List Made). items ++ l) same.rests_are,
-      (before, [], Done (Err misuse), sym same.items_are ∙ sym (append-nil before), one.1, (refl, sym same.answers_are)))
+      let same = same_whole before items (Done (Err misuse)) answer more rest e in (
+        one.0 ∙ ap (λ (l : List Made). l ++ more) same.items_are ∙ ap (λ (l : List Made). items ++ l) same.rests_are,
+        (before, [], Done (Err misuse), sym same.items_are ∙ sym (append-nil before), one.1, (refl, sym same.answers_are)),
+      )
   begin_sound list (whole before (Halted misuse) more) is items rest answer e =
       let one = cuts.sound list before more (Halted misuse) is in
-      let same = same_whole before items (Halted misuse) answer more rest e in
-      (one.0 ∙ ap (λ (l : List Made). l ++ more) same.items_are ∙ ap (λ (l : List Made). items ++ l) same.rests_are,
-      (before, [], Halted misuse, sym same.items_are ∙ sym (append-nil before), one.1, (refl, sym same.answers_are)))
+      let same = same_whole before items (Halted misuse) answer more rest e in (
+        one.0 ∙ ap (λ (l : List Made). l ++ more) same.items_are ∙ ap (λ (l : List Made). items ++ l) same.rests_are,
+        (before, [], Halted misuse, sym same.items_are ∙ sym (append-nil before), one.1, (refl, sym same.answers_are)),
+      )
   begin_sound list within is items rest answer e = absurd (within_whole items rest answer e)
   begin_sound list wrong is items rest answer e = absurd (wrong_whole items rest answer e)
 
@@ -206,34 +209,48 @@ module _ {O P : Type 0} (first : Part O) (next : O → Part P) (cut : Cutter O) 
       ap (λ (l : List Made). whole earlier (Halted misuse) (l ++ rest)) none ∙ ap (λ (l : List Made). whole l (Halted misuse) rest) (sym (append-nil earlier) ∙ ap (λ (l : List Made). earlier ++ l) (sym none))
       ∙ ap (λ (a : CallAnswer P). whole (earlier ++ later) a rest) (sym is)
 
-  begin_on : ((outcome : O) → CanEnd (next outcome)) → (list : List Made) (found : Beginning O) → cut list ≡ found → by_beginning cut_next found ≡ within → (later : List Made) × (answer : CallAnswer P) × and_then first next (list ++ later) answer
+  -- a list that ends within the first part goes on to one that spells both
+  abbrev pub Continues : Type 0
+  Continues = (list : List Made) → cut list ≡ within → (later : List Made) × (answer : CallAnswer P) × and_then first next (list ++ later) answer
+
+  can_continue : ((outcome : O) → CanEnd (next outcome)) → Continues
+  can_continue can list is = by (cuts.goes_on list is)
+    where
+      by : (later : List Made) × (answer : CallAnswer O) × first (list ++ later) answer → (later : List Made) × (answer : CallAnswer P) × and_then first next (list ++ later) answer
+      by (later, given, spelt) = ended list later given can spelt
+
+  pub halt_continues : ((list : List Made) → cut list ≡ within → (later : List Made) × (misuse : Misuse) × first (list ++ later) (Halted misuse)) → Continues
+  halt_continues halts list is = by (halts list is)
+    where
+      by : (later : List Made) × (misuse : Misuse) × first (list ++ later) (Halted misuse) → (later : List Made) × (answer : CallAnswer P) × and_then first next (list ++ later) answer
+      by (later, misuse, spelt) = (later, Halted misuse, (list ++ later, [], Halted misuse, sym (append-nil (list ++ later)), spelt, (refl, refl)))
+
+  begin_on : Continues → (list : List Made) (found : Beginning O) → cut list ≡ found → by_beginning cut_next found ≡ within → (later : List Made) × (answer : CallAnswer P) × and_then first next (list ++ later) answer
   begin_on can list (whole before (Done (Ok outcome)) more) is e = by ((cuts_next outcome).goes_on more (behind_within before (cut_next outcome more) e))
     where
       one : (list ≡ before ++ more) × first before (Done (Ok outcome))
       one = cuts.sound list before more (Done (Ok outcome)) is
+
       by : (later : List Made) × (answer : CallAnswer P) × next outcome (more ++ later) answer → (later : List Made) × (answer : CallAnswer P) × and_then first next (list ++ later) answer
       by (later, answer, spelt) = (later, answer, (before, more ++ later, Done (Ok outcome), ap (λ (l : List Made). l ++ later) one.0 ∙ append_assoc before more later, one.1, spelt))
   begin_on can list (whole before (Done (Err misuse)) more) is e = absurd (whole_within before more (Done (Err misuse)) e)
   begin_on can list (whole before (Halted misuse) more) is e = absurd (whole_within before more (Halted misuse) e)
-  begin_on can list within is e = by (cuts.goes_on list is)
-    where
-      by : (later : List Made) × (answer : CallAnswer O) × first (list ++ later) answer → (later : List Made) × (answer : CallAnswer P) × and_then first next (list ++ later) answer
-      by (later, given, spelt) = ended list later given can spelt
+  begin_on can list within is e = can list is
   begin_on can list wrong is e = absurd (wrong_within e)
 
   begin_stays : (list later : List Made) (found : Beginning O) → cut list ≡ found → by_beginning cut_next found ≡ wrong → by_beginning cut_next (cut (list ++ later)) ≡ wrong
   begin_stays list later (whole before (Done (Ok outcome)) more) is e =
       let one = cuts.sound list before more (Done (Ok outcome)) is in
       let again : cut (list ++ later) ≡ whole before (Done (Ok outcome)) (more ++ later) =
-          ap cut (ap (λ (l : List Made). l ++ later) one.0 ∙ append_assoc before more later) ∙ cuts.complete before (more ++ later) (Done (Ok outcome)) one.1 in
+      ap cut (ap (λ (l : List Made). l ++ later) one.0 ∙ append_assoc before more later) ∙ cuts.complete before (more ++ later) (Done (Ok outcome)) one.1 in
       ap (by_beginning cut_next) again ∙ ap (behind before) ((cuts_next outcome).stays more later (behind_wrong before (cut_next outcome more) e))
   begin_stays list later (whole before (Done (Err misuse)) more) is e = absurd (whole_wrong before more (Done (Err misuse)) e)
   begin_stays list later (whole before (Halted misuse) more) is e = absurd (whole_wrong before more (Halted misuse) e)
   begin_stays list later within is e = absurd (within_wrong e)
   begin_stays list later wrong is e = ap (by_beginning cut_next) (cuts.stays list later is)
 
-  pub then_cuts : ((outcome : O) → CanEnd (next outcome)) → Cuts (and_then first next) (then_cut cut cut_next)
-  then_cuts can = record {
+  pub then_cuts_by : Continues → Cuts (and_then first next) (then_cut cut cut_next)
+  then_cuts_by can = record {
     sound = λ list items rest answer e. begin_sound list (cut list) refl items rest answer e;
     complete = λ items rest answer (earlier, later, given, are, spelt, on).
         ap (λ (l : List Made). by_beginning cut_next (cut l)) (ap (λ (l : List Made). l ++ rest) are ∙ append_assoc earlier later rest)
@@ -241,6 +258,9 @@ module _ {O P : Type 0} (first : Part O) (next : O → Part P) (cut : Cutter O) 
     goes_on = λ list e. begin_on can list (cut list) refl e;
     stays = λ list later e. begin_stays list later (cut list) refl e;
   }
+
+  pub then_cuts : ((outcome : O) → CanEnd (next outcome)) → Cuts (and_then first next) (then_cut cut cut_next)
+  then_cuts can = then_cuts_by (can_continue can)
 
 -- ---- the calls of a protocol
 
@@ -289,15 +309,17 @@ module _ {G O E R : Type 0} (event : E → ObjectEvent) (reply : R → ObjectRep
         → (items rest : List Made) (answer : CallAnswer O) → by_move moves object (Entered other entry) moved list (λ later. cut later list) ≡ whole items answer rest → (Entered other entry ∷ list ≡ items ++ rest) × part stage items answer
     sound_move stage other entry list same (answers_by given) (own, is, spelt) from items rest answer e =
         let m : Made = Entered other entry in
-        let found = same_whole (m ∷ []) items given answer list rest e in
-        (ap (λ (l : List Made). m ∷ l) found.rests_are ∙ ap (λ (l : List Made). l ++ rest) found.items_are,
-        (as_own entry own ∷ [], sym found.items_are ∙ ap (λ (y : Made). y ∷ []) (own_item other entry own same is), subst (λ (a : CallAnswer O). Spells event_of meaning stage (own ∷ []) a) found.answers_are spelt))
+        let found = same_whole (m ∷ []) items given answer list rest e in (
+          ap (λ (l : List Made). m ∷ l) found.rests_are ∙ ap (λ (l : List Made). l ++ rest) found.items_are,
+          (as_own entry own ∷ [], sym found.items_are ∙ ap (λ (y : Made). y ∷ []) (own_item other entry own same is), subst (λ (a : CallAnswer O). Spells event_of meaning stage (own ∷ []) a) found.answers_are spelt),
+        )
     sound_move stage other entry list same (goes_to later) (own, is, spells) from items rest answer e =
         let m : Made = Entered other entry in
         let found = behind_whole (m ∷ []) (cut later list) items rest answer e in
-        let before = from later found.others rest answer found.is in
-        (ap (λ (l : List Made). m ∷ l) before.0 ∙ ap (λ (l : List Made). l ++ rest) (sym found.are),
-        subst (λ (l : List Made). part stage l answer) (sym found.are) (one_more stage later m (as_own entry own) (own_item other entry own same is) spells found.others answer before.1))
+        let before = from later found.others rest answer found.is in (
+          ap (λ (l : List Made). m ∷ l) before.0 ∙ ap (λ (l : List Made). l ++ rest) (sym found.are),
+          subst (λ (l : List Made). part stage l answer) (sym found.are) (one_more stage later m (as_own entry own) (own_item other entry own same is) spells found.others answer before.1),
+        )
     sound_move stage other entry list same no_call is from items rest answer e = absurd (wrong_whole items rest answer e)
 
     sound_of : (list : List Made) (stage : G) (items rest : List Made) (answer : CallAnswer O) → cut stage list ≡ whole items answer rest → (list ≡ items ++ rest) × part stage items answer
@@ -317,6 +339,7 @@ module _ {G O E R : Type 0} (event : E → ObjectEvent) (reply : R → ObjectRep
       where
         found : Beginning O
         found = by_move moves object (Entered object entry) (moves stage entry.deed) list (λ later. cut later list)
+
         by : (b : Bool) → b ≡ true → cond b found wrong ≡ found
         by true same = refl
         by false same = absurd cc
@@ -347,25 +370,39 @@ module _ {G O E R : Type 0} (event : E → ObjectEvent) (reply : R → ObjectRep
     pub can_end : (stage : G) → (later : List Made) × (answer : CallAnswer O) × part stage later answer
     can_end stage = (item (refused stage) ∷ [], Halted UnlockOfUnlockedMutex, (refused stage ∷ [], refl, ((0, refl), refl, refl)))
 
-    on_of : (list : List Made) (stage : G) → cut stage list ≡ within → (later : List Made) × (answer : CallAnswer O) × part stage (list ++ later) answer
-    on_of [] stage e = can_end stage
-    on_of (Shared x ∷ list) stage e = absurd (wrong_within e)
-    on_of (Entered other entry ∷ list) stage e = by (eqb other object) refl e (λ later f. on_of list later f)
+    halts_of : (list : List Made) (stage : G) → cut stage list ≡ within → (later : List Made) × part stage (list ++ later) (Halted UnlockOfUnlockedMutex)
+    halts_of [] stage e = (item (refused stage) ∷ [], (refused stage ∷ [], refl, ((0, refl), refl, refl)))
+    halts_of (Shared x ∷ list) stage e = absurd (wrong_within e)
+    halts_of (Entered other entry ∷ list) stage e = by (eqb other object) refl e (λ later f. halts_of list later f)
       where
         goes : (moved : Move G O) → other ≡ object → IsMoveOf stage entry.deed moved → by_move moves object (Entered other entry) moved list (λ later. cut later list) ≡ within
-            → ((later : G) → cut later list ≡ within → (more : List Made) × (answer : CallAnswer O) × part later (list ++ more) answer)
-            → (more : List Made) × (answer : CallAnswer O) × part stage (Entered other entry ∷ (list ++ more)) answer
+            → ((later : G) → cut later list ≡ within → (more : List Made) × part later (list ++ more) (Halted UnlockOfUnlockedMutex))
+            → (more : List Made) × part stage (Entered other entry ∷ (list ++ more)) (Halted UnlockOfUnlockedMutex)
         goes (answers_by given) same is e from = absurd (whole_within (Entered other entry ∷ []) list given e)
         goes (goes_to later) same (own, is, spells) e from = more (from later (behind_within (Entered other entry ∷ []) (cut later list) e))
           where
-            more : (more : List Made) × (answer : CallAnswer O) × part later (list ++ more) answer → (more : List Made) × (answer : CallAnswer O) × part stage (Entered other entry ∷ (list ++ more)) answer
-            more (last, answer, spelt) = (last, answer, one_more stage later (Entered other entry) (as_own entry own) (own_item other entry own same is) spells (list ++ last) answer spelt)
+            more : (more : List Made) × part later (list ++ more) (Halted UnlockOfUnlockedMutex) → (more : List Made) × part stage (Entered other entry ∷ (list ++ more)) (Halted UnlockOfUnlockedMutex)
+            more (last, spelt) = (last, one_more stage later (Entered other entry) (as_own entry own) (own_item other entry own same is) spells (list ++ last) (Halted UnlockOfUnlockedMutex) spelt)
         goes no_call same is e from = absurd (wrong_within e)
+
         by : (b : Bool) → eqb other object ≡ b → cond b (by_move moves object (Entered other entry) (moves stage entry.deed) list (λ later. cut later list)) wrong ≡ within
-            → ((later : G) → cut later list ≡ within → (more : List Made) × (answer : CallAnswer O) × part later (list ++ more) answer)
-            → (more : List Made) × (answer : CallAnswer O) × part stage (Entered other entry ∷ (list ++ more)) answer
+            → ((later : G) → cut later list ≡ within → (more : List Made) × part later (list ++ more) (Halted UnlockOfUnlockedMutex))
+            → (more : List Made) × part stage (Entered other entry ∷ (list ++ more)) (Halted UnlockOfUnlockedMutex)
         by true same e from = goes (moves stage entry.deed) (eqb-true other object same) (are.told stage entry.deed) e from
         by false same e from = absurd (wrong_within e)
+
+    -- a halt may end a call that is begun
+    pub halts_on : (stage : G) (list : List Made) → cut stage list ≡ within → (later : List Made) × (misuse : Misuse) × part stage (list ++ later) (Halted misuse)
+    halts_on stage list e = by (halts_of list stage e)
+      where
+        by : (later : List Made) × part stage (list ++ later) (Halted UnlockOfUnlockedMutex) → (later : List Made) × (misuse : Misuse) × part stage (list ++ later) (Halted misuse)
+        by (later, spelt) = (later, UnlockOfUnlockedMutex, spelt)
+
+    on_of : (list : List Made) (stage : G) → cut stage list ≡ within → (later : List Made) × (answer : CallAnswer O) × part stage (list ++ later) answer
+    on_of list stage e = by (halts_of list stage e)
+      where
+        by : (later : List Made) × part stage (list ++ later) (Halted UnlockOfUnlockedMutex) → (later : List Made) × (answer : CallAnswer O) × part stage (list ++ later) answer
+        by (later, spelt) = (later, Halted UnlockOfUnlockedMutex, spelt)
 
     stays_of : (list later : List Made) (stage : G) → cut stage list ≡ wrong → cut stage (list ++ later) ≡ wrong
     stays_of [] later stage e = absurd (within_wrong e)
@@ -378,6 +415,7 @@ module _ {G O E R : Type 0} (event : E → ObjectEvent) (reply : R → ObjectRep
         goes (answers_by given) e from = absurd (whole_wrong (Entered other entry ∷ []) list given e)
         goes (goes_to next) e from = ap (behind (Entered other entry ∷ [])) (from next (behind_wrong (Entered other entry ∷ []) (cut next list) e))
         goes no_call e from = refl
+
         by : (b : Bool) → cond b (by_move moves object (Entered other entry) (moves stage entry.deed) list (λ next. cut next list)) wrong ≡ wrong
             → ((next : G) → cut next list ≡ wrong → cut next (list ++ later) ≡ wrong)
             → cond b (by_move moves object (Entered other entry) (moves stage entry.deed) (list ++ later) (λ next. cut next (list ++ later))) wrong ≡ wrong
@@ -415,6 +453,7 @@ module _ {G O E R : Type 0} (event : E → ObjectEvent) (reply : R → ObjectRep
     where
       same : Event o p ≡ lifted_deed event reply (Event e r)
       same = ap (λ (x : ObjectEvent). Event x p) (event_only o e has) ∙ ap (λ (y : ObjectReply). Event (event e) y) (reply_only p r answers)
+
       by : (b : Bool) → is_event stage e ≡ b → IsMoveOf event reply event_of meaning stage (Event o p) (cond b (move_by event_in reply_in is_event meaning (meaning stage r)) no_call)
       by true its = step_told stage (Event o p) e r (meaning stage r) same (event_told stage e its) refl
       by false its = tt
@@ -448,11 +487,11 @@ module _ {G O E R : Type 0} (event : E → ObjectEvent) (reply : R → ObjectRep
   moves_tell stage (Event e r) rest answer (its, goes) =
       let moved : event_move event_in reply_in is_event meaning stage (Some e) (Some r) ≡ move_by event_in reply_in is_event meaning (meaning stage r) = cond-true (is_event stage e) (move_by event_in reply_in is_event meaning (meaning stage r)) no_call (its_event stage e its) in
       let found : moves stage (Event (event e) (reply r)) ≡ move_by event_in reply_in is_event meaning (meaning stage r) =
-          ap (λ (o : Option E). event_move event_in reply_in is_event meaning stage o (reply_in (reply r))) (event_back e) ∙ ap (λ (o : Option R). event_move event_in reply_in is_event meaning stage (Some e) o) (reply_back r) ∙ moved in
+      ap (λ (o : Option E). event_move event_in reply_in is_event meaning stage o (reply_in (reply r))) (event_back e) ∙ ap (λ (o : Option R). event_move event_in reply_in is_event meaning stage (Some e) o) (reply_back r) ∙ moved in
       subst (λ (m : Move G O). Goes event reply event_of meaning stage (Event e r) rest answer m) (sym found) (step_goes stage (Event e r) (meaning stage r) rest answer goes)
   moves_tell stage (Refused e misuse) rest answer (its, left, is) =
       let found : moves stage (Refused (event e) misuse) ≡ answers_by (Halted misuse) =
-          ap (λ (o : Option E). refusal_move event_in reply_in is_event meaning stage o misuse) (event_back e) ∙ cond-true (is_event stage e) (answers_by (Halted misuse)) no_call (its_event stage e its) in
+      ap (λ (o : Option E). refusal_move event_in reply_in is_event meaning stage o misuse) (event_back e) ∙ cond-true (is_event stage e) (answers_by (Halted misuse)) no_call (its_event stage e its) in
       subst (λ (m : Move G O). Goes event reply event_of meaning stage (Refused e misuse) rest answer m) (sym found) (left, is)
   moves_tell stage (Halt misuse) rest answer nothing = absurd nothing
 

@@ -3,3 +3,6 @@ mod CutLemmas
 mod GroupCut
 mod LineCut
 mod MutexCut
+mod OnceCut
+mod PoolCut
+mod SharedCut

@@ -173,7 +173,7 @@ module _ (plan : Plan) (worker : ℕ) (cut : ℕ → Call → Cutter (Reply ℕ)
       let script : List Call = map (λ s. s.call) spelt ++ rest in
       let later = all_found spelt (before + length (shared_in s.items)) ending rest last e calls (subst (λ (k : ℕ). EndsBy plan worker k ending rest last) n ends) in
       let found : cut before s.call ((s.items ++ flat) ++ last) ≡ whole s.items (Done (Ok s.reply)) (flat ++ last) =
-          ap (cut before s.call) (append_assoc s.items flat last) ∙ (cuts before s.call).complete s.items (flat ++ last) (Done (Ok s.reply)) one in
+      ap (cut before s.call) (append_assoc s.items flat last) ∙ (cuts before s.call).complete s.items (flat ++ last) (Done (Ok s.reply)) one in
       ap (λ (f : Beginning (Reply ℕ)). by_call before s.call script ((s.items ++ flat) ++ last) f (λ more left. line_cut cut more script left)) found
       ∙ ap (with_spelt s) later
 

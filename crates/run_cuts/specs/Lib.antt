@@ -3,4 +3,7 @@ pub mod Cuts
 pub mod GroupCuts
 pub mod LineCuts
 pub mod MutexCuts
+pub mod OnceCuts
 pub mod OneLine
+pub mod PoolCuts
+pub mod SharedCuts

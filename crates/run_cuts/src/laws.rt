@@ -1,5 +1,12 @@
 //! That the functions cut lists as the record of a run spells them. Each law is the contract of a function that does nothing.
-ghost use Rattle.std.specs.Prelude.{ℕ};
+ghost use Rattle.std.specs.Prelude.{ℕ, ℤ, List};
+ghost use Rattle.run_record.specs.AtomicKind.{adds, atomic_call};
+ghost use Rattle.run_record.specs.MapKind.{map_call};
+ghost use Rattle.run_record.specs.OnceKind.{do_call, func_call, value_call};
+ghost use Rattle.run_record.specs.PoolKind.{pool_call};
+ghost use Rattle.run_cuts.specs.PoolCuts.{pool_cut};
+ghost use Rattle.run_cuts.specs.OnceCuts.{do_cut, func_cut, value_cut};
+ghost use Rattle.run_cuts.specs.SharedCuts.{adds_cut, atomic_cut, map_cut};
 ghost use Rattle.run_record.specs.CondKind.{cond_call};
 ghost use Rattle.run_record.specs.MutexKind.{mutex_call};
 ghost use Rattle.run_record.specs.WaitGroupKind.{wait_group_call};
@@ -12,14 +19,21 @@ ghost use Rattle.script_calls.specs.declared.call.Call.{Call};
 ghost use Rattle.script_calls.specs.declared.call.Reply.{Reply};
 ghost use Rattle.workload.specs.Plan.{Plan};
 
-use sync_types::{CondCall, MutexCall, WaitGroupCall};
+use sync_types::{AtomicCall, CondCall, MapCall, MutexCall, PoolCall, WaitGroupCall};
 
-/// The calls of a mutex, a cond and a wait group are cut from a list by a function just as they are spelt: what is found spells the
+/// The calls of a map but a range, and those of an atomic, a mutex, a cond, a wait group, a once and a pool are cut from a list by a function just as they are spelt: what is found spells the
 /// call, what spells it is found whatever stands behind, a list that ends within it goes on to one that spells it, and one that
 /// begins with none still does so however it goes on.
 pub fn calls_are_cut_as_they_are_spelt()
     ensures mutex { (object : ℕ) (call : MutexCall) → Cuts (mutex_call object call) (mutex_cut object call) }
     ensures cond { (object mutex : ℕ) (call : CondCall) → Cuts (cond_call object mutex call) (cond_cut object mutex call) }
+    ensures map { (keys : List (List ℕ)) (m : ℕ) (call : MapCall (List ℕ)) → Cuts (map_call keys m call) (map_cut keys m call) }
+    ensures atomic { (a : ℕ) (call : AtomicCall) → Cuts (atomic_call a call) (atomic_cut a call) }
+    ensures adds { (a : ℕ) (amount : ℤ) → Cuts (adds a amount) (adds_cut a amount) }
+    ensures once { (object a : ℕ) (amount : ℤ) → Cuts (do_call object a amount) (do_cut object a amount) }
+    ensures once_func { (object code : ℕ) → Cuts (func_call object code) (func_cut object code) }
+    ensures once_value { (object value : ℕ) → Cuts (value_call object value) (value_cut object value) }
+    ensures pool { (workers worker first : ℕ) (call : PoolCall) → Cuts (pool_call workers worker first call) (pool_cut workers worker first call) }
     ensures wait_group { (object : ℕ) (call : WaitGroupCall) → Cuts (wait_group_call object call) (group_cut object call) }
 {}
 

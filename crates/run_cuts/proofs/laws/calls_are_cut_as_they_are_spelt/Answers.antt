@@ -1,6 +1,9 @@
 use Rattle.run_cuts.proofs.CondCut.{cond_cuts}
 use Rattle.run_cuts.proofs.GroupCut.{group_cuts}
 use Rattle.run_cuts.proofs.MutexCut.{mutex_cuts}
+use Rattle.run_cuts.proofs.OnceCut.{do_cuts, func_cuts, value_cuts}
+use Rattle.run_cuts.proofs.PoolCut.{pool_cuts}
+use Rattle.run_cuts.proofs.SharedCut.{adds_cuts, atomic_cuts, map_cuts}
 use Rattle.run_cuts.proofs.laws.calls_are_cut_as_they_are_spelt.Goals as goal
 
 pub returns-clause-mutex : goal.returns-clause-mutex
@@ -11,3 +14,24 @@ returns-clause-cond c object mutex call = cond_cuts object mutex call
 
 pub returns-clause-wait_group : goal.returns-clause-wait_group
 returns-clause-wait_group c object call = group_cuts object call
+
+pub returns-clause-map : goal.returns-clause-map
+returns-clause-map c keys m call = map_cuts keys m call
+
+pub returns-clause-atomic : goal.returns-clause-atomic
+returns-clause-atomic c a call = atomic_cuts a call
+
+pub returns-clause-adds : goal.returns-clause-adds
+returns-clause-adds c a amount = adds_cuts a amount
+
+pub returns-clause-once : goal.returns-clause-once
+returns-clause-once c object a amount = do_cuts object a amount
+
+pub returns-clause-once_func : goal.returns-clause-once_func
+returns-clause-once_func c object code = func_cuts object code
+
+pub returns-clause-once_value : goal.returns-clause-once_value
+returns-clause-once_value c object value = value_cuts object value
+
+pub returns-clause-pool : goal.returns-clause-pool
+returns-clause-pool c workers worker first call = pool_cuts workers worker first call
