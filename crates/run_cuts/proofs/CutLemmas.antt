@@ -1,5 +1,5 @@
 -- That each way to put parts together is cut as it is spelt.
-use Rattle.std.proofs.Common.{◌≡◌, ◌∙◌, ℕ, suc, Bool, true, false, eqb, cond, List, [], ◌∷◌, ◌++◌, map, length, Option, Some, None, refl, sym, ap, subst, append_assoc, arith}
+use Rattle.std.proofs.Common.{◌≡◌, ◌∙◌, ℕ, Bool, true, false, eqb, cond, List, [], ◌∷◌, ◌++◌, map, length, Option, Some, None, refl, sym, ap, subst, append_assoc, arith}
 use Rattle.std.proofs.lemmas.List.{append-nil}
 use Rattle.std.specs.Prelude.{Ok, Err}
 use Rattle.std.proofs.lemmas.Bool.{eqb-true, eq-eqb, cond-true}
@@ -11,7 +11,7 @@ use Rattle.sync_model.specs.declared.journal.Deed.TheVariants.{Event, Refused, H
 use Rattle.sync_model.specs.declared.journal.Entry.{Entry}
 use Rattle.protocols.specs.declared.step.Step.{Step}
 use Rattle.protocols.specs.declared.step.Step.TheVariants.{Finished, Misused, Waits, Next, Never}
-use Rattle.protocols.specs.Spelling.{CallAnswer, Spells, IsFirstDeed, IsEventOf, Rest}
+use Rattle.protocols.specs.Spelling.{CallAnswer, Spells, IsEventOf, Rest}
 use Rattle.run_record.specs.declared.entered.ObjectEvent.{ObjectEvent}
 use Rattle.run_record.specs.declared.entered.ObjectReply.{ObjectReply}
 use Rattle.run_record.specs.declared.made.Made.{Made}

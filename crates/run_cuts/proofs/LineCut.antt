@@ -1,5 +1,5 @@
 -- That a list is cut into the line that it is.
-use Rattle.std.proofs.Common.{◌≡◌, ◌∙◌, ℕ, ◌+◌, Bool, true, false, ◌&&◌, cond, List, [], ◌∷◌, ◌++◌, map, length, Option, Some, None, refl, sym, ap, subst, append_assoc, arith}
+use Rattle.std.proofs.Common.{◌≡◌, ◌∙◌, ℕ, ◌+◌, Bool, true, false, cond, List, [], ◌∷◌, ◌++◌, map, length, Option, Some, None, refl, sym, ap, subst, append_assoc, arith}
 use Rattle.std.specs.Prelude.{All, Ok, Err}
 use Rattle.std.specs.List.{flat_map, list_all}
 use Rattle.std.proofs.lemmas.Bool.{and_parts, and_from, cond-true}
@@ -13,14 +13,13 @@ use Rattle.sync_model.specs.declared.answer.Answer.TheVariants.{Done, Halted}
 use Rattle.sync_model.specs.declared.item.Item.{Item}
 use Rattle.sync_model.specs.declared.journal.Deed.{Deed}
 use Rattle.sync_model.specs.declared.journal.Deed.TheVariants.{Event, Refused, Halt}
-use Rattle.protocols.specs.Spelling.{CallAnswer}
 use Rattle.run_record.specs.declared.entered.ObjectEvent.{ObjectEvent}
 use Rattle.run_record.specs.declared.entered.ObjectReply.{ObjectReply}
 use Rattle.run_record.specs.declared.made.Made.TheVariants.{Shared, Entered}
 use Rattle.run_record.specs.declared.made.Made.{Made}
 use Rattle.run_record.specs.Calls.{SpellsCall}
 use Rattle.run_record.specs.Explains.{HasEnded}
-use Rattle.run_record.specs.Lines.{Line, SpeltCall, LineEnd, whole as at_end, misused, halted, unfinished, script_of, items_of, IsHalt, AreSpelt, EndsBy, IsLineOf}
+use Rattle.run_record.specs.Lines.{Line, SpeltCall, LineEnd, whole as at_end, misused, halted, unfinished, script_of, items_of, IsHalt, AreSpelt, EndsBy}
 use Rattle.run_record.specs.Record.{shared_in}
 use Rattle.workload.specs.Plan.{Plan}
 use Rattle.run_cuts.specs.Cuts.{Beginning, whole, within, wrong, Cutter, Cuts}

@@ -1,5 +1,5 @@
 -- That a mutex's calls are cut as they are spelt.
-use Rattle.std.proofs.Common.{◌≡◌, ℕ, Bool, true, Some, refl, ap}
+use Rattle.std.proofs.Common.{◌≡◌, ℕ, true, Some, refl, ap}
 use Rattle.mutex_core.specs.declared.event.MutexEvent.{MutexEvent}
 use Rattle.mutex_core.specs.declared.event.MutexEvent.TheVariants.{Arrive, Try, Unlock, Woken}
 use Rattle.mutex_core.specs.declared.reply.MutexReply.{MutexReply}

@@ -17,12 +17,12 @@ use Rattle.protocols.specs.declared.once.OnceStage.TheVariants as stage
 use Rattle.protocols.specs.OnceStages.{once_event, once_meaning}
 use Rattle.run_record.specs.AtomicKind.{adds}
 use Rattle.run_record.specs.OnceKind.{goes_on_once, once_part, do_call, failure, func_call, value_call}
-use Rattle.run_record.specs.Parts.{Part, and_then, read_as, returns, stages}
+use Rattle.run_record.specs.Parts.{Part, read_as, returns, stages}
 use Rattle.run_record.specs.declared.entered.ObjectEvent.{ObjectEvent}
 use Rattle.run_record.specs.declared.entered.ObjectEvent.TheVariants as event
 use Rattle.run_record.specs.declared.entered.ObjectReply.{ObjectReply}
 use Rattle.run_record.specs.declared.entered.ObjectReply.TheVariants as reply
-use Rattle.run_cuts.specs.Cuts.{Cutter, Cuts, move, read_cut, returns_cut, stages_cut, then_cut}
+use Rattle.run_cuts.specs.Cuts.{Cutter, Cuts, move, read_cut, returns_cut, stages_cut}
 use Rattle.run_cuts.specs.OnceCuts.{do_event_in, do_reply_in, func_event_in, func_reply_in, value_event_in, value_reply_in, is_once_event, goes_on_cut, once_cut, do_cut, func_cut, value_cut}
 use Rattle.run_cuts.specs.SharedCuts.{adds_cut}
 use Rattle.run_cuts.proofs.CutLemmas.{halt_continues, halts_on, moves_are, never_cuts, read_cuts, returns_cuts, stages_cuts, then_cuts, then_cuts_by}

@@ -1,12 +1,11 @@
 -- That calls on maps and atomics are cut as they are spelt.
 use Rattle.std.proofs.Common.{◌≡◌, ◌∙◌, ℕ, suc, ℤ, pos, Bool, true, false, eqb, ◌&&◌, cond, List, [], ◌∷◌, ◌++◌, map, length, get_or, Option, Some, None, refl, sym, ap, subst, arith}
-use Rattle.std.specs.Prelude.{Ok, Err}
-use Rattle.std.specs.Ordering.{int_eq}
+use Rattle.std.specs.Prelude.{Ok}
 use Rattle.std.proofs.lemmas.Bool.{and_parts, and_from, eqb-true, eq-eqb, cond-true}
 use Rattle.std.proofs.lemmas.Bool.Decides.{Decides-int_eq}
 use Rattle.script_calls.specs.declared.call.Reply.{Reply}
 use Rattle.script_calls.specs.declared.call.Reply.TheVariants as replies
-use Rattle.sync_model.specs.declared.answer.Answer.TheVariants.{Done, Halted}
+use Rattle.sync_model.specs.declared.answer.Answer.TheVariants.{Done}
 use Rattle.sync_model.specs.declared.item.Item.{Item}
 use Rattle.sync_model.specs.declared.item.SharedCall.{SharedCall}
 use Rattle.sync_model.specs.declared.item.SharedCall.TheVariants as shared
@@ -31,7 +30,7 @@ use Rattle.run_record.specs.MapKind.{map_call}
 use Rattle.run_record.specs.Parts.{Part, Places}
 use Rattle.run_record.specs.declared.made.Made.{Made}
 use Rattle.run_record.specs.declared.made.Made.TheVariants.{Shared, Entered}
-use Rattle.run_cuts.specs.Cuts.{Beginning, whole, within, wrong, Cutter, Cuts, by_reply, place_cut}
+use Rattle.run_cuts.specs.Cuts.{whole, within, wrong, Cutter, Cuts, by_reply, place_cut}
 use Rattle.run_cuts.specs.SharedCuts.{same_map_call, same_atomic_call, is_map_call, is_atomic_call, map_read, atomic_read, sum_read, map_cut, atomic_cut, adds_cut}
 use Rattle.run_cuts.proofs.CutLemmas.{same_whole, within_whole, wrong_whole, whole_within, whole_wrong, within_wrong, wrong_within}
 

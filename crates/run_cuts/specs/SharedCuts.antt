@@ -1,6 +1,5 @@
 -- How a call on a map or an atomic is cut from a list: it is one placed call.
 use Rattle.std.specs.Prelude.{ℕ, ℤ, Bool, true, false, ◌&&◌, ◌==◌, List, Option, Some, None}
-use Rattle.std.specs.Ordering.{int_eq}
 use Rattle.script_calls.specs.declared.call.Reply.{Reply}
 use Rattle.script_calls.specs.declared.call.Reply.TheVariants as replies
 use Rattle.sync_model.specs.declared.item.SharedCall.{SharedCall}
@@ -11,12 +10,10 @@ use Rattle.sync_types.specs.Renaming.{renamed_call}
 use Rattle.sync_types.specs.SequentialAtomic.{is_same}
 use Rattle.sync_types.specs.declared.atomic_object.AtomicCall.{AtomicCall}
 use Rattle.sync_types.specs.declared.atomic_object.AtomicCall.TheVariants as atomic_calls
-use Rattle.sync_types.specs.declared.atomic_object.AtomicReply.{AtomicReply}
 use Rattle.sync_types.specs.declared.atomic_object.AtomicReply.TheVariants as atomic_replies
 use Rattle.sync_types.specs.declared.atomic_object.Number.TheVariants as numbers
 use Rattle.sync_types.specs.declared.map_object.MapCall.{MapCall}
 use Rattle.sync_types.specs.declared.map_object.MapCall.TheVariants as map_calls
-use Rattle.sync_types.specs.declared.map_object.MapReply.{MapReply}
 use Rattle.workload.specs.Keys.{key_number}
 use Rattle.run_cuts.specs.Cuts.{Cutter, place_cut}
 
