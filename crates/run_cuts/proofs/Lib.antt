@@ -1,3 +1,4 @@
+mod CallCut
 mod CondCut
 mod CutLemmas
 mod GroupCut

@@ -1,3 +1,4 @@
+pub mod CallCuts
 pub mod CondCuts
 pub mod Cuts
 pub mod GroupCuts

@@ -1,5 +1,7 @@
 //! That the functions cut lists as the record of a run spells them. Each law is the contract of a function that does nothing.
-ghost use Rattle.std.specs.Prelude.{ℕ, ℤ, List};
+ghost use Rattle.std.specs.Prelude.{◌≡◌, ℕ, ℤ, true, List};
+ghost use Rattle.run_record.specs.Calls.{SpellsCall};
+ghost use Rattle.run_cuts.specs.CallCuts.{call_cut, is_told};
 ghost use Rattle.run_record.specs.AtomicKind.{adds, atomic_call};
 ghost use Rattle.run_record.specs.MapKind.{map_call};
 ghost use Rattle.run_record.specs.OnceKind.{do_call, func_call, value_call};
@@ -41,4 +43,9 @@ pub fn calls_are_cut_as_they_are_spelt()
 /// line of them that has ended is what they are cut into. An unfinished line isn't, where its last call is spelt whole.
 pub fn a_list_is_cut_into_one_line()
     ensures { (plan : Plan) (worker : ℕ) (cut : ℕ → Call → Cutter (Reply ℕ)) → CutsCalls plan worker cut → CutsLines plan worker cut }
+{}
+
+/// A call of a workload is cut from a list by a function just as it is spelt, but for a range and a call of a reader/writer mutex.
+pub fn a_call_is_cut_as_it_is_spelt()
+    ensures { (plan : Plan) (worker before : ℕ) (call : Call) → is_told call.operation ≡ true → Cuts (SpellsCall plan worker before call) (call_cut plan worker call) }
 {}

@@ -1,0 +1,46 @@
+-- How a call of a workload is cut from a list. A kind of object is a line here.
+use Rattle.std.specs.Prelude.{ℕ, Bool, true, false, Option, Some, None, slice_get}
+use Rattle.script_calls.specs.declared.call.Call.{Call}
+use Rattle.script_calls.specs.declared.call.Operation.{Operation}
+use Rattle.script_calls.specs.declared.call.Operation.TheVariants as operations
+use Rattle.script_calls.specs.declared.call.Reply.{Reply}
+use Rattle.workload.specs.Keys.{keys_in}
+use Rattle.workload.specs.Plan.{Plan}
+use Rattle.workload.specs.declared.object.ObjectKind.{ObjectKind}
+use Rattle.workload.specs.declared.object.ObjectKind.TheVariants as kinds
+use Rattle.workload.specs.declared.object.ObjectLine.{ObjectLine}
+use Rattle.run_record.specs.Objects.{map_number, atomic_number, first_part}
+use Rattle.run_record.specs.Record.{object_number}
+use Rattle.run_cuts.specs.CondCuts.{cond_cut}
+use Rattle.run_cuts.specs.Cuts.{Cutter, never_cut}
+use Rattle.run_cuts.specs.GroupCuts.{group_cut}
+use Rattle.run_cuts.specs.MutexCuts.{mutex_cut}
+use Rattle.run_cuts.specs.OnceCuts.{do_cut, func_cut, value_cut}
+use Rattle.run_cuts.specs.PoolCuts.{pool_cut}
+use Rattle.run_cuts.specs.SharedCuts.{atomic_cut, map_cut}
+
+-- whether the function tells how such a call is cut
+abbrev pub is_told : Operation → Bool
+is_told operations.Range = false
+is_told (operations.RwMutex call) = false
+is_told operation = true
+
+abbrev pub on_cut : Plan → (worker place : ℕ) → ObjectKind → Operation → Cutter (Reply ℕ)
+on_cut plan worker place kinds.Map (operations.Map call) = map_cut (keys_in plan.scripts) (map_number plan.objects place) call
+on_cut plan worker place (kinds.Atomic type) (operations.Atomic call) = atomic_cut (atomic_number plan.objects place) call
+on_cut plan worker place kinds.Mutex (operations.Mutex call) = mutex_cut (object_number place) call
+on_cut plan worker place (kinds.Cond mutex) (operations.Cond call) = cond_cut (object_number place) (object_number mutex) call
+on_cut plan worker place (kinds.WaitGroup start) (operations.WaitGroup call) = group_cut (object_number place) call
+on_cut plan worker place (kinds.Once atomic delta) operations.Once = do_cut (object_number place) (atomic_number plan.objects atomic) delta
+on_cut plan worker place (kinds.OnceFunc code) operations.OnceFunc = func_cut (object_number place) code
+on_cut plan worker place (kinds.OnceValue value) operations.OnceValue = value_cut (object_number place) value
+on_cut plan worker place kinds.Pool (operations.Pool call) = pool_cut plan.workers worker (first_part plan place) call
+on_cut plan worker place kind operation = never_cut
+
+abbrev pub at_cut : Plan → (worker place : ℕ) → Option ObjectLine → Operation → Cutter (Reply ℕ)
+at_cut plan worker place None operation = never_cut
+at_cut plan worker place (Some object) operation = on_cut plan worker place object.kind operation
+
+-- how a call of a worker is cut from a list
+abbrev pub call_cut : Plan → ℕ → Call → Cutter (Reply ℕ)
+call_cut plan worker call = at_cut plan worker call.object (slice_get plan.objects call.object) call.operation
