@@ -79,7 +79,7 @@ all_tells : (misuse : Misuse) (list : List Made) → All (IsHalt misuse) list �
 all_tells misuse [] h = refl
 all_tells misuse (m ∷ list) h = and_from (is_halt misuse m) (list_all (is_halt misuse) list) (is_halt_tells misuse m (All-head (IsHalt misuse) m list h)) (all_tells misuse list (All-tail (IsHalt misuse) m list h))
 
-module _ (plan : Plan) (worker : ℕ) (cut : ℕ → Call → Cutter (Reply ℕ)) (cuts : (before : ℕ) (call : Call) → Cuts (SpellsCall plan worker before call) (cut before call)) where
+module _ (plan : Plan) (worker : ℕ) (told : Call → Bool) (cut : ℕ → Call → Cutter (Reply ℕ)) (cuts : (before : ℕ) (call : Call) → told call ≡ true → Cuts (SpellsCall plan worker before call) (cut before call)) where
   -- how many calls on maps and atomics a line's completed calls make, behind so many
   abbrev made_by : ℕ → List SpeltCall → ℕ
   made_by before spelt = before + length (shared_in (flat_map (λ s. s.items) spelt))
@@ -110,29 +110,32 @@ module _ (plan : Plan) (worker : ℕ) (cut : ℕ → Call → Cutter (Reply ℕ)
         ends = subst (λ (k : ℕ). EndsBy plan worker k line.ending line.rest line.last) n is.ends;
       }
 
-  pub line_sound : (script : List Call) (before : ℕ) (list : List Made) (line : Line) → line_cut cut before script list ≡ Some line → IsLineFrom before script list line
-  line_sound [] before [] line e = first_call before [] [] at_end line e (refl, refl)
-  line_sound [] before (m ∷ list) line e = absurd (none_some e)
-  line_sound (call ∷ script) before list line e = by (cut before call list) refl e (λ n l x f. line_sound script n l x f)
+  pub line_sound : (script : List Call) → list_all told script ≡ true → (before : ℕ) (list : List Made) (line : Line) → line_cut cut before script list ≡ Some line → IsLineFrom before script list line
+  line_sound [] h before [] line e = first_call before [] [] at_end line e (refl, refl)
+  line_sound [] h before (m ∷ list) line e = absurd (none_some e)
+  line_sound (call ∷ script) h before list line e = by (cut before call list) refl e (λ n l x f. line_sound script (and_parts (told call) (list_all told script) h).1 n l x f)
     where
+      here : told call ≡ true
+      here = (and_parts (told call) (list_all told script) h).0
+
       with_one : (items rest : List Made) (reply : Reply ℕ) → cut before call list ≡ whole items (Done (Ok reply)) rest → (found : Option Line) → (let s : SpeltCall = record { call = call; items = items; reply = reply } in with_spelt s found ≡ Some line)
           → ((l : Line) → found ≡ Some l → IsLineFrom (before + length (shared_in items)) script rest l) → IsLineFrom before (call ∷ script) list line
       with_one items rest reply is None e on = absurd (none_some e)
       with_one items rest reply is (Some l) e on =
-          let one = (cuts before call).sound list items rest (Done (Ok reply)) is in
+          let one = (cuts before call here).sound list items rest (Done (Ok reply)) is in
           subst (λ (x : List Made). IsLineFrom before (call ∷ script) x line) (sym one.0)
           (subst (λ (x : Line). IsLineFrom before (call ∷ script) (items ++ rest) x) (some_line e) (one_call before call script items rest reply l one.1 (on l refl)))
 
       misuse_ends : (items rest : List Made) (misuse : Misuse) → cut before call list ≡ whole items (Done (Err misuse)) rest → (b : Bool) → list_all (is_halt misuse) rest ≡ b → cond b (Some (ends_in_call (call ∷ script) (items ++ rest) (misused misuse))) None ≡ Some line → IsLineFrom before (call ∷ script) list line
       misuse_ends items rest misuse is true halts e =
-          let one = (cuts before call).sound list items rest (Done (Err misuse)) is in
+          let one = (cuts before call here).sound list items rest (Done (Err misuse)) is in
           subst (λ (x : List Made). IsLineFrom before (call ∷ script) x line) (sym one.0)
           (first_call before (call ∷ script) (items ++ rest) (misused misuse) line e (items, rest, refl, one.1, all_told misuse rest halts))
       misuse_ends items rest misuse is false halts e = absurd (none_some e)
 
       halt_ends : (items rest : List Made) (misuse : Misuse) → cut before call list ≡ whole items (Halted misuse) rest → if_none_is_left rest (ends_in_call (call ∷ script) items (halted misuse)) ≡ Some line → IsLineFrom before (call ∷ script) list line
       halt_ends items [] misuse is e =
-          let one = (cuts before call).sound list items [] (Halted misuse) is in
+          let one = (cuts before call here).sound list items [] (Halted misuse) is in
           subst (λ (x : List Made). IsLineFrom before (call ∷ script) x line) (sym (one.0 ∙ append-nil items)) (first_call before (call ∷ script) items (halted misuse) line e one.1)
       halt_ends items (m ∷ rest) misuse is e = absurd (none_some e)
 
@@ -141,53 +144,53 @@ module _ (plan : Plan) (worker : ℕ) (cut : ℕ → Call → Cutter (Reply ℕ)
       by (whole items (Done (Ok reply)) rest) is e on = with_one items rest reply is (line_cut cut (before + length (shared_in items)) script rest) e (λ l f. on (before + length (shared_in items)) rest l f)
       by (whole items (Done (Err misuse)) rest) is e on = misuse_ends items rest misuse is (list_all (is_halt misuse) rest) refl e
       by (whole items (Halted misuse) rest) is e on = halt_ends items rest misuse is e
-      by within is e on = first_call before (call ∷ script) list unfinished line e ((cuts before call).goes_on list is)
+      by within is e on = first_call before (call ∷ script) list unfinished line e ((cuts before call here).goes_on list is)
       by wrong is e on = absurd (none_some e)
 
   -- the last call of a line is found as it ends, unless it is unfinished
-  ended : (before : ℕ) (ending : LineEnd) (rest : List Call) (last : List Made) → HasEnded ending → EndsBy plan worker before ending rest last → line_cut cut before rest last ≡ Some (ends_in_call rest last ending)
-  ended before at_end rest last e (none, also) =
+  ended : (before : ℕ) (ending : LineEnd) (rest : List Call) (last : List Made) → list_all told rest ≡ true → HasEnded ending → EndsBy plan worker before ending rest last → line_cut cut before rest last ≡ Some (ends_in_call rest last ending)
+  ended before at_end rest last h e (none, also) =
       ap (λ (c : List Call). line_cut cut before c last) none ∙ ap (λ (l : List Made). if_none_is_left l (ends_in_call [] [] at_end)) also
       ∙ ap (λ (c : List Call). Some (ends_in_call c [] at_end)) (sym none) ∙ ap (λ (l : List Made). Some (ends_in_call rest l at_end)) (sym also)
-  ended before (misused misuse) [] last e nothing = absurd nothing
-  ended before (misused misuse) (call ∷ rest) last e (items, halts, are, spelt, all) =
-      let found : cut before call last ≡ whole items (Done (Err misuse)) halts = ap (cut before call) are ∙ (cuts before call).complete items halts (Done (Err misuse)) spelt in
+  ended before (misused misuse) [] last h e nothing = absurd nothing
+  ended before (misused misuse) (call ∷ rest) last h e (items, halts, are, spelt, all) =
+      let found : cut before call last ≡ whole items (Done (Err misuse)) halts = ap (cut before call) are ∙ (cuts before call (and_parts (told call) (list_all told rest) h).0).complete items halts (Done (Err misuse)) spelt in
       ap (λ (f : Beginning (Reply ℕ)). by_call before call rest last f (λ later left. line_cut cut later rest left)) found
       ∙ cond-true (list_all (is_halt misuse) halts) (Some (ends_in_call (call ∷ rest) (items ++ halts) (misused misuse))) None (all_tells misuse halts all)
       ∙ ap (λ (l : List Made). Some (ends_in_call (call ∷ rest) l (misused misuse))) (sym are)
-  ended before (halted misuse) [] last e nothing = absurd nothing
-  ended before (halted misuse) (call ∷ rest) last e spelt =
-      let found : cut before call last ≡ whole last (Halted misuse) [] = ap (cut before call) (sym (append-nil last)) ∙ (cuts before call).complete last [] (Halted misuse) spelt in
+  ended before (halted misuse) [] last h e nothing = absurd nothing
+  ended before (halted misuse) (call ∷ rest) last h e spelt =
+      let found : cut before call last ≡ whole last (Halted misuse) [] = ap (cut before call) (sym (append-nil last)) ∙ (cuts before call (and_parts (told call) (list_all told rest) h).0).complete last [] (Halted misuse) spelt in
       ap (λ (f : Beginning (Reply ℕ)). by_call before call rest last f (λ later left. line_cut cut later rest left)) found
-  ended before unfinished rest last e ends = absurd e
+  ended before unfinished rest last h e ends = absurd e
 
-  all_found : (spelt : List SpeltCall) (before : ℕ) (ending : LineEnd) (rest : List Call) (last : List Made) → HasEnded ending → AreSpelt plan worker before spelt → EndsBy plan worker (made_by before spelt) ending rest last
+  all_found : (spelt : List SpeltCall) (before : ℕ) (ending : LineEnd) (rest : List Call) (last : List Made) → list_all told (map (λ s. s.call) spelt ++ rest) ≡ true → HasEnded ending → AreSpelt plan worker before spelt → EndsBy plan worker (made_by before spelt) ending rest last
       → (let line : Line = record { spelt = spelt; last = last; rest = rest; ending = ending } in line_cut cut before (script_of line) (items_of line) ≡ Some line)
-  all_found [] before ending rest last e calls ends =
+  all_found [] before ending rest last h e calls ends =
       let n : before + 0 ≡ before = omega arith in
-      ended before ending rest last e (subst (λ (k : ℕ). EndsBy plan worker k ending rest last) n ends)
-  all_found (s ∷ spelt) before ending rest last e (one, calls) ends =
+      ended before ending rest last h e (subst (λ (k : ℕ). EndsBy plan worker k ending rest last) n ends)
+  all_found (s ∷ spelt) before ending rest last h e (one, calls) ends =
       let flat : List Made = flat_map (λ s. s.items) spelt in
       let n : before + length (shared_in (s.items ++ flat)) ≡ made_by (before + length (shared_in s.items)) spelt = omega (arith, shared_more s.items flat) in
       let script : List Call = map (λ s. s.call) spelt ++ rest in
-      let later = all_found spelt (before + length (shared_in s.items)) ending rest last e calls (subst (λ (k : ℕ). EndsBy plan worker k ending rest last) n ends) in
+      let later = all_found spelt (before + length (shared_in s.items)) ending rest last (and_parts (told s.call) (list_all told script) h).1 e calls (subst (λ (k : ℕ). EndsBy plan worker k ending rest last) n ends) in
       let found : cut before s.call ((s.items ++ flat) ++ last) ≡ whole s.items (Done (Ok s.reply)) (flat ++ last) =
-      ap (cut before s.call) (append_assoc s.items flat last) ∙ (cuts before s.call).complete s.items (flat ++ last) (Done (Ok s.reply)) one in
+      ap (cut before s.call) (append_assoc s.items flat last) ∙ (cuts before s.call (and_parts (told s.call) (list_all told script) h).0).complete s.items (flat ++ last) (Done (Ok s.reply)) one in
       ap (λ (f : Beginning (Reply ℕ)). by_call before s.call script ((s.items ++ flat) ++ last) f (λ more left. line_cut cut more script left)) found
       ∙ ap (with_spelt s) later
 
   -- a line that has ended is the one that its list and script are cut into
-  pub line_complete : (line : Line) → HasEnded line.ending → AreSpelt plan worker 0 line.spelt → EndsBy plan worker (length (shared_in (flat_map (λ s. s.items) line.spelt))) line.ending line.rest line.last
+  pub line_complete : (line : Line) → list_all told (script_of line) ≡ true → HasEnded line.ending → AreSpelt plan worker 0 line.spelt → EndsBy plan worker (length (shared_in (flat_map (λ s. s.items) line.spelt))) line.ending line.rest line.last
       → line_cut cut 0 (script_of line) (items_of line) ≡ Some line
-  line_complete line e calls ends =
+  line_complete line h e calls ends =
       let n : length (shared_in (flat_map (λ s. s.items) line.spelt)) ≡ made_by 0 line.spelt = omega arith in
-      all_found line.spelt 0 line.ending line.rest line.last e calls (subst (λ (k : ℕ). EndsBy plan worker k line.ending line.rest line.last) n ends)
+      all_found line.spelt 0 line.ending line.rest line.last h e calls (subst (λ (k : ℕ). EndsBy plan worker k line.ending line.rest line.last) n ends)
 
-  pub lines_cut : CutsLines plan worker cut
+  pub lines_cut : CutsLines plan worker told cut
   lines_cut = record {
-    is_line = λ script list line e.
-        let is = line_sound script 0 list line e in
+    is_line = λ script list line h e.
+        let is = line_sound script h 0 list line e in
         let n : made_by 0 line.spelt ≡ length (shared_in (flat_map (λ s. s.items) line.spelt)) = omega arith in
         (is.script_is, is.list_is, record { calls = is.calls; ends = subst (λ (k : ℕ). EndsBy plan worker k line.ending line.rest line.last) n is.ends });
-    is_cut = λ line e is. line_complete line e is.calls is.ends;
+    is_cut = λ line h e is. line_complete line h e is.calls is.ends;
   }

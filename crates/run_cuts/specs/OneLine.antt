@@ -1,5 +1,6 @@
 -- That a worker's list is cut into one line.
-use Rattle.std.specs.Prelude.{◌≡◌, ℕ, List, Some}
+use Rattle.std.specs.Prelude.{◌≡◌, ℕ, Bool, true, List, Some}
+use Rattle.std.specs.List.{list_all}
 use Rattle.script_calls.specs.declared.call.Call.{Call}
 use Rattle.script_calls.specs.declared.call.Reply.{Reply}
 use Rattle.workload.specs.Plan.{Plan}
@@ -10,11 +11,11 @@ use Rattle.run_record.specs.declared.made.Made.{Made}
 use Rattle.run_cuts.specs.Cuts.{Cutter, Cuts}
 use Rattle.run_cuts.specs.LineCuts.{line_cut}
 
--- each call is cut from a list just as it is spelt
-abbrev pub CutsCalls : Plan → ℕ → (ℕ → Call → Cutter (Reply ℕ)) → Type 0
-CutsCalls plan worker cut = (before : ℕ) (call : Call) → Cuts (SpellsCall plan worker before call) (cut before call)
+-- each call that passes the test is cut from a list just as it is spelt
+abbrev pub CutsCalls : Plan → ℕ → (Call → Bool) → (ℕ → Call → Cutter (Reply ℕ)) → Type 0
+CutsCalls plan worker told cut = (before : ℕ) (call : Call) → told call ≡ true → Cuts (SpellsCall plan worker before call) (cut before call)
 
--- What a list and a script are cut into is a line of them. A line of them that has ended is what they are cut into.
-pub record CutsLines (plan : Plan) (worker : ℕ) (cut : ℕ → Call → Cutter (Reply ℕ)) : Type 0 where
-  pub is_line : (script : List Call) (list : List Made) (line : Line) → line_cut cut 0 script list ≡ Some line → (script_of line ≡ script) × (items_of line ≡ list) × IsLineOf plan worker line
-  pub is_cut : (line : Line) → HasEnded line.ending → IsLineOf plan worker line → line_cut cut 0 (script_of line) (items_of line) ≡ Some line
+-- What a list and a script are cut into is a line of them. A line of them that has ended is what they are cut into. Each call of the script passes the test.
+pub record CutsLines (plan : Plan) (worker : ℕ) (told : Call → Bool) (cut : ℕ → Call → Cutter (Reply ℕ)) : Type 0 where
+  pub is_line : (script : List Call) (list : List Made) (line : Line) → list_all told script ≡ true → line_cut cut 0 script list ≡ Some line → (script_of line ≡ script) × (items_of line ≡ list) × IsLineOf plan worker line
+  pub is_cut : (line : Line) → list_all told (script_of line) ≡ true → HasEnded line.ending → IsLineOf plan worker line → line_cut cut 0 (script_of line) (items_of line) ≡ Some line

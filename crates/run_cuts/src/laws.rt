@@ -1,5 +1,5 @@
 //! That the functions cut lists as the record of a run spells them. Each law is the contract of a function that does nothing.
-ghost use Rattle.std.specs.Prelude.{◌≡◌, ℕ, ℤ, true, List};
+ghost use Rattle.std.specs.Prelude.{◌≡◌, ℕ, ℤ, Bool, true, List};
 ghost use Rattle.run_record.specs.Calls.{SpellsCall};
 ghost use Rattle.run_cuts.specs.CallCuts.{call_cut, is_told};
 ghost use Rattle.run_record.specs.AtomicKind.{adds, atomic_call};
@@ -39,10 +39,12 @@ pub fn calls_are_cut_as_they_are_spelt()
     ensures wait_group { (object : ℕ) (call : WaitGroupCall) → Cuts (wait_group_call object call) (group_cut object call) }
 {}
 
-/// Where each call is cut as it is spelt, a list and a script are cut into one line. What they are cut into is a line of them, and a
-/// line of them that has ended is what they are cut into. An unfinished line isn't, where its last call is spelt whole.
+/// Where each call of a script is cut as it is spelt, a list and the script are cut into one line. What they are cut into is a line
+/// of them, and a line of them that has ended is what they are cut into. So it is of a worker's list, where its script has no range
+/// and no call of a reader/writer mutex. An unfinished line isn't among these, where its last call is spelt whole.
 pub fn a_list_is_cut_into_one_line()
-    ensures { (plan : Plan) (worker : ℕ) (cut : ℕ → Call → Cutter (Reply ℕ)) → CutsCalls plan worker cut → CutsLines plan worker cut }
+    ensures by { (plan : Plan) (worker : ℕ) (told : Call → Bool) (cut : ℕ → Call → Cutter (Reply ℕ)) → CutsCalls plan worker told cut → CutsLines plan worker told cut }
+    ensures lines { (plan : Plan) (worker : ℕ) → CutsLines plan worker (λ call. is_told call.operation) (λ before call. call_cut plan worker call) }
 {}
 
 /// A call of a workload is cut from a list by a function just as it is spelt, but for a range and a call of a reader/writer mutex.
