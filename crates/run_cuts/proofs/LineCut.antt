@@ -19,7 +19,7 @@ use Rattle.run_record.specs.declared.made.Made.TheVariants.{Shared, Entered}
 use Rattle.run_record.specs.declared.made.Made.{Made}
 use Rattle.run_record.specs.Calls.{SpellsCall}
 use Rattle.run_record.specs.Explains.{HasEnded}
-use Rattle.run_record.specs.Lines.{Line, SpeltCall, LineEnd, whole as at_end, misused, halted, unfinished, script_of, items_of, IsHalt, AreSpelt, EndsBy}
+use Rattle.run_record.specs.Lines.{Line, SpeltCall, LineEnd, whole as at_end, misused, halted, unfinished, script_of, items_of, IsHalt, AreHalts, AreSpelt, EndsBy}
 use Rattle.run_record.specs.Record.{shared_in}
 use Rattle.workload.specs.Plan.{Plan}
 use Rattle.run_cuts.specs.Cuts.{Beginning, whole, within, wrong, Cutter, Cuts}
@@ -90,28 +90,35 @@ module _ (plan : Plan) (worker : ℕ) (told : Call → Bool) (cut : ℕ → Call
     pub list_is : items_of line ≡ list
     pub calls : AreSpelt plan worker before line.spelt
     pub ends : EndsBy plan worker (made_by before line.spelt) line.ending line.rest line.last
+    pub halts : AreHalts line.ending line.halts
 
   -- a line that ends in its first call
-  first_call : (before : ℕ) (script : List Call) (last : List Made) (ending : LineEnd) (line : Line) → Some (ends_in_call script last ending) ≡ Some line → EndsBy plan worker before ending script last → IsLineFrom before script last line
-  first_call before script last ending line e ends =
+  first_call : (before : ℕ) (script : List Call) (last halts : List Made) (ending : LineEnd) (line : Line) → Some (ends_in_call script last halts ending) ≡ Some line → EndsBy plan worker before ending script last → AreHalts ending halts
+      → IsLineFrom before script (last ++ halts) line
+  first_call before script last halts ending line e ends are =
       let n : before ≡ before + 0 = omega arith in
-      let own : IsLineFrom before script last (ends_in_call script last ending) = record { script_is = refl; list_is = refl; calls = tt; ends = subst (λ (k : ℕ). EndsBy plan worker k ending script last) n ends } in
-      subst (λ (l : Line). IsLineFrom before script last l) (some_line e) own
+      let own : IsLineFrom before script (last ++ halts) (ends_in_call script last halts ending) = record { script_is = refl; list_is = refl; calls = tt; ends = subst (λ (k : ℕ). EndsBy plan worker k ending script last) n ends; halts = are } in
+      subst (λ (l : Line). IsLineFrom before script (last ++ halts) l) (some_line e) own
+
+  -- the same, where no halt is behind it
+  last_call : (before : ℕ) (script : List Call) (last : List Made) (ending : LineEnd) (line : Line) → Some (ends_in_call script last [] ending) ≡ Some line → EndsBy plan worker before ending script last → AreHalts ending [] → IsLineFrom before script last line
+  last_call before script last ending line e ends none = subst (λ (l : List Made). IsLineFrom before script l line) (append-nil last) (first_call before script last [] ending line e ends none)
 
   -- one completed call more
   one_call : (before : ℕ) (call : Call) (script : List Call) (items rest : List Made) (reply : Reply ℕ) (line : Line) → SpellsCall plan worker before call items (Done (Ok reply)) → IsLineFrom (before + length (shared_in items)) script rest line
-      → (let s : SpeltCall = record { call = call; items = items; reply = reply } in IsLineFrom before (call ∷ script) (items ++ rest) (record { spelt = s ∷ line.spelt; last = line.last; rest = line.rest; ending = line.ending }))
+      → (let s : SpeltCall = record { call = call; items = items; reply = reply } in IsLineFrom before (call ∷ script) (items ++ rest) (record { spelt = s ∷ line.spelt; last = line.last; halts = line.halts; rest = line.rest; ending = line.ending }))
   one_call before call script items rest reply line spelt is =
       let flat : List Made = flat_map (λ s. s.items) line.spelt in
       let n : made_by (before + length (shared_in items)) line.spelt ≡ before + length (shared_in (items ++ flat)) = omega (arith, shared_more items flat) in record {
         script_is = ap (λ (l : List Call). call ∷ l) is.script_is;
-        list_is = append_assoc items flat line.last ∙ ap (λ (l : List Made). items ++ l) is.list_is;
+        list_is = append_assoc items flat (line.last ++ line.halts) ∙ ap (λ (l : List Made). items ++ l) is.list_is;
         calls = (spelt, is.calls);
         ends = subst (λ (k : ℕ). EndsBy plan worker k line.ending line.rest line.last) n is.ends;
+        halts = is.halts;
       }
 
   pub line_sound : (script : List Call) → list_all told script ≡ true → (before : ℕ) (list : List Made) (line : Line) → line_cut cut before script list ≡ Some line → IsLineFrom before script list line
-  line_sound [] h before [] line e = first_call before [] [] at_end line e (refl, refl)
+  line_sound [] h before [] line e = last_call before [] [] at_end line e (refl, refl) refl
   line_sound [] h before (m ∷ list) line e = absurd (none_some e)
   line_sound (call ∷ script) h before list line e = by (cut before call list) refl e (λ n l x f. line_sound script (and_parts (told call) (list_all told script) h).1 n l x f)
     where
@@ -126,17 +133,17 @@ module _ (plan : Plan) (worker : ℕ) (told : Call → Bool) (cut : ℕ → Call
           subst (λ (x : List Made). IsLineFrom before (call ∷ script) x line) (sym one.0)
           (subst (λ (x : Line). IsLineFrom before (call ∷ script) (items ++ rest) x) (some_line e) (one_call before call script items rest reply l one.1 (on l refl)))
 
-      misuse_ends : (items rest : List Made) (misuse : Misuse) → cut before call list ≡ whole items (Done (Err misuse)) rest → (b : Bool) → list_all (is_halt misuse) rest ≡ b → cond b (Some (ends_in_call (call ∷ script) (items ++ rest) (misused misuse))) None ≡ Some line → IsLineFrom before (call ∷ script) list line
+      misuse_ends : (items rest : List Made) (misuse : Misuse) → cut before call list ≡ whole items (Done (Err misuse)) rest → (b : Bool) → list_all (is_halt misuse) rest ≡ b → cond b (Some (ends_in_call (call ∷ script) items rest (misused misuse))) None ≡ Some line → IsLineFrom before (call ∷ script) list line
       misuse_ends items rest misuse is true halts e =
           let one = (cuts before call here).sound list items rest (Done (Err misuse)) is in
           subst (λ (x : List Made). IsLineFrom before (call ∷ script) x line) (sym one.0)
-          (first_call before (call ∷ script) (items ++ rest) (misused misuse) line e (items, rest, refl, one.1, all_told misuse rest halts))
+          (first_call before (call ∷ script) items rest (misused misuse) line e one.1 (all_told misuse rest halts))
       misuse_ends items rest misuse is false halts e = absurd (none_some e)
 
-      halt_ends : (items rest : List Made) (misuse : Misuse) → cut before call list ≡ whole items (Halted misuse) rest → if_none_is_left rest (ends_in_call (call ∷ script) items (halted misuse)) ≡ Some line → IsLineFrom before (call ∷ script) list line
+      halt_ends : (items rest : List Made) (misuse : Misuse) → cut before call list ≡ whole items (Halted misuse) rest → if_none_is_left rest (ends_in_call (call ∷ script) items [] (halted misuse)) ≡ Some line → IsLineFrom before (call ∷ script) list line
       halt_ends items [] misuse is e =
           let one = (cuts before call here).sound list items [] (Halted misuse) is in
-          subst (λ (x : List Made). IsLineFrom before (call ∷ script) x line) (sym (one.0 ∙ append-nil items)) (first_call before (call ∷ script) items (halted misuse) line e one.1)
+          subst (λ (x : List Made). IsLineFrom before (call ∷ script) x line) (sym (one.0 ∙ append-nil items)) (last_call before (call ∷ script) items (halted misuse) line e one.1 refl)
       halt_ends items (m ∷ rest) misuse is e = absurd (none_some e)
 
       by : (found : Beginning (Reply ℕ)) → cut before call list ≡ found → by_call before call script list found (λ later rest. line_cut cut later script rest) ≡ Some line
@@ -144,53 +151,56 @@ module _ (plan : Plan) (worker : ℕ) (told : Call → Bool) (cut : ℕ → Call
       by (whole items (Done (Ok reply)) rest) is e on = with_one items rest reply is (line_cut cut (before + length (shared_in items)) script rest) e (λ l f. on (before + length (shared_in items)) rest l f)
       by (whole items (Done (Err misuse)) rest) is e on = misuse_ends items rest misuse is (list_all (is_halt misuse) rest) refl e
       by (whole items (Halted misuse) rest) is e on = halt_ends items rest misuse is e
-      by within is e on = first_call before (call ∷ script) list unfinished line e ((cuts before call here).goes_on list is)
+      by within is e on = last_call before (call ∷ script) list unfinished line e ((cuts before call here).goes_on list is) refl
       by wrong is e on = absurd (none_some e)
 
   -- the last call of a line is found as it ends, unless it is unfinished
-  ended : (before : ℕ) (ending : LineEnd) (rest : List Call) (last : List Made) → list_all told rest ≡ true → HasEnded ending → EndsBy plan worker before ending rest last → line_cut cut before rest last ≡ Some (ends_in_call rest last ending)
-  ended before at_end rest last h e (none, also) =
-      ap (λ (c : List Call). line_cut cut before c last) none ∙ ap (λ (l : List Made). if_none_is_left l (ends_in_call [] [] at_end)) also
-      ∙ ap (λ (c : List Call). Some (ends_in_call c [] at_end)) (sym none) ∙ ap (λ (l : List Made). Some (ends_in_call rest l at_end)) (sym also)
-  ended before (misused misuse) [] last h e nothing = absurd nothing
-  ended before (misused misuse) (call ∷ rest) last h e (items, halts, are, spelt, all) =
-      let found : cut before call last ≡ whole items (Done (Err misuse)) halts = ap (cut before call) are ∙ (cuts before call (and_parts (told call) (list_all told rest) h).0).complete items halts (Done (Err misuse)) spelt in
-      ap (λ (f : Beginning (Reply ℕ)). by_call before call rest last f (λ later left. line_cut cut later rest left)) found
-      ∙ cond-true (list_all (is_halt misuse) halts) (Some (ends_in_call (call ∷ rest) (items ++ halts) (misused misuse))) None (all_tells misuse halts all)
-      ∙ ap (λ (l : List Made). Some (ends_in_call (call ∷ rest) l (misused misuse))) (sym are)
-  ended before (halted misuse) [] last h e nothing = absurd nothing
-  ended before (halted misuse) (call ∷ rest) last h e spelt =
-      let found : cut before call last ≡ whole last (Halted misuse) [] = ap (cut before call) (sym (append-nil last)) ∙ (cuts before call (and_parts (told call) (list_all told rest) h).0).complete last [] (Halted misuse) spelt in
-      ap (λ (f : Beginning (Reply ℕ)). by_call before call rest last f (λ later left. line_cut cut later rest left)) found
-  ended before unfinished rest last h e ends = absurd e
+  ended : (before : ℕ) (ending : LineEnd) (rest : List Call) (last halts : List Made) → list_all told rest ≡ true → HasEnded ending → EndsBy plan worker before ending rest last → AreHalts ending halts
+      → line_cut cut before rest (last ++ halts) ≡ Some (ends_in_call rest last halts ending)
+  ended before at_end rest last halts h e (none, also) are =
+      ap (λ (c : List Call). line_cut cut before c (last ++ halts)) none ∙ ap (λ (l : List Made). line_cut cut before [] (l ++ halts)) also ∙ ap (λ (l : List Made). if_none_is_left l (ends_in_call [] [] [] at_end)) are
+      ∙ ap (λ (c : List Call). Some (ends_in_call c [] [] at_end)) (sym none) ∙ ap (λ (l : List Made). Some (ends_in_call rest l [] at_end)) (sym also) ∙ ap (λ (l : List Made). Some (ends_in_call rest last l at_end)) (sym are)
+  ended before (misused misuse) [] last halts h e nothing are = absurd nothing
+  ended before (misused misuse) (call ∷ rest) last halts h e spelt are =
+      let found : cut before call (last ++ halts) ≡ whole last (Done (Err misuse)) halts = (cuts before call (and_parts (told call) (list_all told rest) h).0).complete last halts (Done (Err misuse)) spelt in
+      ap (λ (f : Beginning (Reply ℕ)). by_call before call rest (last ++ halts) f (λ later left. line_cut cut later rest left)) found
+      ∙ cond-true (list_all (is_halt misuse) halts) (Some (ends_in_call (call ∷ rest) last halts (misused misuse))) None (all_tells misuse halts are)
+  ended before (halted misuse) [] last halts h e nothing are = absurd nothing
+  ended before (halted misuse) (call ∷ rest) last halts h e spelt are =
+      let found : cut before call (last ++ halts) ≡ whole last (Halted misuse) halts = (cuts before call (and_parts (told call) (list_all told rest) h).0).complete last halts (Halted misuse) spelt in
+      ap (λ (f : Beginning (Reply ℕ)). by_call before call rest (last ++ halts) f (λ later left. line_cut cut later rest left)) found
+      ∙ ap (λ (l : List Made). if_none_is_left l (ends_in_call (call ∷ rest) last [] (halted misuse))) are ∙ ap (λ (l : List Made). Some (ends_in_call (call ∷ rest) last l (halted misuse))) (sym are)
+  ended before unfinished rest last halts h e ends are = absurd e
 
-  all_found : (spelt : List SpeltCall) (before : ℕ) (ending : LineEnd) (rest : List Call) (last : List Made) → list_all told (map (λ s. s.call) spelt ++ rest) ≡ true → HasEnded ending → AreSpelt plan worker before spelt → EndsBy plan worker (made_by before spelt) ending rest last
-      → (let line : Line = record { spelt = spelt; last = last; rest = rest; ending = ending } in line_cut cut before (script_of line) (items_of line) ≡ Some line)
-  all_found [] before ending rest last h e calls ends =
+  all_found : (spelt : List SpeltCall) (before : ℕ) (ending : LineEnd) (rest : List Call) (last halts : List Made) → list_all told (map (λ s. s.call) spelt ++ rest) ≡ true → HasEnded ending → AreSpelt plan worker before spelt
+      → EndsBy plan worker (made_by before spelt) ending rest last → AreHalts ending halts
+      → (let line : Line = record { spelt = spelt; last = last; halts = halts; rest = rest; ending = ending } in line_cut cut before (script_of line) (items_of line) ≡ Some line)
+  all_found [] before ending rest last halts h e calls ends are =
       let n : before + 0 ≡ before = omega arith in
-      ended before ending rest last h e (subst (λ (k : ℕ). EndsBy plan worker k ending rest last) n ends)
-  all_found (s ∷ spelt) before ending rest last h e (one, calls) ends =
+      ended before ending rest last halts h e (subst (λ (k : ℕ). EndsBy plan worker k ending rest last) n ends) are
+  all_found (s ∷ spelt) before ending rest last halts h e (one, calls) ends are =
       let flat : List Made = flat_map (λ s. s.items) spelt in
+      let left : List Made = last ++ halts in
       let n : before + length (shared_in (s.items ++ flat)) ≡ made_by (before + length (shared_in s.items)) spelt = omega (arith, shared_more s.items flat) in
       let script : List Call = map (λ s. s.call) spelt ++ rest in
-      let later = all_found spelt (before + length (shared_in s.items)) ending rest last (and_parts (told s.call) (list_all told script) h).1 e calls (subst (λ (k : ℕ). EndsBy plan worker k ending rest last) n ends) in
-      let found : cut before s.call ((s.items ++ flat) ++ last) ≡ whole s.items (Done (Ok s.reply)) (flat ++ last) =
-      ap (cut before s.call) (append_assoc s.items flat last) ∙ (cuts before s.call (and_parts (told s.call) (list_all told script) h).0).complete s.items (flat ++ last) (Done (Ok s.reply)) one in
-      ap (λ (f : Beginning (Reply ℕ)). by_call before s.call script ((s.items ++ flat) ++ last) f (λ more left. line_cut cut more script left)) found
+      let later = all_found spelt (before + length (shared_in s.items)) ending rest last halts (and_parts (told s.call) (list_all told script) h).1 e calls (subst (λ (k : ℕ). EndsBy plan worker k ending rest last) n ends) are in
+      let found : cut before s.call ((s.items ++ flat) ++ left) ≡ whole s.items (Done (Ok s.reply)) (flat ++ left) =
+      ap (cut before s.call) (append_assoc s.items flat left) ∙ (cuts before s.call (and_parts (told s.call) (list_all told script) h).0).complete s.items (flat ++ left) (Done (Ok s.reply)) one in
+      ap (λ (f : Beginning (Reply ℕ)). by_call before s.call script ((s.items ++ flat) ++ left) f (λ more left. line_cut cut more script left)) found
       ∙ ap (with_spelt s) later
 
   -- a line that has ended is the one that its list and script are cut into
   pub line_complete : (line : Line) → list_all told (script_of line) ≡ true → HasEnded line.ending → AreSpelt plan worker 0 line.spelt → EndsBy plan worker (length (shared_in (flat_map (λ s. s.items) line.spelt))) line.ending line.rest line.last
-      → line_cut cut 0 (script_of line) (items_of line) ≡ Some line
-  line_complete line h e calls ends =
+      → AreHalts line.ending line.halts → line_cut cut 0 (script_of line) (items_of line) ≡ Some line
+  line_complete line h e calls ends are =
       let n : length (shared_in (flat_map (λ s. s.items) line.spelt)) ≡ made_by 0 line.spelt = omega arith in
-      all_found line.spelt 0 line.ending line.rest line.last h e calls (subst (λ (k : ℕ). EndsBy plan worker k line.ending line.rest line.last) n ends)
+      all_found line.spelt 0 line.ending line.rest line.last line.halts h e calls (subst (λ (k : ℕ). EndsBy plan worker k line.ending line.rest line.last) n ends) are
 
   pub lines_cut : CutsLines plan worker told cut
   lines_cut = record {
     is_line = λ script list line h e.
         let is = line_sound script h 0 list line e in
         let n : made_by 0 line.spelt ≡ length (shared_in (flat_map (λ s. s.items) line.spelt)) = omega arith in
-        (is.script_is, is.list_is, record { calls = is.calls; ends = subst (λ (k : ℕ). EndsBy plan worker k line.ending line.rest line.last) n is.ends });
-    is_cut = λ line h e is. line_complete line h e is.calls is.ends;
+        (is.script_is, is.list_is, record { calls = is.calls; ends = subst (λ (k : ℕ). EndsBy plan worker k line.ending line.rest line.last) n is.ends; halts = is.halts });
+    is_cut = λ line h e is. line_complete line h e is.calls is.ends is.halts;
   }

@@ -37,11 +37,11 @@ is_halt misuse (Entered object entry) = halts_by misuse entry.deed
 -- one more completed call before a line
 abbrev pub with_spelt : SpeltCall → Option Line → Option Line
 with_spelt spelt None = None
-with_spelt spelt (Some line) = Some (record { spelt = spelt ∷ line.spelt; last = line.last; rest = line.rest; ending = line.ending })
+with_spelt spelt (Some line) = Some (record { spelt = spelt ∷ line.spelt; last = line.last; halts = line.halts; rest = line.rest; ending = line.ending })
 
--- a line that ends in its first call
-abbrev pub ends_in_call : List Call → List Made → LineEnd → Line
-ends_in_call script last ending = record { spelt = []; last = last; rest = script; ending = ending }
+-- a line that ends in its first call, and these halts behind it
+abbrev pub ends_in_call : List Call → List Made → List Made → LineEnd → Line
+ends_in_call script last halts ending = record { spelt = []; last = last; halts = halts; rest = script; ending = ending }
 
 abbrev pub if_none_is_left : List Made → Line → Option Line
 if_none_is_left [] line = Some line
@@ -50,12 +50,12 @@ if_none_is_left (item ∷ list) line = None
 -- the line, by what the list begins with, where the next call is this one
 abbrev pub by_call : ℕ → Call → List Call → List Made → Beginning (Reply ℕ) → (ℕ → List Made → Option Line) → Option Line
 by_call before call script list (whole items (Done (Ok reply)) rest) on = with_spelt (record { call = call; items = items; reply = reply }) (on (before + length (shared_in items)) rest)
-by_call before call script list (whole items (Done (Err misuse)) rest) on = cond (list_all (is_halt misuse) rest) (Some (ends_in_call (call ∷ script) (items ++ rest) (misused misuse))) None
-by_call before call script list (whole items (Halted misuse) rest) on = if_none_is_left rest (ends_in_call (call ∷ script) items (halted misuse))
-by_call before call script list within on = Some (ends_in_call (call ∷ script) list unfinished)
+by_call before call script list (whole items (Done (Err misuse)) rest) on = cond (list_all (is_halt misuse) rest) (Some (ends_in_call (call ∷ script) items rest (misused misuse))) None
+by_call before call script list (whole items (Halted misuse) rest) on = if_none_is_left rest (ends_in_call (call ∷ script) items [] (halted misuse))
+by_call before call script list within on = Some (ends_in_call (call ∷ script) list [] unfinished)
 by_call before call script list wrong on = None
 
 -- the line that a script's calls and a list make, of a worker that has made so many calls on maps and atomics before; none, where the list is no line of the script. `cut` tells how a call is cut from a list
 abbrev pub line_cut : (ℕ → Call → Cutter (Reply ℕ)) → ℕ → List Call → List Made → Option Line
-line_cut cut before [] list = if_none_is_left list (ends_in_call [] [] at_end)
+line_cut cut before [] list = if_none_is_left list (ends_in_call [] [] [] at_end)
 line_cut cut before (call ∷ script) list = by_call before call script list (cut before call list) (λ later rest. line_cut cut later script rest)
