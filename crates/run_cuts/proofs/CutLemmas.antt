@@ -122,6 +122,20 @@ module _ {O : Type 0} where
     stays = λ list later e. refl;
   }
 
+  -- ---- a part that is spelt by the same items
+
+  pub alike_cuts : (part other : Part O) (cut : Cutter O) → ((items : List Made) (answer : CallAnswer O) → part items answer → other items answer) → ((items : List Made) (answer : CallAnswer O) → other items answer → part items answer)
+      → Cuts part cut → Cuts other cut
+  alike_cuts part other cut to from cuts = record {
+    sound = λ list items rest answer e. let one = cuts.sound list items rest answer e in (one.0, to items answer one.1);
+    complete = λ items rest answer spelt. cuts.complete items rest answer (from items answer spelt);
+    goes_on = λ list e. further list (cuts.goes_on list e);
+    stays = cuts.stays;
+  }
+    where
+      further : (list : List Made) → (later : List Made) × (answer : CallAnswer O) × part (list ++ later) answer → (later : List Made) × (answer : CallAnswer O) × other (list ++ later) answer
+      further list (later, answer, spelt) = (later, answer, to (list ++ later) answer spelt)
+
 -- ---- another outcome
 
 module _ {O P : Type 0} (f : O → P) (part : Part O) (cut : Cutter O) (cuts : Cuts part cut) where
@@ -262,24 +276,31 @@ module _ {O P : Type 0} (first : Part O) (next : O → Part P) (cut : Cutter O) 
   pub then_cuts : ((outcome : O) → CanEnd (next outcome)) → Cuts (and_then first next) (then_cut cut cut_next)
   then_cuts can = then_cuts_by (can_continue can)
 
--- ---- the calls of a protocol
+-- ---- calls whose deeds are spelt, stage by stage
 
-module _ {G O E R : Type 0} (event : E → ObjectEvent) (reply : R → ObjectReply) (event_of : G → ℕ → E) (meaning : G → R → Step G O) where
+module _ {G O E R : Type 0} (event : E → ObjectEvent) (reply : R → ObjectReply) (Spelt : G → List (Deed E R) → CallAnswer O → Type 0) where
   -- what a move says of the deed
   abbrev pub IsMoveOf : G → Deed ObjectEvent ObjectReply → Move G O → Type 0
-  IsMoveOf stage deed (answers_by answer) = (own : Deed E R) × (deed ≡ lifted_deed event reply own) × Spells event_of meaning stage (own ∷ []) answer
-  IsMoveOf stage deed (goes_to later) = (own : Deed E R) × (deed ≡ lifted_deed event reply own) × ((rest : List (Deed E R)) (answer : CallAnswer O) → Spells event_of meaning later rest answer → Spells event_of meaning stage (own ∷ rest) answer)
+  IsMoveOf stage deed (answers_by answer) = (own : Deed E R) × (deed ≡ lifted_deed event reply own) × Spelt stage (own ∷ []) answer
+  IsMoveOf stage deed (goes_to later) = (own : Deed E R) × (deed ≡ lifted_deed event reply own) × ((rest : List (Deed E R)) (answer : CallAnswer O) → Spelt later rest answer → Spelt stage (own ∷ rest) answer)
   IsMoveOf stage deed no_call = Unit {0}
 
   -- what a deed that begins a call says of the move
-  abbrev pub Goes : G → Deed E R → List (Deed E R) → CallAnswer O → Move G O → Type 0
-  Goes stage own rest answer (answers_by given) = (rest ≡ []) × (answer ≡ given)
-  Goes stage own rest answer (goes_to later) = Spells event_of meaning later rest answer
-  Goes stage own rest answer no_call = ⊥
+  abbrev pub Goes : List (Deed E R) → CallAnswer O → Move G O → Type 0
+  Goes rest answer (answers_by given) = (rest ≡ []) × (answer ≡ given)
+  Goes rest answer (goes_to later) = Spelt later rest answer
+  Goes rest answer no_call = ⊥
 
+  -- the moves tell how calls go on. A call makes a deed, and whatever its stage, a halt may end it
   pub record IsMoves (moves : G → Deed ObjectEvent ObjectReply → Move G O) : Type 0 where
     pub told : (stage : G) (deed : Deed ObjectEvent ObjectReply) → IsMoveOf stage deed (moves stage deed)
-    pub tells : (stage : G) (own : Deed E R) (rest : List (Deed E R)) (answer : CallAnswer O) → Spells event_of meaning stage (own ∷ rest) answer → Goes stage own rest answer (moves stage (lifted_deed event reply own))
+    pub tells : (stage : G) (own : Deed E R) (rest : List (Deed E R)) (answer : CallAnswer O) → Spelt stage (own ∷ rest) answer → Goes rest answer (moves stage (lifted_deed event reply own))
+    pub some : (stage : G) (answer : CallAnswer O) → Spelt stage [] answer → ⊥
+    pub halts : (stage : G) → (own : Deed E R) × Spelt stage (own ∷ []) (Halted UnlockOfUnlockedMutex)
+
+  -- the items are entries of the object's journal, whose deeds are spelt from this stage on
+  abbrev pub entries_part : ℕ → G → Part O
+  entries_part object stage items answer = (entries : List (Entry E R)) × (items ≡ map (λ entry. Entered object (lifted event reply entry)) entries) × Spelt stage (map (λ entry. entry.deed) entries) answer
 
   module _ (moves : G → Deed ObjectEvent ObjectReply → Move G O) (are : IsMoves moves) (object : ℕ) where
     abbrev item : Entry E R → Made
@@ -289,7 +310,7 @@ module _ {G O E R : Type 0} (event : E → ObjectEvent) (reply : R → ObjectRep
     cut stage = stages_cut moves object stage
 
     abbrev part : G → Part O
-    part stage = stages event reply event_of meaning object stage
+    part stage = entries_part object stage
 
     abbrev as_own : ObjectEntry → Deed E R → Entry E R
     as_own entry own = record { caller = entry.caller; deed = own; front = entry.front; knew = entry.knew }
@@ -299,7 +320,7 @@ module _ {G O E R : Type 0} (event : E → ObjectEvent) (reply : R → ObjectRep
         ap (λ (n : ℕ). Entered n entry) same ∙ ap (λ (d : Deed ObjectEvent ObjectReply). let x : ObjectEntry = record { caller = entry.caller; deed = d; front = entry.front; knew = entry.knew } in Entered object x) e
 
     -- the item is the first of a call
-    one_more : (stage later : G) (m : Made) (x : Entry E R) → m ≡ item x → ((rest : List (Deed E R)) (answer : CallAnswer O) → Spells event_of meaning later rest answer → Spells event_of meaning stage (x.deed ∷ rest) answer)
+    one_more : (stage later : G) (m : Made) (x : Entry E R) → m ≡ item x → ((rest : List (Deed E R)) (answer : CallAnswer O) → Spelt later rest answer → Spelt stage (x.deed ∷ rest) answer)
         → (items : List Made) (answer : CallAnswer O) → part later items answer → part stage (m ∷ items) answer
     one_more stage later m x is spells items answer (entries, are, spelt) =
         (x ∷ entries, ap (λ (y : Made). y ∷ items) is ∙ ap (λ (l : List Made). item x ∷ l) are, spells (map (λ entry. entry.deed) entries) answer spelt)
@@ -311,7 +332,7 @@ module _ {G O E R : Type 0} (event : E → ObjectEvent) (reply : R → ObjectRep
         let m : Made = Entered other entry in
         let found = same_whole (m ∷ []) items given answer list rest e in (
           ap (λ (l : List Made). m ∷ l) found.rests_are ∙ ap (λ (l : List Made). l ++ rest) found.items_are,
-          (as_own entry own ∷ [], sym found.items_are ∙ ap (λ (y : Made). y ∷ []) (own_item other entry own same is), subst (λ (a : CallAnswer O). Spells event_of meaning stage (own ∷ []) a) found.answers_are spelt),
+          (as_own entry own ∷ [], sym found.items_are ∙ ap (λ (y : Made). y ∷ []) (own_item other entry own same is), subst (λ (a : CallAnswer O). Spelt stage (own ∷ []) a) found.answers_are spelt),
         )
     sound_move stage other entry list same (goes_to later) (own, is, spells) from items rest answer e =
         let m : Made = Entered other entry in
@@ -348,13 +369,13 @@ module _ {G O E R : Type 0} (event : E → ObjectEvent) (reply : R → ObjectRep
     no_deeds [] e = refl
     no_deeds (x ∷ es) e = absurd (omega (arith, ap (λ (l : List (Deed E R)). length l) e))
 
-    complete_of : (es : List (Entry E R)) (stage : G) (rest : List Made) (answer : CallAnswer O) → Spells event_of meaning stage (map (λ x. x.deed) es) answer → cut stage (map item es ++ rest) ≡ whole (map item es) answer rest
-    complete_of [] stage rest answer spelt = absurd spelt
+    complete_of : (es : List (Entry E R)) (stage : G) (rest : List Made) (answer : CallAnswer O) → Spelt stage (map (λ x. x.deed) es) answer → cut stage (map item es ++ rest) ≡ whole (map item es) answer rest
+    complete_of [] stage rest answer spelt = absurd (are.some stage answer spelt)
     complete_of (x ∷ es) stage rest answer spelt =
         there stage (lifted event reply x) (map item es ++ rest) ∙ by (moves stage (lifted_deed event reply x.deed)) (are.tells stage x.deed (map (λ y. y.deed) es) answer spelt) (λ later s. complete_of es later rest answer s)
       where
-        by : (moved : Move G O) → Goes stage x.deed (map (λ y. y.deed) es) answer moved
-            → ((later : G) → Spells event_of meaning later (map (λ y. y.deed) es) answer → cut later (map item es ++ rest) ≡ whole (map item es) answer rest)
+        by : (moved : Move G O) → Goes (map (λ y. y.deed) es) answer moved
+            → ((later : G) → Spelt later (map (λ y. y.deed) es) answer → cut later (map item es ++ rest) ≡ whole (map item es) answer rest)
             → by_move moves object (item x) moved (map item es ++ rest) (λ later. cut later (map item es ++ rest)) ≡ whole (item x ∷ map item es) answer rest
         by (answers_by given) (left, is) from =
             let gone : es ≡ [] = no_deeds es left in
@@ -363,15 +384,11 @@ module _ {G O E R : Type 0} (event : E → ObjectEvent) (reply : R → ObjectRep
         by (goes_to later) spelt from = ap (behind (item x ∷ [])) (from later spelt)
         by no_call nothing from = absurd nothing
 
-    -- whatever the stage, a halt may end the call
     abbrev refused : G → Entry E R
-    refused stage = record { caller = 0; deed = Refused (event_of stage 0) UnlockOfUnlockedMutex; front = []; knew = 0 }
-
-    pub can_end : (stage : G) → (later : List Made) × (answer : CallAnswer O) × part stage later answer
-    can_end stage = (item (refused stage) ∷ [], Halted UnlockOfUnlockedMutex, (refused stage ∷ [], refl, ((0, refl), refl, refl)))
+    refused stage = record { caller = 0; deed = (are.halts stage).0; front = []; knew = 0 }
 
     halts_of : (list : List Made) (stage : G) → cut stage list ≡ within → (later : List Made) × part stage (list ++ later) (Halted UnlockOfUnlockedMutex)
-    halts_of [] stage e = (item (refused stage) ∷ [], (refused stage ∷ [], refl, ((0, refl), refl, refl)))
+    halts_of [] stage e = (item (refused stage) ∷ [], (refused stage ∷ [], refl, (are.halts stage).1))
     halts_of (Shared x ∷ list) stage e = absurd (wrong_within e)
     halts_of (Entered other entry ∷ list) stage e = by (eqb other object) refl e (λ later f. halts_of list later f)
       where
@@ -392,8 +409,8 @@ module _ {G O E R : Type 0} (event : E → ObjectEvent) (reply : R → ObjectRep
         by false same e from = absurd (wrong_within e)
 
     -- a halt may end a call that is begun
-    pub halts_on : (stage : G) (list : List Made) → cut stage list ≡ within → (later : List Made) × (misuse : Misuse) × part stage (list ++ later) (Halted misuse)
-    halts_on stage list e = by (halts_of list stage e)
+    pub deeds_halt : (stage : G) (list : List Made) → cut stage list ≡ within → (later : List Made) × (misuse : Misuse) × part stage (list ++ later) (Halted misuse)
+    deeds_halt stage list e = by (halts_of list stage e)
       where
         by : (later : List Made) × part stage (list ++ later) (Halted UnlockOfUnlockedMutex) → (later : List Made) × (misuse : Misuse) × part stage (list ++ later) (Halted misuse)
         by (later, spelt) = (later, UnlockOfUnlockedMutex, spelt)
@@ -422,14 +439,23 @@ module _ {G O E R : Type 0} (event : E → ObjectEvent) (reply : R → ObjectRep
         by true e from = goes (moves stage entry.deed) e from
         by false e from = refl
 
-    pub stages_cuts : (stage : G) → Cuts (part stage) (cut stage)
-    stages_cuts stage = record {
+    pub deeds_cuts : (stage : G) → Cuts (part stage) (cut stage)
+    deeds_cuts stage = record {
       sound = λ list items rest answer e. sound_of list stage items rest answer e;
       complete = λ items rest answer (entries, are, spelt).
           ap (λ (l : List Made). cut stage (l ++ rest)) are ∙ complete_of entries stage rest answer spelt ∙ ap (λ (l : List Made). whole l answer rest) (sym are);
       goes_on = λ list e. on_of list stage e;
       stays = λ list later e. stays_of list later stage e;
     }
+
+-- ---- the calls of a protocol
+
+module _ {G O E R : Type 0} (event : E → ObjectEvent) (reply : R → ObjectReply) (event_of : G → ℕ → E) (meaning : G → R → Step G O) (moves : G → Deed ObjectEvent ObjectReply → Move G O) (are : IsMoves event reply (Spells event_of meaning) moves) (object : ℕ) where
+  pub stages_cuts : (stage : G) → Cuts (stages event reply event_of meaning object stage) (stages_cut moves object stage)
+  stages_cuts stage = deeds_cuts event reply (Spells event_of meaning) moves are object stage
+
+  pub halts_on : (stage : G) (list : List Made) → stages_cut moves object stage list ≡ within → (later : List Made) × (misuse : Misuse) × stages event reply event_of meaning object stage (list ++ later) (Halted misuse)
+  halts_on stage list e = deeds_halt event reply (Spells event_of meaning) moves are object stage list e
 
 -- the moves of a kind whose events and replies are found again
 
@@ -441,34 +467,34 @@ module _ {G O E R : Type 0} (event : E → ObjectEvent) (reply : R → ObjectRep
   abbrev moves : G → Deed ObjectEvent ObjectReply → Move G O
   moves = move event_in reply_in is_event meaning
 
-  step_told : (stage : G) (deed : Deed ObjectEvent ObjectReply) (e : E) (r : R) (step : Step G O) → deed ≡ lifted_deed event reply (Event e r) → IsEventOf event_of stage e → meaning stage r ≡ step → IsMoveOf event reply event_of meaning stage deed (move_by event_in reply_in is_event meaning step)
+  step_told : (stage : G) (deed : Deed ObjectEvent ObjectReply) (e : E) (r : R) (step : Step G O) → deed ≡ lifted_deed event reply (Event e r) → IsEventOf event_of stage e → meaning stage r ≡ step → IsMoveOf event reply (Spells event_of meaning) stage deed (move_by event_in reply_in is_event meaning step)
   step_told stage deed e r (Finished outcome) is its means = (Event e r, is, (its, subst (λ (s : Step G O). Rest {E = E} {R = R} s [] (λ later. Spells event_of meaning later [] (Done (Ok outcome))) (Done (Ok outcome))) (sym means) (refl, refl)))
   step_told stage deed e r (Misused misuse) is its means = (Event e r, is, (its, subst (λ (s : Step G O). Rest {E = E} {R = R} s [] (λ later. Spells event_of meaning later [] (Done (Err misuse))) (Done (Err misuse))) (sym means) (refl, refl)))
   step_told stage deed e r (Waits later) is its means = (Event e r, is, λ rest answer spelt. (its, subst (λ (s : Step G O). Rest {E = E} {R = R} s rest (λ next. Spells event_of meaning next rest answer) answer) (sym means) spelt))
   step_told stage deed e r (Next later) is its means = (Event e r, is, λ rest answer spelt. (its, subst (λ (s : Step G O). Rest {E = E} {R = R} s rest (λ next. Spells event_of meaning next rest answer) answer) (sym means) spelt))
   step_told stage deed e r Never is its means = tt
 
-  event_move_told : (stage : G) (o : ObjectEvent) (p : ObjectReply) (e : Option E) (r : Option R) → event_in o ≡ e → reply_in p ≡ r → IsMoveOf event reply event_of meaning stage (Event o p) (event_move event_in reply_in is_event meaning stage e r)
+  event_move_told : (stage : G) (o : ObjectEvent) (p : ObjectReply) (e : Option E) (r : Option R) → event_in o ≡ e → reply_in p ≡ r → IsMoveOf event reply (Spells event_of meaning) stage (Event o p) (event_move event_in reply_in is_event meaning stage e r)
   event_move_told stage o p (Some e) (Some r) has answers = by (is_event stage e) refl
     where
       same : Event o p ≡ lifted_deed event reply (Event e r)
       same = ap (λ (x : ObjectEvent). Event x p) (event_only o e has) ∙ ap (λ (y : ObjectReply). Event (event e) y) (reply_only p r answers)
 
-      by : (b : Bool) → is_event stage e ≡ b → IsMoveOf event reply event_of meaning stage (Event o p) (cond b (move_by event_in reply_in is_event meaning (meaning stage r)) no_call)
+      by : (b : Bool) → is_event stage e ≡ b → IsMoveOf event reply (Spells event_of meaning) stage (Event o p) (cond b (move_by event_in reply_in is_event meaning (meaning stage r)) no_call)
       by true its = step_told stage (Event o p) e r (meaning stage r) same (event_told stage e its) refl
       by false its = tt
   event_move_told stage o p (Some e) None has answers = tt
   event_move_told stage o p None r has answers = tt
 
-  refusal_told : (stage : G) (o : ObjectEvent) (misuse : Misuse) (e : Option E) → event_in o ≡ e → IsMoveOf event reply event_of meaning stage (Refused o misuse) (refusal_move event_in reply_in is_event meaning stage e misuse)
+  refusal_told : (stage : G) (o : ObjectEvent) (misuse : Misuse) (e : Option E) → event_in o ≡ e → IsMoveOf event reply (Spells event_of meaning) stage (Refused o misuse) (refusal_move event_in reply_in is_event meaning stage e misuse)
   refusal_told stage o misuse (Some e) has = by (is_event stage e) refl
     where
-      by : (b : Bool) → is_event stage e ≡ b → IsMoveOf event reply event_of meaning stage (Refused o misuse) (cond b (answers_by (Halted misuse)) no_call)
+      by : (b : Bool) → is_event stage e ≡ b → IsMoveOf event reply (Spells event_of meaning) stage (Refused o misuse) (cond b (answers_by (Halted misuse)) no_call)
       by true its = (Refused e misuse, ap (λ (x : ObjectEvent). Refused x misuse) (event_only o e has), (event_told stage e its, refl, refl))
       by false its = tt
   refusal_told stage o misuse None has = tt
 
-  moves_told : (stage : G) (deed : Deed ObjectEvent ObjectReply) → IsMoveOf event reply event_of meaning stage deed (moves stage deed)
+  moves_told : (stage : G) (deed : Deed ObjectEvent ObjectReply) → IsMoveOf event reply (Spells event_of meaning) stage deed (moves stage deed)
   moves_told stage (Event o p) = event_move_told stage o p (event_in o) (reply_in p) refl refl
   moves_told stage (Refused o misuse) = refusal_told stage o misuse (event_in o) refl
   moves_told stage (Halt misuse) = tt
@@ -476,24 +502,29 @@ module _ {G O E R : Type 0} (event : E → ObjectEvent) (reply : R → ObjectRep
   its_event : (stage : G) (e : E) → IsEventOf event_of stage e → is_event stage e ≡ true
   its_event stage e (now, is) = ap (is_event stage) is ∙ event_tells stage now
 
-  step_goes : (stage : G) (own : Deed E R) (step : Step G O) (rest : List (Deed E R)) (answer : CallAnswer O) → Rest step rest (λ later. Spells event_of meaning later rest answer) answer → Goes event reply event_of meaning stage own rest answer (move_by event_in reply_in is_event meaning step)
+  step_goes : (stage : G) (own : Deed E R) (step : Step G O) (rest : List (Deed E R)) (answer : CallAnswer O) → Rest step rest (λ later. Spells event_of meaning later rest answer) answer → Goes event reply (Spells event_of meaning) rest answer (move_by event_in reply_in is_event meaning step)
   step_goes stage own (Finished outcome) rest answer r = r
   step_goes stage own (Misused misuse) rest answer r = r
   step_goes stage own (Waits later) rest answer r = r
   step_goes stage own (Next later) rest answer r = r
   step_goes stage own Never rest answer r = r
 
-  moves_tell : (stage : G) (own : Deed E R) (rest : List (Deed E R)) (answer : CallAnswer O) → Spells event_of meaning stage (own ∷ rest) answer → Goes event reply event_of meaning stage own rest answer (moves stage (lifted_deed event reply own))
+  moves_tell : (stage : G) (own : Deed E R) (rest : List (Deed E R)) (answer : CallAnswer O) → Spells event_of meaning stage (own ∷ rest) answer → Goes event reply (Spells event_of meaning) rest answer (moves stage (lifted_deed event reply own))
   moves_tell stage (Event e r) rest answer (its, goes) =
       let moved : event_move event_in reply_in is_event meaning stage (Some e) (Some r) ≡ move_by event_in reply_in is_event meaning (meaning stage r) = cond-true (is_event stage e) (move_by event_in reply_in is_event meaning (meaning stage r)) no_call (its_event stage e its) in
       let found : moves stage (Event (event e) (reply r)) ≡ move_by event_in reply_in is_event meaning (meaning stage r) =
       ap (λ (o : Option E). event_move event_in reply_in is_event meaning stage o (reply_in (reply r))) (event_back e) ∙ ap (λ (o : Option R). event_move event_in reply_in is_event meaning stage (Some e) o) (reply_back r) ∙ moved in
-      subst (λ (m : Move G O). Goes event reply event_of meaning stage (Event e r) rest answer m) (sym found) (step_goes stage (Event e r) (meaning stage r) rest answer goes)
+      subst (λ (m : Move G O). Goes event reply (Spells event_of meaning) rest answer m) (sym found) (step_goes stage (Event e r) (meaning stage r) rest answer goes)
   moves_tell stage (Refused e misuse) rest answer (its, left, is) =
       let found : moves stage (Refused (event e) misuse) ≡ answers_by (Halted misuse) =
       ap (λ (o : Option E). refusal_move event_in reply_in is_event meaning stage o misuse) (event_back e) ∙ cond-true (is_event stage e) (answers_by (Halted misuse)) no_call (its_event stage e its) in
-      subst (λ (m : Move G O). Goes event reply event_of meaning stage (Refused e misuse) rest answer m) (sym found) (left, is)
+      subst (λ (m : Move G O). Goes event reply (Spells event_of meaning) rest answer m) (sym found) (left, is)
   moves_tell stage (Halt misuse) rest answer nothing = absurd nothing
 
-  pub moves_are : IsMoves event reply event_of meaning moves
-  moves_are = record { told = moves_told; tells = moves_tell }
+  pub moves_are : IsMoves event reply (Spells event_of meaning) moves
+  moves_are = record {
+    told = moves_told;
+    tells = moves_tell;
+    some = λ stage answer spelt. spelt;
+    halts = λ stage. (Refused (event_of stage 0) UnlockOfUnlockedMutex, ((0, refl), refl, refl));
+  }

@@ -6,4 +6,6 @@ mod LineCut
 mod MutexCut
 mod OnceCut
 mod PoolCut
+mod RwMutexCut
 mod SharedCut
+mod WriterCut

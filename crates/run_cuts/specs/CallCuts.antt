@@ -17,18 +17,19 @@ use Rattle.run_cuts.specs.GroupCuts.{group_cut}
 use Rattle.run_cuts.specs.MutexCuts.{mutex_cut}
 use Rattle.run_cuts.specs.OnceCuts.{do_cut, func_cut, value_cut}
 use Rattle.run_cuts.specs.PoolCuts.{pool_cut}
+use Rattle.run_cuts.specs.RwMutexCuts.{rw_mutex_cut}
 use Rattle.run_cuts.specs.SharedCuts.{atomic_cut, map_cut}
 
 -- whether the function tells how such a call is cut
 abbrev pub is_told : Operation → Bool
 is_told operations.Range = false
-is_told (operations.RwMutex call) = false
 is_told operation = true
 
 abbrev pub on_cut : Plan → (worker place : ℕ) → ObjectKind → Operation → Cutter (Reply ℕ)
 on_cut plan worker place kinds.Map (operations.Map call) = map_cut (keys_in plan.scripts) (map_number plan.objects place) call
 on_cut plan worker place (kinds.Atomic type) (operations.Atomic call) = atomic_cut (atomic_number plan.objects place) call
 on_cut plan worker place kinds.Mutex (operations.Mutex call) = mutex_cut (object_number place) call
+on_cut plan worker place kinds.RwMutex (operations.RwMutex call) = rw_mutex_cut (object_number place) call
 on_cut plan worker place (kinds.Cond mutex) (operations.Cond call) = cond_cut (object_number place) (object_number mutex) call
 on_cut plan worker place (kinds.WaitGroup start) (operations.WaitGroup call) = group_cut (object_number place) call
 on_cut plan worker place (kinds.Once atomic delta) operations.Once = do_cut (object_number place) (atomic_number plan.objects atomic) delta

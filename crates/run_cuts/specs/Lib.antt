@@ -7,4 +7,5 @@ pub mod MutexCuts
 pub mod OnceCuts
 pub mod OneLine
 pub mod PoolCuts
+pub mod RwMutexCuts
 pub mod SharedCuts

@@ -11,23 +11,26 @@ ghost use Rattle.run_cuts.specs.OnceCuts.{do_cut, func_cut, value_cut};
 ghost use Rattle.run_cuts.specs.SharedCuts.{adds_cut, atomic_cut, map_cut};
 ghost use Rattle.run_record.specs.CondKind.{cond_call};
 ghost use Rattle.run_record.specs.MutexKind.{mutex_call};
+ghost use Rattle.run_record.specs.RwMutexKind.{rw_mutex_call};
 ghost use Rattle.run_record.specs.WaitGroupKind.{wait_group_call};
 ghost use Rattle.run_cuts.specs.CondCuts.{cond_cut};
 ghost use Rattle.run_cuts.specs.Cuts.{Cuts, Cutter};
 ghost use Rattle.run_cuts.specs.GroupCuts.{group_cut};
 ghost use Rattle.run_cuts.specs.MutexCuts.{mutex_cut};
 ghost use Rattle.run_cuts.specs.OneLine.{CutsCalls, CutsLines};
+ghost use Rattle.run_cuts.specs.RwMutexCuts.{rw_mutex_cut};
 ghost use Rattle.script_calls.specs.declared.call.Call.{Call};
 ghost use Rattle.script_calls.specs.declared.call.Reply.{Reply};
 ghost use Rattle.workload.specs.Plan.{Plan};
 
-use sync_types::{AtomicCall, CondCall, MapCall, MutexCall, PoolCall, WaitGroupCall};
+use sync_types::{AtomicCall, CondCall, MapCall, MutexCall, PoolCall, RwMutexCall, WaitGroupCall};
 
 /// The calls of a map but a range, and those of an atomic, a mutex, a cond, a wait group, a once and a pool are cut from a list by a function just as they are spelt: what is found spells the
 /// call, what spells it is found whatever stands behind, a list that ends within it goes on to one that spells it, and one that
 /// begins with none still does so however it goes on.
 pub fn calls_are_cut_as_they_are_spelt()
     ensures mutex { (object : ℕ) (call : MutexCall) → Cuts (mutex_call object call) (mutex_cut object call) }
+    ensures rw_mutex { (object : ℕ) (call : RwMutexCall) → Cuts (rw_mutex_call object call) (rw_mutex_cut object call) }
     ensures cond { (object mutex : ℕ) (call : CondCall) → Cuts (cond_call object mutex call) (cond_cut object mutex call) }
     ensures map { (keys : List (List ℕ)) (m : ℕ) (call : MapCall (List ℕ)) → Cuts (map_call keys m call) (map_cut keys m call) }
     ensures atomic { (a : ℕ) (call : AtomicCall) → Cuts (atomic_call a call) (atomic_cut a call) }

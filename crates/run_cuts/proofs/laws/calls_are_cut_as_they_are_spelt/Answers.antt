@@ -3,11 +3,15 @@ use Rattle.run_cuts.proofs.GroupCut.{group_cuts}
 use Rattle.run_cuts.proofs.MutexCut.{mutex_cuts}
 use Rattle.run_cuts.proofs.OnceCut.{do_cuts, func_cuts, value_cuts}
 use Rattle.run_cuts.proofs.PoolCut.{pool_cuts}
+use Rattle.run_cuts.proofs.RwMutexCut.{rw_mutex_cuts}
 use Rattle.run_cuts.proofs.SharedCut.{adds_cuts, atomic_cuts, map_cuts}
 use Rattle.run_cuts.proofs.laws.calls_are_cut_as_they_are_spelt.Goals as goal
 
 pub returns-clause-mutex : goal.returns-clause-mutex
 returns-clause-mutex c object call = mutex_cuts object call
+
+pub returns-clause-rw_mutex : goal.returns-clause-rw_mutex
+returns-clause-rw_mutex c object call = rw_mutex_cuts object call
 
 pub returns-clause-cond : goal.returns-clause-cond
 returns-clause-cond c object mutex call = cond_cuts object mutex call
