@@ -1,14 +1,14 @@
 -- That a writer's lock is cut as it is spelt, whatever answers `Still` it has.
-use Rattle.std.proofs.Common.{◌≡◌, ◌∙◌, ℕ, Bool, true, false, if◌then◌else◌, cond, List, [], ◌∷◌, map, get_or, Option, Some, None, Ok, refl, sym, ap, subst}
+use Rattle.std.proofs.Common.{◌≡◌, ◌∙◌, ℕ, Bool, true, false, if◌then◌else◌, cond, List, [], ◌∷◌, map, get_or, Option, Some, None, refl, sym, ap, subst}
 use Rattle.std.proofs.lemmas.Bool.{false≢true}
 use Rattle.sync_types.specs.declared.misuse.Misuse.{Misuse}
 use Rattle.sync_types.specs.declared.misuse.Misuse.TheVariants.{UnlockOfUnlockedMutex}
 use Rattle.sync_types.specs.declared.lock_call.LockReply.{LockReply}
-use Rattle.sync_model.specs.declared.answer.Answer.TheVariants.{Done, Halted}
+use Rattle.sync_model.specs.declared.answer.Answer.TheVariants.{Halted}
 use Rattle.sync_model.specs.declared.journal.Deed.{Deed}
 use Rattle.sync_model.specs.declared.journal.Deed.TheVariants.{Event, Refused, Halt}
 use Rattle.rw_core.specs.declared.event.RwEvent.{RwEvent}
-use Rattle.rw_core.specs.declared.event.RwEvent.TheVariants.{ReadArrive, ReadTry, ReadUnlock, WriteArrive, WriteTry, WriteUnlock, WriteWoken, Leave}
+use Rattle.rw_core.specs.declared.event.RwEvent.TheVariants.{WriteArrive, WriteWoken, Leave}
 use Rattle.rw_core.specs.declared.reply.RwReply.{RwReply}
 use Rattle.rw_core.specs.declared.reply.RwReply.TheVariants.{Arrived, Tried, Unlocked, Resumed, Left, Still}
 use Rattle.rw_core.specs.declared.reply.Arrival.TheVariants.{Acquired as AtOnce, Queued}
@@ -23,9 +23,9 @@ use Rattle.run_record.specs.declared.entered.ObjectReply.{ObjectReply}
 use Rattle.run_record.specs.declared.entered.ObjectReply.TheVariants as reply
 use Rattle.run_record.specs.declared.made.Made.{Made}
 use Rattle.run_record.specs.Parts.{lifted_deed}
-use Rattle.run_record.specs.RwMutexKind.{RwDeed, asks, is_still, says_still, up_to_the_last, without_stills, WriteLocks, write_part}
-use Rattle.run_cuts.specs.Cuts.{Cuts, Move, answers_by, goes_to, no_call}
-use Rattle.run_cuts.specs.RwMutexCuts.{WriterStage, arriving, queued, inner, after_readers, WriterMove, arrival_move, woken_move, leave_move, still_move, arriving_by, queued_by, inner_by, after_readers_by, writer_move, rw_event_in, rw_reply_in, rw_deed_in, event_deed, refused_deed, is_writer_event, by_rw_deed, write_cut}
+use Rattle.run_record.specs.RwMutexKind.{RwDeed, asks, is_still, up_to_the_last, without_stills, WriteLocks, write_part}
+use Rattle.run_cuts.specs.Cuts.{Cuts, answers_by, goes_to, no_call}
+use Rattle.run_cuts.specs.RwMutexCuts.{WriterStage, arriving, queued, inner, after_readers, WriterMove, arrival_move, woken_move, leave_move, still_move, writer_move, rw_event_in, rw_reply_in, rw_deed_in, event_deed, refused_deed, is_writer_event, by_rw_deed, write_cut}
 use Rattle.run_cuts.proofs.CutLemmas.{Goes, IsMoveOf, IsMoves, alike_cuts, deeds_cuts, entries_part}
 
 -- ---- the deeds of a lock, by its moves
