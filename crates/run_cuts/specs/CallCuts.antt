@@ -20,7 +20,7 @@ use Rattle.run_cuts.specs.PoolCuts.{pool_cut}
 use Rattle.run_cuts.specs.RwMutexCuts.{rw_mutex_cut}
 use Rattle.run_cuts.specs.SharedCuts.{atomic_cut, map_cut}
 
--- whether the function tells how such a call is cut
+-- Whether the function tells how such a call is cut: each but a range. A range replies its pairs sorted by the names of their keys. Its items don't fix the order of two pairs whose keys have one name, and all numbers that are no key's have one name, the empty one.
 abbrev pub is_told : Operation → Bool
 is_told operations.Range = false
 is_told operation = true

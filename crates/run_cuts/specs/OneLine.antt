@@ -15,7 +15,7 @@ use Rattle.run_cuts.specs.LineCuts.{line_cut}
 abbrev pub CutsCalls : Plan → ℕ → (Call → Bool) → (ℕ → Call → Cutter (Reply ℕ)) → Type 0
 CutsCalls plan worker told cut = (before : ℕ) (call : Call) → told call ≡ true → Cuts (SpellsCall plan worker before call) (cut before call)
 
--- What a list and a script are cut into is a line of them. A line of them that has ended is what they are cut into. Each call of the script passes the test.
+-- What a list and a script are cut into is a line of them. A line of them that has ended is what they are cut into; one that hasn't may have a last call that is spelt whole, which is cut as a completed one. Each call of the script passes the test.
 pub record CutsLines (plan : Plan) (worker : ℕ) (told : Call → Bool) (cut : ℕ → Call → Cutter (Reply ℕ)) : Type 0 where
   pub is_line : (script : List Call) (list : List Made) (line : Line) → list_all told script ≡ true → line_cut cut 0 script list ≡ Some line → (script_of line ≡ script) × (items_of line ≡ list) × IsLineOf plan worker line
   pub is_cut : (line : Line) → list_all told (script_of line) ≡ true → HasEnded line.ending → IsLineOf plan worker line → line_cut cut 0 (script_of line) (items_of line) ≡ Some line

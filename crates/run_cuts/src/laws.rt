@@ -1,33 +1,33 @@
 //! That the functions cut lists as the record of a run spells them. Each law is the contract of a function that does nothing.
 ghost use Rattle.std.specs.Prelude.{◌≡◌, ℕ, ℤ, Bool, true, List};
-ghost use Rattle.run_record.specs.Calls.{SpellsCall};
-ghost use Rattle.run_cuts.specs.CallCuts.{call_cut, is_told};
+ghost use Rattle.script_calls.specs.declared.call.Call.{Call};
+ghost use Rattle.script_calls.specs.declared.call.Reply.{Reply};
+ghost use Rattle.workload.specs.Plan.{Plan};
 ghost use Rattle.run_record.specs.AtomicKind.{adds, atomic_call};
+ghost use Rattle.run_record.specs.Calls.{SpellsCall};
+ghost use Rattle.run_record.specs.CondKind.{cond_call};
 ghost use Rattle.run_record.specs.MapKind.{map_call};
+ghost use Rattle.run_record.specs.MutexKind.{mutex_call};
 ghost use Rattle.run_record.specs.OnceKind.{do_call, func_call, value_call};
 ghost use Rattle.run_record.specs.PoolKind.{pool_call};
-ghost use Rattle.run_cuts.specs.PoolCuts.{pool_cut};
-ghost use Rattle.run_cuts.specs.OnceCuts.{do_cut, func_cut, value_cut};
-ghost use Rattle.run_cuts.specs.SharedCuts.{adds_cut, atomic_cut, map_cut};
-ghost use Rattle.run_record.specs.CondKind.{cond_call};
-ghost use Rattle.run_record.specs.MutexKind.{mutex_call};
 ghost use Rattle.run_record.specs.RwMutexKind.{rw_mutex_call};
 ghost use Rattle.run_record.specs.WaitGroupKind.{wait_group_call};
+ghost use Rattle.run_cuts.specs.CallCuts.{call_cut, is_told};
 ghost use Rattle.run_cuts.specs.CondCuts.{cond_cut};
 ghost use Rattle.run_cuts.specs.Cuts.{Cuts, Cutter};
 ghost use Rattle.run_cuts.specs.GroupCuts.{group_cut};
 ghost use Rattle.run_cuts.specs.MutexCuts.{mutex_cut};
+ghost use Rattle.run_cuts.specs.OnceCuts.{do_cut, func_cut, value_cut};
 ghost use Rattle.run_cuts.specs.OneLine.{CutsCalls, CutsLines};
+ghost use Rattle.run_cuts.specs.PoolCuts.{pool_cut};
 ghost use Rattle.run_cuts.specs.RwMutexCuts.{rw_mutex_cut};
-ghost use Rattle.script_calls.specs.declared.call.Call.{Call};
-ghost use Rattle.script_calls.specs.declared.call.Reply.{Reply};
-ghost use Rattle.workload.specs.Plan.{Plan};
+ghost use Rattle.run_cuts.specs.SharedCuts.{adds_cut, atomic_cut, map_cut};
 
 use sync_types::{AtomicCall, CondCall, MapCall, MutexCall, PoolCall, RwMutexCall, WaitGroupCall};
 
-/// The calls of a map but a range, and those of an atomic, a mutex, a cond, a wait group, a once and a pool are cut from a list by a function just as they are spelt: what is found spells the
-/// call, what spells it is found whatever stands behind, a list that ends within it goes on to one that spells it, and one that
-/// begins with none still does so however it goes on.
+/// The calls of each kind but a `range` are cut from a list by a function just as they are spelt. What is found spells the call. What
+/// spells it is found, whatever stands behind it. A list that ends within it goes on to one that spells it. One that begins with no such
+/// call still does so, however it goes on. Of a writer's `lock` the answers `Still` are found with it, wherever they may stand.
 pub fn calls_are_cut_as_they_are_spelt()
     ensures mutex { (object : ℕ) (call : MutexCall) → Cuts (mutex_call object call) (mutex_cut object call) }
     ensures rw_mutex { (object : ℕ) (call : RwMutexCall) → Cuts (rw_mutex_call object call) (rw_mutex_cut object call) }
@@ -42,15 +42,18 @@ pub fn calls_are_cut_as_they_are_spelt()
     ensures wait_group { (object : ℕ) (call : WaitGroupCall) → Cuts (wait_group_call object call) (group_cut object call) }
 {}
 
-/// Where each call of a script is cut as it is spelt, a list and the script are cut into one line. What they are cut into is a line
-/// of them, and a line of them that has ended is what they are cut into. So it is of a worker's list, where its script has no range
-/// and no call of a reader/writer mutex. An unfinished line isn't among these, where its last call is spelt whole.
+/// A call of a workload is cut from a list by a function just as it is spelt, but for a `range`. Its items don't fix its reply: the
+/// pairs are sorted by the names of their keys, two pairs whose keys have one name may stand in either order, and numbers that are no
+/// key's have one name, the empty one. That a range shows none of these follows from the whole record, and not from one list.
+pub fn a_call_is_cut_as_it_is_spelt()
+    ensures { (plan : Plan) (worker before : ℕ) (call : Call) → is_told call.operation ≡ true → Cuts (SpellsCall plan worker before call) (call_cut plan worker call) }
+{}
+
+/// Where each call of a script is cut as it is spelt, a list and the script are cut into one line: the calls that returned, and what
+/// stands behind them. What they are cut into is a line of them, and a line of them that has ended is what they are cut into. So it is of
+/// the list of each worker whose script has no `range`. A worker that hasn't ended may have made all the items of its last call, and not
+/// have returned from it. Its list is the same as if it had, so the list doesn't tell, and the function takes the call as done.
 pub fn a_list_is_cut_into_one_line()
     ensures by { (plan : Plan) (worker : ℕ) (told : Call → Bool) (cut : ℕ → Call → Cutter (Reply ℕ)) → CutsCalls plan worker told cut → CutsLines plan worker told cut }
     ensures lines { (plan : Plan) (worker : ℕ) → CutsLines plan worker (λ call. is_told call.operation) (λ before call. call_cut plan worker call) }
-{}
-
-/// A call of a workload is cut from a list by a function just as it is spelt, but for a range and a call of a reader/writer mutex.
-pub fn a_call_is_cut_as_it_is_spelt()
-    ensures { (plan : Plan) (worker before : ℕ) (call : Call) → is_told call.operation ≡ true → Cuts (SpellsCall plan worker before call) (call_cut plan worker call) }
 {}
