@@ -138,39 +138,40 @@ module _ {O : Type 0} where
 
 -- ---- another outcome
 
-module _ {O P : Type 0} (f : O → P) (part : Part O) (cut : Cutter O) (cuts : Cuts part cut) where
-  record Read (items rest : List Made) (answer : CallAnswer P) (found : Beginning O) : Type 0 where
-    given : CallAnswer O
-    is : found ≡ whole items given rest
-    read : answer ≡ with_outcome f given
+module _ {O P : Type 0} (f : O → P) where
+  pub record Read (items rest : List Made) (answer : CallAnswer P) (found : Beginning O) : Type 0 where
+    pub given : CallAnswer O
+    pub is : found ≡ whole items given rest
+    pub read : answer ≡ with_outcome f given
 
-  read_whole : (found : Beginning O) (items rest : List Made) (answer : CallAnswer P) → read_beginning f found ≡ whole items answer rest → Read items rest answer found
+  pub read_whole : (found : Beginning O) (items rest : List Made) (answer : CallAnswer P) → read_beginning f found ≡ whole items answer rest → Read items rest answer found
   read_whole (whole others given more) items rest answer e =
       let same = same_whole others items (with_outcome f given) answer more rest e in
       record { given = given; is = ap (λ (l : List Made). whole l given more) same.items_are ∙ ap (λ (r : List Made). whole items given r) same.rests_are; read = sym same.answers_are }
   read_whole within items rest answer e = absurd (within_whole items rest answer e)
   read_whole wrong items rest answer e = absurd (wrong_whole items rest answer e)
 
-  read_within : (found : Beginning O) → read_beginning f found ≡ within → found ≡ within
+  pub read_within : (found : Beginning O) → read_beginning f found ≡ within → found ≡ within
   read_within (whole others given more) e = absurd (whole_within others more (with_outcome f given) e)
   read_within within e = refl
   read_within wrong e = absurd (wrong_within e)
 
-  read_wrong : (found : Beginning O) → read_beginning f found ≡ wrong → found ≡ wrong
+  pub read_wrong : (found : Beginning O) → read_beginning f found ≡ wrong → found ≡ wrong
   read_wrong (whole others given more) e = absurd (whole_wrong others more (with_outcome f given) e)
   read_wrong within e = absurd (within_wrong e)
   read_wrong wrong e = refl
 
+module _ {O P : Type 0} (f : O → P) (part : Part O) (cut : Cutter O) (cuts : Cuts part cut) where
   pub read_cuts : Cuts (read_as f part) (read_cut f cut)
   read_cuts = record {
     sound = λ list items rest answer e.
-        let found = read_whole (cut list) items rest answer e in
+        let found = read_whole f (cut list) items rest answer e in
         let spelt = cuts.sound list items rest found.given found.is in
         (spelt.0, (found.given, spelt.1, found.read));
     complete = λ items rest answer (given, spelt, is).
         ap (read_beginning f) (cuts.complete items rest given spelt) ∙ ap (λ (a : CallAnswer P). whole items a rest) (sym is);
-    goes_on = λ list e. further list (cuts.goes_on list (read_within (cut list) e));
-    stays = λ list later e. ap (read_beginning f) (cuts.stays list later (read_wrong (cut list) e));
+    goes_on = λ list e. further list (cuts.goes_on list (read_within f (cut list) e));
+    stays = λ list later e. ap (read_beginning f) (cuts.stays list later (read_wrong f (cut list) e));
   }
     where
       further : (list : List Made) → (later : List Made) × (answer : CallAnswer O) × part (list ++ later) answer → (later : List Made) × (answer : CallAnswer P) × read_as f part (list ++ later) answer

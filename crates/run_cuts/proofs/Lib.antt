@@ -6,6 +6,7 @@ mod LineCut
 mod MutexCut
 mod OnceCut
 mod PoolCut
+mod RangeCut
 mod RwMutexCut
 mod SharedCut
 mod WriterCut

@@ -7,5 +7,6 @@ pub mod MutexCuts
 pub mod OnceCuts
 pub mod OneLine
 pub mod PoolCuts
+pub mod RangeCuts
 pub mod RwMutexCuts
 pub mod SharedCuts

@@ -20,6 +20,7 @@ ghost use Rattle.run_cuts.specs.MutexCuts.{mutex_cut};
 ghost use Rattle.run_cuts.specs.OnceCuts.{do_cut, func_cut, value_cut};
 ghost use Rattle.run_cuts.specs.OneLine.{CutsCalls, CutsLines};
 ghost use Rattle.run_cuts.specs.PoolCuts.{pool_cut};
+ghost use Rattle.run_cuts.specs.RangeCuts.{CutsRange};
 ghost use Rattle.run_cuts.specs.RwMutexCuts.{rw_mutex_cut};
 ghost use Rattle.run_cuts.specs.SharedCuts.{adds_cut, atomic_cut, map_cut};
 
@@ -40,6 +41,12 @@ pub fn calls_are_cut_as_they_are_spelt()
     ensures once_value { (object value : ℕ) → Cuts (value_call object value) (value_cut object value) }
     ensures pool { (workers worker first : ℕ) (call : PoolCall) → Cuts (pool_call workers worker first call) (pool_cut workers worker first call) }
     ensures wait_group { (object : ℕ) (call : WaitGroupCall) → Cuts (wait_group_call object call) (group_cut object call) }
+{}
+
+/// The items of a `range`, with the pairs that it showed, are cut from a list just as they are spelt. Its reply is one that sorts these
+/// pairs by the names of their keys, and each such reply is one of it.
+pub fn the_items_of_a_range_are_cut()
+    ensures { (keys : List (List ℕ)) (m begin : ℕ) → CutsRange keys m begin }
 {}
 
 /// A call of a workload is cut from a list by a function just as it is spelt, but for a `range`. Its items don't fix its reply: the
