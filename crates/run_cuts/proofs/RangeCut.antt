@@ -1,5 +1,5 @@
 -- That the items of a range are cut as they are spelt.
-use Rattle.std.proofs.Common.{◌≡◌, ◌∙◌, ℕ, Bool, true, false, eqb, cond, List, [], ◌∷◌, ◌++◌, map, length, get_or, Some, None, refl, sym, ap, subst, arith}
+use Rattle.std.proofs.Common.{◌≡◌, ◌∙◌, ℕ, Bool, true, false, cond, List, [], ◌∷◌, ◌++◌, map, length, get_or, Some, None, refl, sym, ap, subst, arith}
 use Rattle.std.specs.Prelude.{Ok}
 use Rattle.std.proofs.lemmas.Bool.{eqb-true, eq-eqb, cond-true}
 use Rattle.sync_model.specs.declared.answer.Answer.TheVariants.{Done}
@@ -13,9 +13,9 @@ use Rattle.script_calls.specs.declared.call.Reply.{Reply}
 use Rattle.script_calls.specs.declared.call.Reply.TheVariants as replies
 use Rattle.run_record.specs.declared.made.Made.{Made}
 use Rattle.run_record.specs.declared.made.Made.TheVariants.{Shared, Entered}
-use Rattle.run_record.specs.MapKind.{AreSorted, cursor_showing, range_call, step_showing}
+use Rattle.run_record.specs.MapKind.{AreSorted, range_call, step_showing}
 use Rattle.run_record.specs.Parts.{Places, with_outcome}
-use Rattle.run_cuts.specs.Cuts.{Beginning, whole, within, wrong, Cuts, behind, read_beginning}
+use Rattle.run_cuts.specs.Cuts.{Beginning, whole, within, wrong, behind, read_beginning}
 use Rattle.run_cuts.specs.RangeCuts.{Pairs, is_begin, is_step, by_shown, steps_cut, by_begun, shows_cut, shows, CutsRange}
 use Rattle.run_cuts.proofs.CutLemmas.{same_whole, within_whole, wrong_whole, whole_within, whole_wrong, within_wrong, wrong_within, behind_whole, behind_within, behind_wrong, read_whole, read_within, read_wrong}
 

@@ -20,7 +20,7 @@ use Rattle.run_cuts.specs.PoolCuts.{pool_cut}
 use Rattle.run_cuts.specs.RwMutexCuts.{rw_mutex_cut}
 use Rattle.run_cuts.specs.SharedCuts.{atomic_cut, map_cut}
 
--- Whether the function tells how such a call is cut: each but a range. A range replies its pairs sorted by the names of their keys. Its items don't fix the order of two pairs whose keys have one name, and all numbers that are no key's have one name, the empty one.
+-- Whether the function tells how such a call is cut: each but a range. A range replies its pairs sorted by the names of their keys. Its items don't fix the order of two pairs whose keys have one name: a key that is shown twice, or numbers that are no key's, which have one name, the empty one. Its items are cut by `shows_cut`.
 abbrev pub is_told : Operation → Bool
 is_told operations.Range = false
 is_told operation = true

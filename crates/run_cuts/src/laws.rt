@@ -43,15 +43,16 @@ pub fn calls_are_cut_as_they_are_spelt()
     ensures wait_group { (object : ℕ) (call : WaitGroupCall) → Cuts (wait_group_call object call) (group_cut object call) }
 {}
 
-/// The items of a `range`, with the pairs that it showed, are cut from a list just as they are spelt. Its reply is one that sorts these
-/// pairs by the names of their keys, and each such reply is one of it.
+/// The items of a `range`, with the pairs that it showed, are cut from a list by a function just as they are spelt. It may reply these
+/// pairs in each order that sorts them by the names of their keys, and in no other.
 pub fn the_items_of_a_range_are_cut()
     ensures { (keys : List (List ℕ)) (m begin : ℕ) → CutsRange keys m begin }
 {}
 
 /// A call of a workload is cut from a list by a function just as it is spelt, but for a `range`. Its items don't fix its reply: the
-/// pairs are sorted by the names of their keys, two pairs whose keys have one name may stand in either order, and numbers that are no
-/// key's have one name, the empty one. That a range shows none of these follows from the whole record, and not from one list.
+/// pairs are sorted by the names of their keys, and two pairs whose keys have one name may stand in either order. So it is where a key is
+/// shown twice, and where numbers are shown that are no key's, which have one name, the empty one. That neither happens follows from
+/// the whole record, and not from one list.
 pub fn a_call_is_cut_as_it_is_spelt()
     ensures { (plan : Plan) (worker before : ℕ) (call : Call) → is_told call.operation ≡ true → Cuts (SpellsCall plan worker before call) (call_cut plan worker call) }
 {}
