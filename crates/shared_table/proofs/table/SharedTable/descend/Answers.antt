@@ -20,6 +20,8 @@ pub returns-in-Entry-clause-reached : goal.returns-in-Entry-clause-reached
 returns-in-Entry-clause-reached c =
     let left = c.read_entry_inside-held.ensures.left in
     let loop = c.loop-level.invariant in
-    let found = c.in-Entry.ensures.found in
-    (left.0 ∙ found.0 ∙ loop.at.slots, ends_entry (begin_of c.args.self.now.words) c.args.seat.now.me c.args.map c.args.key c.requires.writing c.args.call c.loop-level.seat.me c.look_uncounted.new.seat.me c.loop-level.node c.loop-level.level loop.at found.0
-        loop.below c.in-Entry.place c.read_entry_inside-held.result c.read_entry_inside-held.new.seat.me.0 found.1 left.1 c.read_entry_inside-held.ensures.value _ c.at-in-Entry.ensures)
+    let found = c.in-Entry.ensures.found in (
+      left.0 ∙ found.0 ∙ loop.at.slots,
+      ends_entry (begin_of c.args.self.now.words) c.args.seat.now.me c.args.map c.args.key c.requires.writing c.args.call c.loop-level.seat.me c.look_uncounted.new.seat.me c.loop-level.node c.loop-level.level loop.at found.0
+          loop.below c.in-Entry.place c.read_entry_inside-held.result c.read_entry_inside-held.new.seat.me.0 found.1 left.1 c.read_entry_inside-held.ensures.value _ c.at-in-Entry.ensures,
+    )
