@@ -1,5 +1,5 @@
 //! A worker that was started finds in a map what its starter stored.
-ghost use Rattle.std.specs.Prelude.{◌≡◌, ◌<◌, IfOk, All};
+ghost use Rattle.std.specs.Prelude.{◌≡◌, ◌<◌, IfOk, IfSome, All};
 ghost use Rattle.std.specs.Thread.{IsSync};
 ghost use Rattle.sync_model.specs.Shared.{IsCallerAt};
 ghost use Rattle.shared_table.specs.Notes.{own_by, IsNoteOf};
@@ -48,6 +48,15 @@ fn workers(
     let note = caller.note.copy(table);
     let (starts, passes) = Starts::new(alloc, 2, MAX_CALLS, &[false, true], note)?;
     Ok((starts, passes))
+}
+
+// The last of these passes.
+fn last_of(starts: &Workers, passes: &mut Vec<WorkerPass>) -> Option<WorkerPass>
+    requires { All (IsPassOf starts.now) passes.old.items }
+    ensures rest { All (IsPassOf starts.now) passes.new.items }
+    ensures one { IfSome result (λ pass. IsPassOf starts.now pass) }
+{
+    passes.pop()
 }
 
 // Stores, and then starts worker 1.
@@ -137,8 +146,8 @@ fn a_started_worker_finds_what_its_starter_stored(rt: HostRuntime) -> Result<(),
     let second = take(&table, &mut callers).expect(&rt, "caller 1");
     let mut first = take(&table, &mut callers).expect(&rt, "caller 0");
     let (starts, mut passes) = workers(rt.alloc(), &table, &mut first)?;
-    let other = passes.pop().expect(&rt, "the pass of worker 1");
-    let pass = passes.pop().expect(&rt, "the pass of worker 0");
+    let other = last_of(&starts, &mut passes).expect(&rt, "the pass of worker 1");
+    let pass = last_of(&starts, &mut passes).expect(&rt, "the pass of worker 0");
     let found = beside::<_, Brand>(
         &rt,
         &table,

@@ -6,5 +6,5 @@ use Rattle.measure.proofs.sema.SemaMeasured.new.Goals as goal
 pub returns : goal.returns
 returns g c = λ k d below. (
   (c.in_ok-sema.ensures.passes.all.each k _ (slice_get-get_or c.in_ok-sema.passes.items k d below)).0,
-  subst (λ (start : SemaState). 1 ≤ start.size) (sym c.in_ok-sema.ensures.sema.1.0) c.room_of-size.ensures.0,
+  subst (λ (start : SemaState). 1 ≤ start.size) (sym c.in_ok-sema.ensures.sema.1) c.room_of-size.ensures.0,
 )
