@@ -3,7 +3,7 @@ use Rattle.std.specs.Prelude.{◌≡◌, ℕ, ◌+◌, ◌<◌, ◌≤◌, Bool,
 use mathlib.Core.Option.{some}
 use lib.ListN.{get_elem?}
 use Rattle.sync_model.specs.declared.journal.Entry.{Entry}
-use Rattle.sync_model.specs.Journal.{Begins, by, KeepsEdges, Follows}
+use Rattle.sync_model.specs.Journal.{Begins, by, KeepsEdges, TimesRise, Follows}
 use Rattle.ruled_object.specs.declared.object.Object.{Object}
 use Rattle.ruled_object.specs.declared.pass.Pass.{Pass}
 use Rattle.ruled_object.specs.declared.view.Own.{Own}
@@ -62,6 +62,7 @@ pub record IsDealt {M N S E R H : Type 0} (object : Object M N S E R H) (n : ℕ
 pub record IsWhole {S N E R : Type 0} (next : S → ℕ → E → S × R) (halts : Bool) (frees takes : E → R → Bool) (start : S) (journal : List (Entry E R)) (passes : List (Pass S N E R)) : Type 0 where
   pub follows : Follows next halts start None journal
   pub edges : KeepsEdges frees takes journal
+  pub times : TimesRise journal
   pub owns : (i : ℕ) (pass : Pass S N E R) → slice_get passes i ≡ Some pass → own_by pass ≡ by i journal
   pub seen : (i : ℕ) (pass : Pass S N E R) → slice_get passes i ≡ Some pass → Begins journal (seen_by pass)
   pub callers : (c : ℕ) → length passes ≤ c → by c journal ≡ []

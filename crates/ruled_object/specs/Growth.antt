@@ -7,8 +7,8 @@ use Rattle.sync_model.specs.declared.answer.Answer.TheVariants.{Done, Halted}
 use Rattle.sync_model.specs.declared.journal.Deed.{Deed}
 use Rattle.sync_model.specs.declared.journal.Deed.TheVariants.{Event, Refused, Halt}
 use Rattle.sync_model.specs.declared.journal.Entry.{Entry}
-use Rattle.sync_model.specs.Front.{AtLeast}
-use Rattle.sync_model.specs.Journal.{Begins, halt_of, by, KeepsEdges, Rising, state_after, Right, Follows}
+use Rattle.sync_model.specs.Front.{Front, NoLess}
+use Rattle.sync_model.specs.Journal.{Begins, halt_of, by, KeepsEdges, TimesRise, Rising, state_after, Right, Follows}
 use Rattle.sync_model.specs.Note.{SameHome, Holding}
 use Rattle.ruled_object.specs.declared.pass.Pass.{Pass}
 use Rattle.ruled_object.specs.Cells.{deed_of}
@@ -50,7 +50,7 @@ module _ {S E R : Type 0} where
       (p.entry.caller ≡ caller) × Right next halts (state_after next start p.before) (halt_of p.before) caller p.entry.deed
 
 -- The pass's caller made these entries, in order, and no others. `from` is the front of its note before them, and `to` the front after them.
-pub record Grows {S N E R : Type 0} (next : S → ℕ → E → S × R) (halts : Bool) (start : S) (old : Pass S N E R) (from : List ℕ) (es : List (Placed E R)) (new : Pass S N E R) (to : List ℕ) : Type 0 where
+pub record Grows {S N E R : Type 0} (next : S → ℕ → E → S × R) (halts : Bool) (start : S) (old : Pass S N E R) (from : Front) (es : List (Placed E R)) (new : Pass S N E R) (to : Front) : Type 0 where
   pub history : Leads (seen_by old) es (seen_by new)
   pub mine : own_by new ≡ own_by old ++ entries_of es
   pub right : AllByRecursion (IsRight next halts start (number_of old)) es
@@ -60,7 +60,7 @@ pub record Grows {S N E R : Type 0} (next : S → ℕ → E → S × R) (halts :
 -- what two calls add, one after the other, they add together
 abbrev pub AddUp : {S E R : Type 0} → Type 0 → (S → ℕ → E → S × R) → Bool → S → Type 0
 AddUp {S} {E} {R} N next halts start =
-    (old mid new : Pass S N E R) (es fs : List (Placed E R)) (from between to : List ℕ) → Grows next halts start old from es mid between → Grows next halts start mid between fs new to
+    (old mid new : Pass S N E R) (es fs : List (Placed E R)) (from between to : Front) → Grows next halts start old from es mid between → Grows next halts start mid between fs new to
     → Grows next halts start old from (es ++ fs) new to
 
 -- of several entries the last one tells whether a halt was met
@@ -68,7 +68,7 @@ abbrev pub LastTells : Type 0 → Type 0 → Type 0
 LastTells E R = (es : List (Placed E R)) (last : Placed E R) (answer : Answer R) → MeetsHalt (last ∷ []) answer → MeetsHalt (es ++ last ∷ []) answer
 
 -- The pass's caller made one event, which was answered this. What stands before it follows the machine, and has of the caller what the pass had.
-pub record Makes {S N E R : Type 0} (next : S → ℕ → E → S × R) (halts : Bool) (start : S) (old : Pass S N E R) (from : List ℕ) (event : E) (answer : Answer R) (new : Pass S N E R) (to : List ℕ) : Type 0 where
+pub record Makes {S N E R : Type 0} (next : S → ℕ → E → S × R) (halts : Bool) (start : S) (old : Pass S N E R) (from : Front) (event : E) (answer : Answer R) (new : Pass S N E R) (to : Front) : Type 0 where
   pub one : Placed E R
   pub grows : Grows next halts start old from (one ∷ []) new to
   pub deed : one.entry.deed ≡ deed_of event answer
@@ -76,17 +76,18 @@ pub record Makes {S N E R : Type 0} (next : S → ℕ → E → S × R) (halts :
   pub own : own_by old ≡ by (number_of old) one.before
   pub follows : Follows next halts start None one.before
 
--- What a pass shows of the history follows the machine from its start, keeps the edge law, and has of its caller what the pass has.
+-- What a pass shows of the history follows the machine from its start and keeps the edge law, its numbers rise, and it has of its caller what the pass has.
 pub record IsLawful {S N E R : Type 0} (next : S → ℕ → E → S × R) (halts : Bool) (frees takes : E → R → Bool) (start : S) (pass : Pass S N E R) : Type 0 where
   pub own : own_by pass ≡ by (number_of pass) (seen_by pass)
   pub follows : Follows next halts start None (seen_by pass)
   pub edges : KeepsEdges frees takes (seen_by pass)
+  pub times : TimesRise (seen_by pass)
 
 -- the note stays its holder's and at its home, and what it knows never gets less
-pub record KeepsNote {H N : Type 0} (at : H → N → Type 0) (own : N → Option Holding) (front : N → List ℕ) (old new : N) : Type 0 where
+pub record KeepsNote {H N : Type 0} (at : H → N → Type 0) (own : N → Option Holding) (front : N → Front) (old new : N) : Type 0 where
   pub home : SameHome at old new
   pub kept : own new ≡ own old
-  pub rises : AtLeast (front new) (front old)
+  pub rises : NoLess (front new) (front old)
 
 module _ {S E R : Type 0} where
   -- the word alone decides this deed of a caller at this state: an event that it decides, and each event that is refused
@@ -96,6 +97,6 @@ module _ {S E R : Type 0} where
   IsAlone alone state caller (Halt misuse) = ⊥
 
 -- Where the pass's caller made one entry alone, and the word alone decides it at its place, no turn was taken.
-abbrev pub NeedsNoTurn : {S N E R : Type 0} → (S → ℕ → E → S × R) → Bool → (S → ℕ → E → Bool) → S → Pass S N E R → List ℕ → Pass S N E R → List ℕ → Type 0
+abbrev pub NeedsNoTurn : {S N E R : Type 0} → (S → ℕ → E → S × R) → Bool → (S → ℕ → E → Bool) → S → Pass S N E R → Front → Pass S N E R → Front → Type 0
 NeedsNoTurn {S} {N} {E} {R} next halts alone start old from new to =
     (one : Placed E R) → Grows next halts start old from (one ∷ []) new to → IsAlone alone (state_after next start one.before) one.entry.caller one.entry.deed → turns_of new ≡ turns_of old

@@ -3,6 +3,7 @@ use Rattle.std.specs.Prelude.{◌≡◌, ℕ, ◌+◌, ◌<◌, Bool, List, [], 
 use mathlib.Core.Option.{some}
 use lib.ListN.{get_elem?}
 use Rattle.sync_model.specs.declared.journal.Entry.{Entry}
+use Rattle.sync_model.specs.Front.{Front}
 use Rattle.sync_model.specs.Journal.{Begins, by, state_after}
 use Rattle.ruled_object.specs.declared.pass.Pass.{Pass}
 use Rattle.ruled_object.specs.declared.rule.Begin.{Begin}
@@ -35,7 +36,7 @@ module _ {E R : Type 0} where
 abbrev pub WordSays : {S N E R : Type 0} → (S → ℕ → E → S × R) → (S → ℕ) → S → ℕ → Pass S N E R → Type 0
 WordSays next tells start word pass = SaysSo next tells start word pass.seat.me.0.seen pass.seat.me.0
 
-module _ {S N E R H : Type 0} (next : S → ℕ → E → S × R) (halts : Bool) (frees takes : E → R → Bool) (front : N → List ℕ) (at : H → N → Type 0) (tells : S → ℕ) (means : S → ℕ → S) (begin : Begin S N) where
+module _ {S N E R H : Type 0} (next : S → ℕ → E → S × R) (halts : Bool) (frees takes : E → R → Bool) (front : N → Front) (at : H → N → Type 0) (tells : S → ℕ) (means : S → ℕ → S) (begin : Begin S N) where
   -- what a look tells a seat: the history, of which all that it knew is a part
   pub record Finds (v : View E R) (journal : List (Entry E R)) : Type 0 where
     pub seen : Begins journal v.seen

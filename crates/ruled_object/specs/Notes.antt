@@ -1,7 +1,7 @@
 -- Passes and their copies. A copy knows what its pass knew, and stands for nobody.
 use Rattle.std.specs.Prelude.{◌≡◌, ℕ, ◌<◌, ◌≤◌, Bool, List, [], ◌∷◌, Option, Some, None, length}
 use Rattle.sync_model.specs.declared.journal.Entry.{Entry}
-use Rattle.sync_model.specs.Journal.{by, KeepsEdges, Follows}
+use Rattle.sync_model.specs.Journal.{by, KeepsEdges, TimesRise, Follows}
 use Rattle.ruled_object.specs.declared.object.Object.{Object}
 use Rattle.ruled_object.specs.declared.pass.Pass.{Pass}
 use Rattle.ruled_object.specs.declared.view.Own.{Own}
@@ -36,8 +36,9 @@ module _ {S N E R : Type 0} where
   abbrev pub IsCopyOf : Pass S N E R → Pass S N E R → Type 0
   IsCopyOf pass copy = (number_of copy ≡ number_of pass) × (left_of copy ≡ 0) × (seen_by copy ≡ seen_by pass) × (held_by copy ≡ None)
 
--- What a pass or a copy shows of the history follows the machine from its start, keeps the edge law, and has of the caller what a pass holds.
+-- What a pass or a copy shows of the history follows the machine from its start and keeps the edge law, its numbers rise, and it has of the caller what a pass holds.
 pub record Shows {S N E R : Type 0} (next : S → ℕ → E → S × R) (halts : Bool) (frees takes : E → R → Bool) (start : S) (pass : Pass S N E R) : Type 0 where
   pub own : (own : List (Entry E R)) → held_by pass ≡ Some own → own ≡ by (number_of pass) (seen_by pass)
   pub follows : Follows next halts start None (seen_by pass)
   pub edges : KeepsEdges frees takes (seen_by pass)
+  pub times : TimesRise (seen_by pass)

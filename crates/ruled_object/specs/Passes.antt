@@ -1,7 +1,7 @@
 -- What contracts see of an object and of the passes to it.
 use Rattle.std.specs.Prelude.{◌≡◌, ℕ, ◌+◌, ◌<◌, Bool, List, [], ◌∷◌, ◌++◌, None, length, min}
 use Rattle.sync_model.specs.declared.journal.Entry.{Entry}
-use Rattle.sync_model.specs.Journal.{halt_of, by, KeepsEdges, state_after, Right, Follows}
+use Rattle.sync_model.specs.Journal.{halt_of, by, KeepsEdges, TimesRise, state_after, Right, Follows}
 use Rattle.ruled_object.specs.declared.object.Object.{Object}
 use Rattle.ruled_object.specs.declared.pass.Pass.{Pass}
 use Rattle.ruled_object.specs.declared.view.Own.{Own}
@@ -70,7 +70,7 @@ module _ {M N S E R H : Type 0} where
     pub turns : CountsTurns pass
 
 -- One entry more, of the pass's caller: all that it had seen lies before the entry, and what is seen now ends with it.
--- The pass has all entries of its caller, each once. The whole follows the machine from its start and keeps the edge law.
+-- The pass has all entries of its caller, each once. The whole follows the machine from its start and keeps the edge law, and its numbers rise.
 pub record Adds {S N E R : Type 0} (next : S → ℕ → E → S × R) (halts : Bool) (frees takes : E → R → Bool) (start : S) (old : Pass S N E R) (e : Entry E R) (new : Pass S N E R) : Type 0 where
   pub between : List (Entry E R)
   pub history : seen_by new ≡ (seen_by old ++ between) ++ e ∷ []
@@ -81,6 +81,7 @@ pub record Adds {S N E R : Type 0} (next : S → ℕ → E → S × R) (halts : 
   pub right : Right next halts (state_after next start (seen_by old ++ between)) (halt_of (seen_by old ++ between)) (number_of old) e.deed
   pub follows : Follows next halts start None (seen_by new)
   pub edges : KeepsEdges frees takes (seen_by new)
+  pub times : TimesRise (seen_by new)
 
 -- it is the pass of the same caller, good for as many calls
 abbrev pub SamePass : {S N E R : Type 0} → Pass S N E R → Pass S N E R → Type 0

@@ -9,8 +9,9 @@ use mathlib.Core.Option as option
 use lib.ListN.{get_elem?}
 use Rattle.atomic_table.specs.Table.{State}
 use Rattle.sync_model.specs.declared.journal.Entry.{Entry}
+use Rattle.sync_model.specs.Front.{Front}
 use Rattle.sync_model.specs.Note.{SameHome}
-use Rattle.sync_model.specs.Journal.{Begins, halt_of, by, Covers, KeepsEdges, state_after, Follows}
+use Rattle.sync_model.specs.Journal.{Begins, halt_of, by, AllBefore, Covers, KeepsEdges, TimesRise, state_after, Follows}
 use Rattle.ruled_object.specs.declared.cell.Cell.{Cell}
 use Rattle.ruled_object.specs.declared.rule.Begin.{Begin}
 use Rattle.ruled_object.specs.declared.view.Stage.{Stage}
@@ -64,11 +65,12 @@ module _ {S N E R : Type 0} where
     pub owns : (i : ℕ) (own : Own E R) → get_elem? v.owns i ≡ some own → Owned callers journal claim turns seat (v.number + i) own
     pub stage : AtStage journal word turn homes holder seat v.seen v.stage
 
-module _ {S N E R H : Type 0} (next : S → ℕ → E → S × R) (halts : Bool) (frees takes : E → R → Bool) (front : N → List ℕ) (at : H → N → Type 0) (tells : S → ℕ) (means : S → ℕ → S) (begin : Begin S N) where
-  -- a history of the object: it follows the machine, keeps the edge law, and is of the object's callers
+module _ {S N E R H : Type 0} (next : S → ℕ → E → S × R) (halts : Bool) (frees takes : E → R → Bool) (front : N → Front) (at : H → N → Type 0) (tells : S → ℕ) (means : S → ℕ → S) (begin : Begin S N) where
+  -- a history of the object: it follows the machine, keeps the edge law, its numbers rise, and it is of the object's callers
   pub record Lawful (journal : List (Entry E R)) : Type 0 where
     pub follows : Follows next halts begin.state None journal
     pub edges : KeepsEdges frees takes journal
+    pub times : TimesRise journal
     pub callers : (c : ℕ) → begin.callers ≤ c → by c journal ≡ []
 
   -- the cell, with the word, is what the history left: the state in it may be older, and the word tells what has changed since
@@ -77,7 +79,8 @@ module _ {S N E R H : Type 0} (next : S → ℕ → E → S × R) (halts : Bool)
     pub told : word ≡ tells (state_after next begin.state journal)
     pub halted : cell.halted ≡ halt_of journal
     pub home : SameHome at begin.note cell.note
-    pub knows : Covers frees (front cell.note) journal
+    pub knows : Covers frees (front cell.note).counts journal
+    pub past : AllBefore journal (suc (front cell.note).time)
 
   -- the cell lies in the slot
   abbrev pub Rests : List (Entry E R) → ℕ → Homes S N → Type 0

@@ -5,7 +5,8 @@ use lib.ListN.{get_elem?}
 use Rattle.atomic_table.specs.Table.{Me}
 use Rattle.atomic_table.specs.declared.shared.Seat.{Seat}
 use Rattle.sync_model.specs.declared.journal.Entry.{Entry}
-use Rattle.sync_model.specs.Journal.{Begins, halt_of, by, is_such, Covers, state_after, Right}
+use Rattle.sync_model.specs.Front.{Front}
+use Rattle.sync_model.specs.Journal.{Begins, halt_of, by, is_such, AllBefore, Covers, state_after, Right}
 use Rattle.ruled_object.specs.declared.cell.Cell.{Cell}
 use Rattle.ruled_object.specs.declared.rule.Begin.{Begin}
 use Rattle.ruled_object.specs.declared.view.Stage.TheVariants.{Idle, Making, Taken, Deep}
@@ -100,7 +101,7 @@ module _ {S N E R : Type 0} where
   abbrev pub made : Sat S N E R → Sat S N E R → Type 0
   made m n = n ≡ (record m.0 { stage = Taken }, (0, None) ∷ [])
 
-module _ {S N E R H : Type 0} (next : S → ℕ → E → S × R) (halts : Bool) (frees takes : E → R → Bool) (front : N → List ℕ) (at : H → N → Type 0) (tells : S → ℕ) (means : S → ℕ → S) (begin : Begin S N) where
+module _ {S N E R H : Type 0} (next : S → ℕ → E → S × R) (halts : Bool) (frees takes : E → R → Bool) (front : N → Front) (at : H → N → Type 0) (tells : S → ℕ) (means : S → ℕ → S) (begin : Begin S N) where
   -- what a seat learns with the word: the history, of which all that it knew is a part, and the cell that it left
   pub record Learns (v : View E R) (journal : List (Entry E R)) (word : ℕ) (cell : Cell S N) : Type 0 where
     pub seen : Begins journal v.seen
@@ -122,6 +123,7 @@ module _ {S N E R H : Type 0} (next : S → ℕ → E → S × R) (halts : Bool)
     pub caller : e.caller ≡ v.number
     pub right : Right next halts (state_after next begin.state v.seen) (halt_of v.seen) e.caller e.deed
     pub edge : is_such takes e.deed ≡ true → Covers frees e.front v.seen
+    pub later : AllBefore v.seen e.time
     pub lies : Lies next halts frees takes front at tells means begin (v.seen ++ e ∷ []) word cell
 
   -- what is to be shown where the word is given back

@@ -1,7 +1,7 @@
 //! What a seat that has the word does to the cell, which stays where it lies.
 ghost use Rattle.std.specs.Prelude.{◌≡◌, ◌<◌, ◌^◌, ℕ, false, length, None, IsTrue, IfNone, IfSome};
 ghost use Rattle.sync_model.specs.declared.journal.Deed.TheVariants.{Event, Halt};
-ghost use Rattle.sync_model.specs.Front.{AtLeast};
+ghost use Rattle.sync_model.specs.Front.{SameCounts, Later};
 ghost use Rattle.sync_model.specs.Journal.{is_such};
 ghost use Rattle.sync_model.specs.Note.{SameHome};
 ghost use Rattle.ruled_object.specs.declared.view.Stage.TheVariants.{Deep, Taken};
@@ -38,8 +38,8 @@ impl<M: Worded, N: Note> Object<M, N> {
             × (IsAlone M.alone (M.means old.state word) pass.old.number (deed_of event result.0) → turns_of pass.new ≡ turns_of pass.old))) }
         ensures free { result.2 < 2 ^ 63 }
         ensures home { SameHome N.at note.old note.new }
-        ensures note { (N.own note.new ≡ N.own note.old) × AtLeast (N.front note.new) (N.front note.old) }
-        ensures no_edge { is_such M.takes (deed_of event result.0) ≡ false → N.front note.new ≡ N.front note.old }
+        ensures note { (N.own note.new ≡ N.own note.old) × Later (N.front note.new) (N.front note.old) }
+        ensures no_edge { is_such M.takes (deed_of event result.0) ≡ false → SameCounts (N.front note.new) (N.front note.old) }
     {
         if let Some(did) = self.act_quick(&mut pass.seat, home, pass.number, note, event, word) {
             return did;
@@ -76,10 +76,10 @@ impl<M: Worded, N: Note> Object<M, N> {
         ensures seat { IsSameSeat seat.old seat.new × (seat.new.me.0 ≡ seat.old.me.0) }
         ensures acts { IfSome result (λ did. HasCell seat.old.me (λ old. HasCell seat.new.me (λ new. Acts M.next M.HALTS M.frees M.takes N.front M.tells M.means caller (deed_of event did.0) (N.front note.new) word old did.2 new × SameHome N.at old.note new.note))) }
         ensures free { IfSome result (λ did. did.2 < 2 ^ 63) }
-        ensures no_edge { IfSome result (λ did. is_such M.takes (deed_of event did.0) ≡ false → N.front note.new ≡ N.front note.old) }
+        ensures no_edge { IfSome result (λ did. is_such M.takes (deed_of event did.0) ≡ false → SameCounts (N.front note.new) (N.front note.old)) }
         ensures left { IfNone result ((note.new ≡ note.old) × HasCell seat.old.me (λ cell. (seat.new.me ≡ seat.old.me) × (cell.halted ≡ None) × (M.alone (M.means cell.state word) caller event ≡ false))) }
         ensures home { SameHome N.at note.old note.new }
-        ensures note { (N.own note.new ≡ N.own note.old) × AtLeast (N.front note.new) (N.front note.old) }
+        ensures note { IfSome result (λ _. (N.own note.new ≡ N.own note.old) × Later (N.front note.new) (N.front note.old)) }
     {
         match seat.slot_mut(&self.table.shared, SLOT) {
             Some(cell) => cell.apply_quick::<M>(home, caller, note, event, word),
@@ -104,9 +104,9 @@ impl<M: Worded, N: Note> Object<M, N> {
         ensures seat { IsSameSeat seat.old seat.new × (seat.new.me.0 ≡ seat.old.me.0) }
         ensures acts { HasCell seat.old.me (λ old. HasCell seat.new.me (λ new. Acts M.next M.HALTS M.frees M.takes N.front M.tells M.means caller (Event event result.0) (N.front note.new) word old result.2 new × SameHome N.at old.note new.note)) }
         ensures free { result.2 < 2 ^ 63 }
-        ensures no_edge { M.takes event result.0 ≡ false → N.front note.new ≡ N.front note.old }
+        ensures no_edge { M.takes event result.0 ≡ false → SameCounts (N.front note.new) (N.front note.old) }
         ensures home { SameHome N.at note.old note.new }
-        ensures note { (N.own note.new ≡ N.own note.old) × AtLeast (N.front note.new) (N.front note.old) }
+        ensures note { (N.own note.new ≡ N.own note.old) × Later (N.front note.new) (N.front note.old) }
     {
         match seat.slot_mut(&self.table.shared, SLOT) {
             Some(cell) => cell.apply::<M>(home, caller, note, event, word),
@@ -115,12 +115,21 @@ impl<M: Worded, N: Note> Object<M, N> {
     }
 
     // Halts the object. The first misuse is kept.
-    pub(crate) fn act_halt(&self, seat: &mut SeatOf<M, N>, misuse: Misuse, note: &N, word: u64)
+    pub(crate) fn act_halt(
+        &self,
+        seat: &mut SeatOf<M, N>,
+        misuse: Misuse,
+        note: &mut N,
+        word: u64,
+    )
         requires halts { IsTrue M.HALTS }
         requires seat { seat.old.table_id ≡ self.now.table.shared.table_id }
         requires held { HasCell seat.old.me (λ cell. word ≡ M.tells (M.means cell.state word)) }
         ensures seat { IsSameSeat seat.old seat.new × (seat.new.me.0 ≡ seat.old.me.0) }
-        ensures acts { HasCell seat.old.me (λ old. HasCell seat.new.me (λ new. ((caller : ℕ) → Acts M.next M.HALTS M.frees M.takes N.front M.tells M.means caller (Halt misuse) (N.front note.now) word old word new) × SameHome N.at old.note new.note)) }
+        ensures acts { HasCell seat.old.me (λ old. HasCell seat.new.me (λ new. ((caller : ℕ) → Acts M.next M.HALTS M.frees M.takes N.front M.tells M.means caller (Halt misuse) (N.front note.new) word old word new) × SameHome N.at old.note new.note)) }
+        ensures home { SameHome N.at note.old note.new }
+        ensures note { (N.own note.new ≡ N.own note.old) × Later (N.front note.new) (N.front note.old) }
+        ensures no_edge { SameCounts (N.front note.new) (N.front note.old) }
     {
         match seat.slot_mut(&self.table.shared, SLOT) {
             Some(cell) => cell.halt::<M>(misuse, note, word),

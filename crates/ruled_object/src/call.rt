@@ -4,7 +4,8 @@ ghost use Rattle.sync_types.specs.declared.misuse.Misuse.{Misuse};
 ghost use Rattle.sync_model.specs.declared.answer.Answer.TheVariants.{Halted};
 ghost use Rattle.sync_model.specs.declared.journal.Deed.TheVariants.{Halt};
 ghost use Rattle.sync_model.specs.declared.journal.Entry.{Entry};
-ghost use Rattle.sync_model.specs.Journal.{is_such};
+ghost use Rattle.sync_model.specs.Front.{SameCounts, Later};
+ghost use Rattle.sync_model.specs.Journal.{front_at, is_such};
 ghost use Rattle.ruled_object.specs.Cells.{deed_of};
 ghost use Rattle.ruled_object.specs.Growth.{IsLawful, KeepsNote, Makes, NeedsNoTurn};
 ghost use Rattle.ruled_object.specs.Passes.{start_of, turns_of, IsHomeOf, IsPassOf, Adds, SamePass};
@@ -29,6 +30,9 @@ impl<M: Worded, N: Note> Object<M, N> {
     ///
     /// An event that acquires synchronizes after each earlier one that releases: the caller's note then knows all that
     /// theirs knew. After any other event, and after `Halted`, it knows what it knew before.
+    ///
+    /// Whatever the event, and whatever its answer, it has a number past that of each event before it in the history, and
+    /// past that of each event that its caller had made before, on whichever objects.
     #[inline(always)]
     pub fn call<R: Wait>(
         &self,
@@ -41,11 +45,11 @@ impl<M: Worded, N: Note> Object<M, N> {
         requires pass { IsPassOf self.now pass.old }
         requires home { IsHomeOf N.at self.now home.now × N.at home.now note.old }
         ensures pass { IsPassOf self.now pass.new × SamePass pass.old pass.new }
-        ensures entry { (e : Entry M.Event M.Reply) × Adds M.next M.HALTS M.frees M.takes (start_of self.now) pass.old e pass.new × (e.deed ≡ deed_of event result) × (e.front ≡ N.front note.new) }
+        ensures entry { (e : Entry M.Event M.Reply) × Adds M.next M.HALTS M.frees M.takes (start_of self.now) pass.old e pass.new × (e.deed ≡ deed_of event result) × (front_at e ≡ N.front note.new) }
         ensures makes { Makes M.next M.HALTS (start_of self.now) pass.old (N.front note.old) event result pass.new (N.front note.new) }
         ensures journal { IsLawful M.next M.HALTS M.frees M.takes (start_of self.now) pass.new }
         ensures note { KeepsNote N.at N.own N.front note.old note.new }
-        ensures no_edge { is_such M.takes (deed_of event result) ≡ false → N.front note.new ≡ N.front note.old }
+        ensures no_edge { is_such M.takes (deed_of event result) ≡ false → SameCounts (N.front note.new) (N.front note.old) }
         ensures halts { M.HALTS ≡ false → (m : Misuse) → result ≡ Halted m → ⊥ }
         ensures quick { NeedsNoTurn M.next M.HALTS M.alone (start_of self.now) pass.old (N.front note.old) pass.new (N.front note.new) }
     {
@@ -59,12 +63,16 @@ impl<M: Worded, N: Note> Object<M, N> {
     }
 
     /// Halts the object by a misuse. It is one entry of the history, placed as a call's is. The first halt is kept: from
-    /// then on each event is answered `Halted` with its misuse. It neither releases nor acquires, so the note is read alone.
-    pub fn halt<R: Wait>(&self, rt: &R, pass: &mut PassOf<M, N>, note: &N, misuse: Misuse)
+    /// then on each event is answered `Halted` with its misuse. It neither releases nor acquires, so the caller knows what it
+    /// knew before.
+    pub fn halt<R: Wait>(&self, rt: &R, pass: &mut PassOf<M, N>, note: &mut N, misuse: Misuse)
         requires halts { IsTrue M.HALTS }
         requires pass { IsPassOf self.now pass.old }
         ensures pass { IsPassOf self.now pass.new × SamePass pass.old pass.new }
-        ensures entry { (e : Entry M.Event M.Reply) × Adds M.next M.HALTS M.frees M.takes (start_of self.now) pass.old e pass.new × (e.deed ≡ Halt misuse) × (e.front ≡ N.front note.now) }
+        ensures entry { (e : Entry M.Event M.Reply) × Adds M.next M.HALTS M.frees M.takes (start_of self.now) pass.old e pass.new × (e.deed ≡ Halt misuse) × (front_at e ≡ N.front note.new) }
+        ensures later { Later (N.front note.new) (N.front note.old) }
+        ensures note { KeepsNote N.at N.own N.front note.old note.new }
+        ensures no_edge { SameCounts (N.front note.new) (N.front note.old) }
         ensures turns { turns_of pass.new ≡ turns_of pass.old }
     {
         let word = self.take_word::<Brand, R>(rt, &mut pass.seat);

@@ -21,7 +21,7 @@ use sync_model::{MAX_CALLERS, Note, Worded};
 /// What several calls of one caller add to the history. No call adds nothing; what two calls add, one after the other,
 /// they add together; and of several entries the last one tells whether a halt was met.
 pub fn growth<M: Worded, N: Note>()
-    ensures nothing { (start : M.State) (pass : Pass M.State N M.Event M.Reply) (front : List ℕ)
+    ensures nothing { (start : M.State) (pass : Pass M.State N M.Event M.Reply) (front : Front)
         → Grows M.next M.HALTS start pass front [] pass front }
     ensures both { (start : M.State) → AddUp N M.next M.HALTS start }
     ensures halted { LastTells M.Event M.Reply }
@@ -69,9 +69,9 @@ pub fn all_handed_back<M: Worded, N: Note>()
 /// Who made one event that the word alone decides took no turn, also where it took off a call before; and who made several
 /// events didn't make one alone.
 pub fn turns_needed<M: Worded, N: Note>()
-    ensures spent { (start : M.State) (old mid new : Pass M.State N M.Event M.Reply) (from to : List ℕ)
+    ensures spent { (start : M.State) (old mid new : Pass M.State N M.Event M.Reply) (from to : Front)
         → IsSpent old mid → NeedsNoTurn M.next M.HALTS M.alone start mid from new to → NeedsNoTurn M.next M.HALTS M.alone start old from new to }
-    ensures several { (start : M.State) (old new : Pass M.State N M.Event M.Reply) (es : List (Placed M.Event M.Reply)) (low high from to : List ℕ)
+    ensures several { (start : M.State) (old new : Pass M.State N M.Event M.Reply) (es : List (Placed M.Event M.Reply)) (low high from to : Front)
         → Grows M.next M.HALTS start old low es new high → 1 < length es → NeedsNoTurn M.next M.HALTS M.alone start old from new to }
 {}
 

@@ -16,7 +16,7 @@ impl<M: Worded, N: Note> Object<M, N> {
         requires pass { IsPassOf self.now pass.old }
         requires calls { calls ≤ MAX_CALLS }
         ensures pass { IsPassOf self.now pass.new × IsRenewed calls pass.old pass.new }
-        ensures nothing { (start : M.State) (front : List ℕ) → Grows M.next M.HALTS start pass.old front [] pass.new front }
+        ensures nothing { (start : M.State) (front : Front) → Grows M.next M.HALTS start pass.old front [] pass.new front }
     {
         pass.left = calls;
     }

@@ -15,7 +15,7 @@ impl<M: Worded, N: Note> Object<M, N> {
         ensures pass { IsPassOf self.now pass.new × IsSpent pass.old pass.new }
         ensures less { IsOneLess pass.old pass.new }
         ensures own { own_by pass.new ≡ own_by pass.old }
-        ensures nothing { (start : M.State) (front : List ℕ) → Grows M.next M.HALTS start pass.old front [] pass.new front }
+        ensures nothing { (start : M.State) (front : Front) → Grows M.next M.HALTS start pass.old front [] pass.new front }
     {
         pass.left -= 1;
     }

@@ -1,12 +1,12 @@
 -- Journals in two parts, and as logs.
-use Rattle.std.proofs.Common.{◌≡◌, ◌≢◌, ℕ, suc, ◌+◌, Bool, true, List, [], ◌∷◌, ◌++◌, length, Option, Some, None, slice_get, refl, sym, ap, ◌∙◌, subst, arith}
+use Rattle.std.proofs.Common.{◌≡◌, ◌≢◌, ℕ, suc, ◌+◌, ◌<◌, Bool, true, List, [], ◌∷◌, ◌++◌, length, Option, Some, None, slice_get, refl, sym, ap, ◌∙◌, subst, arith}
 use Rattle.sync_types.specs.declared.misuse.Misuse.{Misuse}
 use Rattle.sync_model.specs.declared.journal.Deed.{Deed}
 use Rattle.sync_model.specs.declared.journal.Deed.TheVariants.{Event, Refused, Halt}
 use Rattle.sync_model.specs.declared.journal.Entry.{Entry}
-use Rattle.sync_model.specs.Front.{AtLeast}
+use Rattle.sync_model.specs.Front.{Front, AtLeast, NoLess, Later}
 use Rattle.sync_model.specs.Log as log
-use Rattle.sync_model.specs.Journal.{logged, log_of, halt_next, halt_after, is_such, KeepsEdges, state_next, state_after, Right, Follows}
+use Rattle.sync_model.specs.Journal.{logged, log_of, halt_next, halt_after, is_such, front_at, KeepsEdges, TimesRise, Rising, state_next, state_after, Right, Follows}
 
 module _ {A : Type 0} where
   -- what stands behind a list is at its length
@@ -17,6 +17,16 @@ module _ {A : Type 0} where
   at_later : (xs ys : List A) (i : ℕ) → slice_get (xs ++ ys) (length xs + i) ≡ slice_get ys i
   at_later [] ys i = ap (slice_get ys) (omega arith)
   at_later (x ∷ xs) ys i = let e : length (x ∷ xs) + i ≡ suc (length xs + i) = omega arith in ap (slice_get (x ∷ (xs ++ ys))) e ∙ at_later xs ys i
+
+-- what is no less than what is no less, is so
+no_less : (a b c : Front) → NoLess b a → NoLess c b → NoLess c a
+no_less a b c first second = ((λ caller. let f = first.0 caller in let s = second.0 caller in omega arith), (let f = first.1 in let s = second.1 in omega arith))
+
+weaker : (a b : Front) → Later b a → NoLess b a
+weaker a b later = (later.0, let l = later.1 in omega arith)
+
+later_on : (a b c : Front) → NoLess b a → Later c b → Later c a
+later_on a b c first second = ((λ caller. let f = first.0 caller in let s = second.0 caller in omega arith), (let f = first.1 in let s = second.1 in omega arith))
 
 module _ {E R : Type 0} where
   halt_both : (h : Option Misuse) (xs ys : List (Entry E R)) → halt_after h (xs ++ ys) ≡ halt_after (halt_after h xs) ys
@@ -45,6 +55,20 @@ module _ {E R : Type 0} where
       → is_such frees x.deed ≡ true → is_such takes z.deed ≡ true → AtLeast z.front x.front
   edge_on frees takes xs ys zs x z edges =
       edges (length xs) (length xs + suc (length ys)) x z (omega arith) (at_length xs (ys ++ z ∷ zs) x) (at_later xs (x ∷ (ys ++ z ∷ zs)) (suc (length ys)) ∙ at_length ys zs z)
+
+  pub rise_on : (xs ys zs : List (Entry E R)) (x z : Entry E R) → TimesRise (xs ++ x ∷ (ys ++ z ∷ zs)) → x.time < z.time
+  rise_on xs ys zs x z rise =
+      rise (length xs) (length xs + suc (length ys)) x z (omega arith) (at_length xs (ys ++ z ∷ zs) x) (at_later xs (x ∷ (ys ++ z ∷ zs)) (suc (length ys)) ∙ at_length ys zs z)
+
+  pub rising_all : (from to : Front) (xs : List (Entry E R)) → Rising from xs to → NoLess to from
+  rising_all from to [] rising = rising
+  rising_all from to (x ∷ xs) rising = no_less from (front_at x) to (weaker from (front_at x) rising.0) (rising_all (front_at x) to xs rising.1)
+
+  pub rising_at : (from to : Front) (xs ys : List (Entry E R)) (x : Entry E R) → Rising from (xs ++ x ∷ ys) to → Later (front_at x) from × Rising (front_at x) ys to
+  rising_at from to [] ys x rising = rising
+  rising_at from to (z ∷ xs) ys x rising =
+      let rest = rising_at (front_at z) to xs ys x rising.1 in
+      (later_on from (front_at z) (front_at x) (weaker from (front_at z) rising.0) rest.0, rest.1)
 
 module _ {S E R : Type 0} (next : S → ℕ → E → S × R) where
   logged_on : (halts : Bool) (s : S) (h : Option Misuse) (c : ℕ) (d : Deed E R) (later : List (log.Entry E R)) (last : S) → Right next halts s h c d

@@ -110,6 +110,7 @@ is_called start history calls x cost old new takes mine lawful may begins = reco
   is_reply = refl;
   is_front = takes.is_front;
   counted = takes.counted;
+  time = takes.time;
   rises = takes.rises;
   begins = takes.begins;
   from = takes.from;
@@ -163,7 +164,7 @@ is_called start history calls x cost old new takes mine lawful may begins = reco
         ∙ get_last history (entry_of takes.was.number x)
 
 same_state : (one other : CallerState) → SameState one other → one ≡ other
-same_state one other same = sym (λ i. record { own = same.own i; front = same.front i; seen = same.seen i })
+same_state one other same = sym (λ i. record { own = same.own i; front = same.front i; time = same.time i; seen = same.seen i })
 
 -- a promise speaks of what contracts see alone
 pub called_same : (start : Contents) (call : SharedCall) (reply : SharedReply) (cost : ℕ) (old new other_old other_new : CallerState) → SameState old other_old → SameState new other_new

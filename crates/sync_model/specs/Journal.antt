@@ -4,7 +4,7 @@ use Rattle.sync_types.specs.declared.misuse.Misuse.{Misuse}
 use Rattle.sync_model.specs.declared.journal.Deed.{Deed}
 use Rattle.sync_model.specs.declared.journal.Deed.TheVariants.{Event, Refused, Halt}
 use Rattle.sync_model.specs.declared.journal.Entry.{Entry}
-use Rattle.sync_model.specs.Front.{AtLeast}
+use Rattle.sync_model.specs.Front.{Front, AtLeast, NoLess, Later}
 use Rattle.sync_model.specs.Log as log
 
 -- the first list begins with the second
@@ -58,10 +58,22 @@ module _ {E R : Type 0} where
   abbrev pub KeepsEdges : (E → R → Bool) → (E → R → Bool) → List (Entry E R) → Type 0
   KeepsEdges frees takes xs = (i j : ℕ) (x y : Entry E R) → i < j → slice_get xs i ≡ Some x → slice_get xs j ≡ Some y → is_such frees x.deed ≡ true → is_such takes y.deed ≡ true → AtLeast y.front x.front
 
-  -- fronts along one caller's entries never fall, from one front to another
-  abbrev pub Rising : List ℕ → List (Entry E R) → List ℕ → Type 0
-  Rising from [] to = AtLeast to from
-  Rising from (x ∷ xs) to = AtLeast x.front from × Rising x.front xs to
+  -- each entry's number is less
+  abbrev pub AllBefore : List (Entry E R) → ℕ → Type 0
+  AllBefore xs time = (i : ℕ) (x : Entry E R) → slice_get xs i ≡ Some x → x.time < time
+
+  -- the numbers of the entries rise, whatever they did: an edge or not, a refusal or a halt
+  abbrev pub TimesRise : List (Entry E R) → Type 0
+  TimesRise xs = (i j : ℕ) (x y : Entry E R) → i < j → slice_get xs i ≡ Some x → slice_get xs j ≡ Some y → x.time < y.time
+
+  -- what the caller knew after an entry
+  abbrev pub front_at : Entry E R → Front
+  front_at x = record { counts = x.front; time = x.time }
+
+  -- what a caller knows never gets less along its entries, from one front to another, and each entry has a number past those before it
+  abbrev pub Rising : Front → List (Entry E R) → Front → Type 0
+  Rising from [] to = NoLess to from
+  Rising from (x ∷ xs) to = Later (front_at x) from × Rising (front_at x) xs to
 
 module _ {S E R : Type 0} (next : S → ℕ → E → S × R) where
   -- only an event that the machine took changes the state

@@ -12,7 +12,7 @@ pub record Holding : Type 0 where
 abbrev pub SameHome : {H N : Type 0} → (H → N → Type 0) → N → N → Type 0
 SameHome at first second = (home : _) → at home first → at home second
 
--- the front counts all of the holder's own shared calls
+-- of all of the holder's own shared calls its count in the front is the number
 abbrev pub IsCounted : Option Holding → List ℕ → Type 0
-IsCounted None front = Unit {0}
-IsCounted (Some holding) front = slice_index front holding.number ≡ length holding.items
+IsCounted None counts = Unit {0}
+IsCounted (Some holding) counts = slice_index counts holding.number ≡ length holding.items

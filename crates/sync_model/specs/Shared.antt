@@ -11,7 +11,7 @@ use Rattle.sync_model.specs.declared.item.Item.{Item}
 use Rattle.sync_model.specs.declared.caller.Caller.{Caller}
 use Rattle.sync_types.specs.SequentialMap.{map_key}
 use Rattle.sync_types.specs.SequentialAtomic.{is_atomic_call}
-use Rattle.sync_model.specs.Front.{AtLeast}
+use Rattle.sync_model.specs.Front.{Front, AtLeast, NoLess}
 use Rattle.sync_model.specs.Journal.{Begins}
 use Rattle.sync_model.specs.Note.{Holding}
 use Rattle.sync_model.specs.SharedHistory.{Contents, contents_at, IsReply, is_entry, IsLegal, entry_of, entries_by, marked_in}
@@ -52,10 +52,11 @@ pub record IsAtomicCall (kinds : List AtomicKind) (a : ℕ) (call : AtomicCall) 
   pub at : slice_get kinds a ≡ Some kind
   pub has : is_atomic_call kind call ≡ true
 
--- a caller, as contracts see its note: whose it is with all its calls, its front, and how much of the history it has seen
+-- a caller, as contracts see its note: whose it is with all its calls, its front's counts and its number, and how much of the history it has seen
 pub record CallerState : Type 0 where
   pub own : Option Holding
   pub front : List ℕ
+  pub time : ℕ
   pub seen : List SharedEntry
 
 -- one shared call of a caller, from one state to the next: it adds one item to the caller's own list, and is answered as by the objects for one thread at its place in the history that the caller has then seen
@@ -74,6 +75,8 @@ pub record Called (start : Contents) (call : SharedCall) (reply : SharedReply) (
   -- the new front counts the call
   pub counted : slice_index new.front was.number ≡ length becomes.items
   pub rises : AtLeast new.front old.front
+  -- it is no event of an object
+  pub time : new.time ≡ old.time
   -- it forgets nothing of the history, and its place lies between what the caller had seen before and what it has seen after
   pub begins : Begins new.seen old.seen
   pub from : length old.seen ≤ item.place
@@ -114,16 +117,16 @@ module _ {N : Type 0} (own : N → Option Holding) where
   calls_of (caller ∷ callers) zero = items_of (own caller.note)
   calls_of (caller ∷ callers) (suc c) = calls_of callers c
 
-module _ {N : Type 0} (own : N → Option Holding) (front : N → List ℕ) (seen : N → List SharedEntry) where
+module _ {N : Type 0} (own : N → Option Holding) (front : N → Front) (seen : N → List SharedEntry) where
   -- what contracts see of a note
   abbrev pub state_of : N → CallerState
-  state_of note = record { own = own note; front = front note; seen = seen note }
+  state_of note = record { own = own note; front = (front note).counts; time = (front note).time; seen = seen note }
 
   -- the same callers, who made no call, and know no less
   pub record SameCalls (old new : List (Caller N)) : Type 0 where
     pub count : length new ≡ length old
     pub same : (i : ℕ) (before after : Caller N) → slice_get old i ≡ Some before → slice_get new i ≡ Some after → own after.note ≡ own before.note
-    pub rises : (i : ℕ) (before after : Caller N) → slice_get old i ≡ Some before → slice_get new i ≡ Some after → AtLeast (front after.note) (front before.note)
+    pub rises : (i : ℕ) (before after : Caller N) → slice_get old i ≡ Some before → slice_get new i ≡ Some after → NoLess (front after.note) (front before.note)
     pub begins : (i : ℕ) (before after : Caller N) → slice_get old i ≡ Some before → slice_get new i ≡ Some after → Begins (seen after.note) (seen before.note)
 
   -- callers who have all seen one history, which is lawful with their own calls; no front counts a call that wasn't made
@@ -131,4 +134,4 @@ module _ {N : Type 0} (own : N → Option Holding) (front : N → List ℕ) (see
     pub history : List SharedEntry
     pub all : (i : ℕ) (caller : Caller N) → slice_get callers i ≡ Some caller → seen caller.note ≡ history
     pub lawful : Lawful start history (calls_of own callers)
-    pub fronts : (i c : ℕ) (caller : Caller N) → slice_get callers i ≡ Some caller → slice_index (front caller.note) c ≤ length (calls_of own callers c)
+    pub fronts : (i c : ℕ) (caller : Caller N) → slice_get callers i ≡ Some caller → slice_index (front caller.note).counts c ≤ length (calls_of own callers c)

@@ -71,6 +71,7 @@ IsWithinBoth both first second = (c : ℕ) → slice_index both c ≤ max (slice
 pub record SameState (one other : CallerState) : Type 0 where
   pub own : other.own ≡ one.own
   pub front : other.front ≡ one.front
+  pub time : other.time ≡ one.time
   pub seen : other.seen ≡ one.seen
 
 -- a caller's state takes in one more call of its own: what `Called` says of the state alone
@@ -85,6 +86,7 @@ pub record TakesIn (x : Item) (cost : ℕ) (old new : CallerState) : Type 0 wher
   pub is_front : x.front ≡ old.front
   pub counted : slice_index new.front was.number ≡ length becomes.items
   pub rises : AtLeast new.front old.front
+  pub time : new.time ≡ old.time
   pub begins : Begins new.seen old.seen
   pub from : length old.seen ≤ x.place
   -- it has seen the call's entry, where it is one

@@ -1,36 +1,42 @@
 //! A note with a front alone.
-ghost use Rattle.std.specs.Prelude.{◌≡◌, ℕ, ◌<◌, List, None, max, slice_index};
+ghost use Rattle.std.specs.Prelude.{◌≡◌, ℕ, ◌<◌, None, max, slice_index};
+ghost use Rattle.sync_model.specs.Front.{Front};
 
 use crate::note::Note;
+use stamps::Stamp;
 use std::marker::Model;
 
 /// The most callers of an object.
 pub const MAX_CALLERS: usize = 64;
 
 /// A front of 64 numbers, which is nobody's note. A count has 32 bits, so that a processor compares several at once.
-#[derive(Debug, Drop)]
+#[derive(Drop)]
 pub struct FrontNote {
     counts: [u32; MAX_CALLERS],
+    stamp: Stamp,
 }
 
 impl Model for FrontNote {
-    ghost Value = { List ℕ };
+    ghost Value = { Front };
 
-    ghost view = { λ n. n.counts };
+    ghost view = { λ n. record { counts = n.counts; time = n.stamp.time } };
 }
 
 impl FrontNote {
-    /// A note with this front.
+    /// A note with these counts, of whom no event is known.
     pub fn new(counts: [u32; MAX_CALLERS]) -> Self
-        ensures { result ≡ counts }
+        ensures { result ≡ record { counts = counts; time = 0 } }
     {
-        FrontNote { counts }
+        FrontNote {
+            counts,
+            stamp: Stamp::first(),
+        }
     }
 
     /// How many shared calls of a caller are known.
     pub fn count(&self, caller: usize) -> u32
         requires { caller < MAX_CALLERS }
-        ensures { result ≡ slice_index self.now caller }
+        ensures { result ≡ slice_index self.now.counts caller }
     {
         self.counts[caller]
     }
@@ -50,23 +56,30 @@ impl Note for FrontNote {
     fn copy(&mut self, _home: &()) -> Self {
         FrontNote {
             counts: self.counts,
+            stamp: self.stamp.same(),
         }
     }
 
-    /// Each number becomes the greater of the two.
+    /// Each count becomes the greater of the two.
     fn merge(&mut self, home: &(), mut other: Self)
-        ensures { (caller : ℕ) → slice_index self.new caller ≡ max (slice_index self.old caller) (slice_index other caller) }
+        ensures counts { (caller : ℕ) → slice_index self.new.counts caller ≡ max (slice_index self.old.counts caller) (slice_index other.counts caller) }
+        ensures time { self.new.time ≡ self.old.time }
     {
         self.take_in(home, &mut other);
     }
 
-    /// Each number becomes the greater of the two, and the other note stays as it is. There is no copy.
+    /// Each count becomes the greater of the two, and the other note stays as it is. There is no copy.
     fn take_in(&mut self, _home: &(), other: &mut Self)
-        ensures counts { (caller : ℕ) → slice_index self.new caller ≡ max (slice_index self.old caller) (slice_index other.old caller) }
+        ensures counts { (caller : ℕ) → slice_index self.new.counts caller ≡ max (slice_index self.old.counts caller) (slice_index other.old.counts caller) }
+        ensures time { self.new.time ≡ self.old.time }
         ensures other { other.new ≡ other.old }
     {
         for caller in 0..MAX_CALLERS {
             self.counts[caller] = self.counts[caller].max(other.counts[caller]);
         }
+    }
+
+    fn meet(&mut self, other: &mut Self) {
+        self.stamp.meet(&mut other.stamp);
     }
 }

@@ -20,8 +20,10 @@ pub struct Entry<E, R> {
     /// The number of the caller who made it.
     pub caller: u32,
     pub deed: Deed<E, R>,
-    /// The front of the caller's note after it: for each caller the number of its shared calls that are known.
+    /// The counts of the caller's front after it: for each caller the number of its shared calls that are known.
     pub front: LinkedList<u64>,
     /// How many entries of the journal the caller had seen before.
     pub knew: u64,
+    /// Its number in the one order of all events: the numbers rise along the journal, and along what its caller made.
+    pub time: u64,
 }

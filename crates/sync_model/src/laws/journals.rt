@@ -1,7 +1,7 @@
 //! What holds of the journals of every machine.
-ghost use Rattle.std.specs.Prelude.{◌≡◌, ◌≢◌, true, List, [], ◌∷◌, ◌++◌, Some, None};
-ghost use Rattle.sync_model.specs.Front.{AtLeast};
-ghost use Rattle.sync_model.specs.Journal.{halt_of, is_such, log_of, state_after, Follows, KeepsEdges};
+ghost use Rattle.std.specs.Prelude.{◌≡◌, ◌≢◌, ◌<◌, true, List, [], ◌∷◌, ◌++◌, Some, None};
+ghost use Rattle.sync_model.specs.Front.{Front, AtLeast, NoLess, Later};
+ghost use Rattle.sync_model.specs.Journal.{halt_of, is_such, log_of, state_after, front_at, Follows, KeepsEdges, TimesRise, Rising};
 ghost use Rattle.sync_model.specs.Log as log;
 
 use crate::journal::{Deed, Entry};
@@ -40,4 +40,21 @@ pub fn edges_lead_to_later_entries<M: Machine>()
     ensures { (earlier between later : List (Entry M.Event M.Reply)) (first second : Entry M.Event M.Reply)
         → KeepsEdges M.frees M.takes (earlier ++ first ∷ (between ++ second ∷ later))
         → is_such M.frees first.deed ≡ true → is_such M.takes second.deed ≡ true → AtLeast second.front first.front }
+{}
+
+/// Of two entries of a journal the earlier one has the lower number, whatever they did: so an order of all events by their
+/// numbers keeps the order of each object.
+pub fn earlier_entries_have_lower_numbers<M: Machine>()
+    ensures { (earlier between later : List (Entry M.Event M.Reply)) (first second : Entry M.Event M.Reply)
+        → TimesRise (earlier ++ first ∷ (between ++ second ∷ later)) → first.time < second.time }
+{}
+
+/// Along the entries of one caller, from one front to another, the numbers rise, and what the caller knows never gets less:
+/// so the order by numbers keeps the order of each caller too.
+pub fn a_callers_entries_rise<M: Machine>()
+    ensures entries { (from to : Front) (earlier between later : List (Entry M.Event M.Reply)) (first second : Entry M.Event M.Reply)
+        → Rising from (earlier ++ first ∷ (between ++ second ∷ later)) to → Later (front_at second) (front_at first) }
+    ensures from { (from to : Front) (earlier later : List (Entry M.Event M.Reply)) (entry : Entry M.Event M.Reply)
+        → Rising from (earlier ++ entry ∷ later) to → Later (front_at entry) from × NoLess to (front_at entry) }
+    ensures all { (from to : Front) (entries : List (Entry M.Event M.Reply)) → Rising from entries to → NoLess to from }
 {}

@@ -16,11 +16,11 @@ returns-clause-hears g c =
     let first = c.map_call.ensures.called in
     let second = c.map_call-2.ensures.called in
     let own = c.copy-told.ensures.own.0 in
-    let front = c.copy-told.ensures.front.0 in
+    let front = ap (λ f. f.counts) c.copy-told.ensures.front.0 in
     let gave = state_of g.S.Mark.Note.own g.S.Mark.Note.front g.S.Shared.seen c.copy-told.new.self in
     let later = state_of g.S.Mark.Note.own g.S.Mark.Note.front g.S.Shared.seen c.merge.new.self in
     let took = state_of g.S.Mark.Note.own g.S.Mark.Note.front g.S.Shared.seen c.map_call-2.new.caller.note in
-    let least : AtLeast later.front gave.front = subst (λ f. AtLeast later.front f) (c.copy-told.ensures.front.1 ∙ sym front) c.merge.ensures.front.1 in
+    let least : AtLeast later.front gave.front = subst (λ f. AtLeast later.front f) (ap (λ f. f.counts) c.copy-told.ensures.front.1 ∙ sym front) c.merge.ensures.front.1 in
     let there : c.args.map < length start.maps = subst (λ n. c.args.map < n) (sym (length-replicate (g.S.Shared.maps c.args.shared.now) empty)) c.requires.map in
     record {
       store = first.item;
