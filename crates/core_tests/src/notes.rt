@@ -53,7 +53,8 @@ fn a_note_takes_in_the_greater_of_two_counts(rt: HostRuntime) -> Result<(), Fail
 
 #[test]
 fn an_empty_note_is_merged_and_taken_in(rt: HostRuntime) -> Result<(), Fail> {
-    let (note, _other) = taken_in(&(), merged(&(), NoNote, NoNote), NoNote);
+    let note = merged(&(), NoNote::new(), NoNote::new());
+    let (note, _other) = taken_in(&(), note, NoNote::new());
     assert!(rt; size_of_val(&note) == 0);
     Ok(())
 }

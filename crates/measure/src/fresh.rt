@@ -25,7 +25,7 @@ impl FreshNote for FrontNote {
 
 impl Fresh for NoNote {
     fn fresh() -> Self {
-        NoNote
+        NoNote::new()
     }
 }
 

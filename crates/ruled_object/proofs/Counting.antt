@@ -7,6 +7,7 @@ use Rattle.std.proofs.lemmas.List.Sums.{sum_by-cons}
 use mathlib.Core.Logic.{dite}
 use native.Mathlib.Decide.{ℕ_discrete}
 use Rattle.atomic_table.specs.Table.{State}
+use Rattle.sync_model.specs.Front.{Front}
 use Rattle.sync_model.specs.declared.journal.Entry.{Entry}
 use Rattle.ruled_object.specs.declared.cell.Cell.{Cell}
 use Rattle.ruled_object.specs.declared.rule.Begin.{Begin}
@@ -30,7 +31,7 @@ module _ {S N E R : Type 0} (journal : List (Entry E R)) (word turn : ℕ) (home
   not_out Taken has without at = at.1
   not_out Deep has without at = absurd (without refl)
 
-module _ {S N E R H : Type 0} (next : S → ℕ → E → S × R) (halts : Bool) (frees takes : E → R → Bool) (front : N → List ℕ) (at : H → N → Type 0) (tells : S → ℕ) (means : S → ℕ → S) (begin : Begin S N) where
+module _ {S N E R H : Type 0} (next : S → ℕ → E → S × R) (halts : Bool) (frees takes : E → R → Bool) (front : N → Front) (at : H → N → Type 0) (tells : S → ℕ) (means : S → ℕ → S) (begin : Begin S N) where
   abbrev St : Type 0
   St = State (Option (Cell S N)) (View E R)
 

@@ -8,6 +8,7 @@ use native.Mathlib.Decide.{ℕ_discrete}
 use lib.ListN.{get_elem?}
 use Rattle.atomic_table.specs.declared.shared.Seat.{Seat}
 use Rattle.atomic_table.proofs.Lists.{at_longer}
+use Rattle.sync_model.specs.Front.{Front}
 use Rattle.sync_model.specs.declared.journal.Entry.{Entry}
 use Rattle.sync_model.specs.Journal.{Begins, by}
 use Rattle.ruled_object.specs.declared.cell.Cell.{Cell}
@@ -172,13 +173,14 @@ is_dealt {M} {N} {S} {E} {R} {H} object n journal all v pass d some_own below ta
       own = mine;
     }
 
-module _ {S N E R H : Type 0} (next : S → ℕ → E → S × R) (halts : Bool) (frees takes : E → R → Bool) (front : N → List ℕ) (at : H → N → Type 0) (tells : S → ℕ) (means : S → ℕ → S) (begin : Begin S N) where
+module _ {S N E R H : Type 0} (next : S → ℕ → E → S × R) (halts : Bool) (frees takes : E → R → Bool) (front : N → Front) (at : H → N → Type 0) (tells : S → ℕ) (means : S → ℕ → S) (begin : Begin S N) where
   -- what the seat that gathered all passes learns with the turn
   pub whole : (passes : List (Pass S N E R)) (v : View E R) (journal : List (Entry E R)) (word : ℕ) (cell : Cell S N) → length passes ≡ begin.callers → Gathered (length passes) passes v
       → Learns next halts frees takes front at tells means begin v journal word cell → IsWhole next halts frees takes begin.state journal passes
   whole passes v journal word cell count d learns = record {
     follows = learns.lawful.follows;
     edges = learns.lawful.edges;
+    times = learns.lawful.times;
     owns = λ i pass at_i. let number = d.number in let same : v.number + i ≡ i = omega arith in (learns.owns i (own_in pass) (d.owns i pass (slice_get_within passes i pass at_i) at_i)).1 ∙ ap (λ (c : ℕ). by c journal) same;
     seen = λ i pass at_i. let h = d.heard i pass (slice_get_within passes i pass at_i) at_i in learns.heard h.0 (seen_by pass) h.1;
     callers = λ c past. learns.lawful.callers c (omega arith);
@@ -191,6 +193,7 @@ module _ {S N E R H : Type 0} (next : S → ℕ → E → S × R) (halts : Bool)
   whole_again object passes v journal word cell count from_first dealt learns = record {
     follows = learns.lawful.follows;
     edges = learns.lawful.edges;
+    times = learns.lawful.times;
     owns = λ i pass at_i. let same : v.number + i ≡ i = omega arith in (learns.owns i (own_in pass) (dealt i pass at_i).own).1 ∙ ap (λ (c : ℕ). by c journal) same;
     seen = λ i pass at_i. subst (Begins journal) (sym (dealt i pass at_i).seen) (begins_all journal);
     callers = λ c past. learns.lawful.callers c (omega arith);

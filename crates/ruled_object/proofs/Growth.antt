@@ -7,8 +7,8 @@ use Rattle.sync_types.specs.declared.misuse.Misuse.{Misuse}
 use Rattle.sync_model.specs.declared.answer.Answer.{Answer}
 use Rattle.sync_model.specs.declared.answer.Answer.TheVariants.{Done, Halted}
 use Rattle.sync_model.specs.declared.journal.Entry.{Entry}
-use Rattle.sync_model.specs.Front.{AtLeast}
-use Rattle.sync_model.specs.Journal.{halt_next, halt_of, by, Rising, state_next, state_after, Right, Follows}
+use Rattle.sync_model.specs.Front.{Front, NoLess, Later}
+use Rattle.sync_model.specs.Journal.{halt_next, halt_of, by, front_at, Rising, state_next, state_after, Right, Follows}
 use Rattle.ruled_object.specs.declared.pass.Pass.{Pass}
 use Rattle.ruled_object.specs.Cells.{deed_of}
 use Rattle.ruled_object.specs.Growth.{Placed, entries_of, Leads, halt_before, MeetsHalt, IsRight, Grows, Makes, IsAlone, NeedsNoTurn}
@@ -20,13 +20,13 @@ module _ {E R : Type 0} where
   leads-append seen mid now [] fs at_first then_on = subst (λ (z : List (Entry E R)). Leads z fs now) at_first then_on
   leads-append seen mid now (e ∷ es) fs at_first then_on = (at_first.0, at_first.1, leads-append (e.before ++ e.entry ∷ []) mid now es fs at_first.2 then_on)
 
-  rising_from : (low from to : List ℕ) (es : List (Placed E R)) → AtLeast from low → Rising from (entries_of es) to → Rising low (entries_of es) to
-  rising_from low from to [] more rising = λ c. let a = more c in let b = rising c in omega arith
-  rising_from low from to (e ∷ es) more rising = ((λ c. let a = more c in let b = rising.0 c in omega arith), rising.1)
+  rising_from : (low from to : Front) (es : List (Placed E R)) → NoLess from low → Rising from (entries_of es) to → Rising low (entries_of es) to
+  rising_from low from to [] more rising = ((λ c. let a = more.0 c in let b = rising.0 c in omega arith), (let a = more.1 in let b = rising.1 in omega arith))
+  rising_from low from to (e ∷ es) more rising = (((λ c. let a = more.0 c in let b = rising.0.0 c in omega arith), (let a = more.1 in let b = rising.0.1 in omega arith)), rising.1)
 
-  rising-append : (from between to : List ℕ) (es fs : List (Placed E R)) → Rising from (entries_of es) between → Rising between (entries_of fs) to → Rising from (entries_of (es ++ fs)) to
+  rising-append : (from between to : Front) (es fs : List (Placed E R)) → Rising from (entries_of es) between → Rising between (entries_of fs) to → Rising from (entries_of (es ++ fs)) to
   rising-append from between to [] fs at_first then_on = rising_from from between to fs at_first then_on
-  rising-append from between to (e ∷ es) fs at_first then_on = (at_first.0, rising-append e.entry.front between to es fs at_first.1 then_on)
+  rising-append from between to (e ∷ es) fs at_first then_on = (at_first.0, rising-append (front_at e.entry) between to es fs at_first.1 then_on)
 
 module _ {E R : Type 0} where
   halt_before-snoc : (es : List (Placed E R)) (p : Placed E R) → halt_before (es ++ p ∷ []) ≡ halt_of p.before
@@ -68,8 +68,8 @@ module _ {S E R : Type 0} (next : S → ℕ → E → S × R) (halts : Bool) (st
 
 module _ {S N E R : Type 0} (next : S → ℕ → E → S × R) (halts : Bool) (start : S) where
   -- one entry
-  pub grows_one : (frees takes : E → R → Bool) (old new : Pass S N E R) (e : Entry E R) (event : E) (answer : Answer R) (from to : List ℕ) → Adds next halts frees takes start old e new
-      → number_of new ≡ number_of old → e.deed ≡ deed_of event answer → e.front ≡ to → AtLeast to from
+  pub grows_one : (frees takes : E → R → Bool) (old new : Pass S N E R) (e : Entry E R) (event : E) (answer : Answer R) (from to : Front) → Adds next halts frees takes start old e new
+      → number_of new ≡ number_of old → e.deed ≡ deed_of event answer → front_at e ≡ to → Later to from
       → (p : Placed E R) × (p.entry ≡ e) × Grows next halts start old from (p ∷ []) new to × MeetsHalt (p ∷ []) answer
   grows_one frees takes old new e event answer from to adds number deed front more =
       let p : Placed E R = record { before = seen_by old ++ adds.between; entry = e } in (
@@ -79,14 +79,14 @@ module _ {S N E R : Type 0} (next : S → ℕ → E → S × R) (halts : Bool) (
           history = ((adds.between, refl), adds.knew, adds.history);
           mine = adds.mine;
           right = ((adds.caller, adds.right), tt);
-          fronts = ((λ c. let a = more c in let same = ap (λ (z : List ℕ). slice_index z c) front in omega arith), (λ c. let same = ap (λ (z : List ℕ). slice_index z c) front in omega arith));
+          fronts = (subst (λ (f : Front). Later f from) (sym front) more, subst (λ (f : Front). NoLess f (front_at e)) front ((λ c. omega arith), omega arith));
           number = number;
         },
         meets next halts start (number_of old) p event answer (subst (Right next halts (state_after next start p.before) (halt_of p.before) (number_of old)) deed adds.right),
       )
 
   -- the entries of two calls
-  pub grows_both : (old mid new : Pass S N E R) (es fs : List (Placed E R)) (from between to : List ℕ) → Grows next halts start old from es mid between → Grows next halts start mid between fs new to
+  pub grows_both : (old mid new : Pass S N E R) (es fs : List (Placed E R)) (from between to : Front) → Grows next halts start old from es mid between → Grows next halts start mid between fs new to
       → Grows next halts start old from (es ++ fs) new to
   grows_both old mid new es fs from between to at_first then_on = record {
     history = leads-append (seen_by old) (seen_by mid) (seen_by new) es fs at_first.history then_on.history;
@@ -107,8 +107,8 @@ module _ {S N E R : Type 0} (next : S → ℕ → E → S × R) (halts : Bool) (
       (follows_front next halts start None front (e ∷ []) (subst (Follows next halts start None) ends adds.follows), append_cancel_right (by (number_of old) front) (own_by old) (e ∷ []) whole)
 
   -- what a call shows of the one entry that it adds
-  pub makes_one : (frees takes : E → R → Bool) (old new : Pass S N E R) (e : Entry E R) (event : E) (answer : Answer R) (from to : List ℕ) → Adds next halts frees takes start old e new
-      → number_of new ≡ number_of old → e.deed ≡ deed_of event answer → e.front ≡ to → AtLeast to from → Makes next halts start old from event answer new to
+  pub makes_one : (frees takes : E → R → Bool) (old new : Pass S N E R) (e : Entry E R) (event : E) (answer : Answer R) (from to : Front) → Adds next halts frees takes start old e new
+      → number_of new ≡ number_of old → e.deed ≡ deed_of event answer → front_at e ≡ to → Later to from → Makes next halts start old from event answer new to
   makes_one frees takes old new e event answer from to adds number deed front more =
       let one = grows_one frees takes old new e event answer from to adds number deed front more in
       let p : Placed E R = one.0 in
@@ -145,19 +145,19 @@ sized (e ∷ es) = ap suc (sized es)
 
 module _ {S N E R : Type 0} (next : S → ℕ → E → S × R) (halts : Bool) (alone : S → ℕ → E → Bool) (start : S) where
   -- the one entry that a pass's caller made is the last that it has seen
-  pub needs_none : (old new : Pass S N E R) (journal : List (Entry E R)) (e : Entry E R) (from to : List ℕ) → seen_by new ≡ journal ++ e ∷ [] → (IsAlone alone (state_after next start journal) e.caller e.deed → turns_of new ≡ turns_of old)
+  pub needs_none : (old new : Pass S N E R) (journal : List (Entry E R)) (e : Entry E R) (from to : Front) → seen_by new ≡ journal ++ e ∷ [] → (IsAlone alone (state_after next start journal) e.caller e.deed → turns_of new ≡ turns_of old)
       → NeedsNoTurn next halts alone start old from new to
   needs_none old new journal e from to seen none one grows is =
       let same = same_snoc one.before journal one.entry e (sym grows.history.2 ∙ seen) in
       none (subst (λ (z : List (Entry E R) × Entry E R). IsAlone alone (state_after next start z.0) z.1.caller z.1.deed) (λ i. (same.0 i, same.1 i)) is)
 
-  pub needs_none_spent : (old mid new : Pass S N E R) (from to : List ℕ) → IsSpent old mid → NeedsNoTurn next halts alone start mid from new to → NeedsNoTurn next halts alone start old from new to
+  pub needs_none_spent : (old mid new : Pass S N E R) (from to : Front) → IsSpent old mid → NeedsNoTurn next halts alone start mid from new to → NeedsNoTurn next halts alone start old from new to
   needs_none_spent old mid new from to spent needs one grows is =
       let after : Grows next halts start (record old { left = left_of mid }) from (one ∷ []) new to = record { history = grows.history; mine = grows.mine; right = grows.right; fronts = grows.fronts; number = grows.number } in
       needs one (subst (λ p. Grows next halts start p from (one ∷ []) new to) (sym spent.1) after) is ∙ ap turns_of spent.1
 
   -- who made several entries didn't make one
-  pub needs_none_several : (old new : Pass S N E R) (es : List (Placed E R)) (low high from to : List ℕ) → Grows next halts start old low es new high → 1 < length es → NeedsNoTurn next halts alone start old from new to
+  pub needs_none_several : (old new : Pass S N E R) (es : List (Placed E R)) (low high from to : Front) → Grows next halts start old low es new high → 1 < length es → NeedsNoTurn next halts alone start old from new to
   needs_none_several old new es low high from to many more one grows is =
       let whole : length (own_by old ++ entries_of es) ≡ length (own_by old ++ one.entry ∷ []) = ap length (sym many.mine ∙ grows.mine) in
       absurd (omega (arith, length-append (own_by old) (entries_of es), length-append (own_by old) (one.entry ∷ []), sized es))

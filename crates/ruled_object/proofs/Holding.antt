@@ -2,8 +2,9 @@
 use Rattle.std.proofs.Common.{◌≡◌, ℕ, ◌+◌, ◌≤◌, Bool, List, [], ◌∷◌, length, Option, Some, None, refl, sym, ap, ◌∙◌, subst, arith}
 use mathlib.Core.Option.{some}
 use lib.ListN.{get_elem?}
+use Rattle.sync_model.specs.Front.{Front}
 use Rattle.sync_model.specs.declared.journal.Entry.{Entry}
-use Rattle.sync_model.specs.Journal.{Begins, by, KeepsEdges, Follows}
+use Rattle.sync_model.specs.Journal.{Begins, by, KeepsEdges, TimesRise, Follows}
 use Rattle.ruled_object.specs.declared.cell.Cell.{Cell}
 use Rattle.ruled_object.specs.declared.pass.Pass.{Pass}
 use Rattle.ruled_object.specs.declared.rule.Begin.{Begin}
@@ -38,7 +39,7 @@ module _ {E R : Type 0} where
   one_held [] one = absurd (omega arith)
   one_held (own ∷ owns) one = refl
 
-module _ {S N E R H : Type 0} (next : S → ℕ → E → S × R) (halts : Bool) (frees takes : E → R → Bool) (front : N → List ℕ) (at : H → N → Type 0) (tells : S → ℕ) (means : S → ℕ → S) (begin : Begin S N) where
+module _ {S N E R H : Type 0} (next : S → ℕ → E → S × R) (halts : Bool) (frees takes : E → R → Bool) (front : N → Front) (at : H → N → Type 0) (tells : S → ℕ) (means : S → ℕ → S) (begin : Begin S N) where
   -- a seat that took in another and then looked has seen what both had
   pub sees_both : (v w : View E R) (journal : List (Entry E R)) → Finds next halts frees takes front at tells means begin (joined v w) journal → Begins journal v.seen × Begins journal w.seen
   sees_both v w journal finds = (finds.seen, finds.heard (length v.heard + 0) w.seen (at_second v.heard (w.seen ∷ w.heard) 0 w.seen refl))
@@ -53,4 +54,5 @@ module _ {S N E R H : Type 0} (next : S → ℕ → E → S × R) (halts : Bool)
         own = λ own is. let first = first_held v.owns own (sym (ap held_of owns) ∙ is) in sym first.1 ∙ (finds.owns 0 (own_of v.owns) first.0).1 ∙ (ap (λ (c : ℕ). by c journal) same ∙ ap (by pass.number) (sym seen));
         follows = subst (Follows next halts begin.state None) (sym seen) finds.lawful.follows;
         edges = subst (KeepsEdges frees takes) (sym seen) finds.lawful.edges;
+        times = subst TimesRise (sym seen) finds.lawful.times;
       }

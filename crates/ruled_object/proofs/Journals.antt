@@ -1,5 +1,5 @@
 -- A journal that grows by one entry.
-use Rattle.std.proofs.Common.{◌≡◌, ◌≢◌, ℕ, zero, suc, Bool, true, false, cond, eqb, eq-eqb, ne_eqb, ◌⊎◌, inl, inr, ⊎_elim, List, [], ◌∷◌, ◌++◌, length, slice_get, Option, Some, None, refl, sym, ap, ◌∙◌, subst, append_assoc, arith}
+use Rattle.std.proofs.Common.{◌≡◌, ◌≢◌, ℕ, zero, suc, ◌<◌, ◌≤◌, Bool, true, false, cond, eqb, eq-eqb, ne_eqb, ◌⊎◌, inl, inr, ⊎_elim, List, [], ◌∷◌, ◌++◌, length, slice_get, Option, Some, None, refl, sym, ap, ◌∙◌, subst, append_assoc, arith}
 use Rattle.std.proofs.lemmas.List.{append-nil}
 use Rattle.std.proofs.lemmas.Option.{slice_get_within}
 use Rattle.sync_types.specs.declared.misuse.Misuse.{Misuse}
@@ -7,7 +7,7 @@ use Rattle.sync_model.specs.declared.journal.Deed.{Deed}
 use Rattle.sync_model.specs.declared.journal.Deed.TheVariants.{Event, Refused, Halt}
 use Rattle.sync_model.specs.declared.journal.Entry.{Entry}
 use Rattle.sync_model.specs.Front.{AtLeast}
-use Rattle.sync_model.specs.Journal.{Begins, halt_next, halt_after, by, is_such, Covers, KeepsEdges, state_next, state_after, Right, Follows}
+use Rattle.sync_model.specs.Journal.{Begins, halt_next, halt_after, by, is_such, AllBefore, Covers, KeepsEdges, TimesRise, state_next, state_after, Right, Follows}
 
 module _ {A : Type 0} where
   pub begins_all : (l : List A) → Begins l l
@@ -51,6 +51,16 @@ module _ {E R : Type 0} where
   pub covers_snoc : (frees : E → R → Bool) (f : List ℕ) (l : List (Entry E R)) (x : Entry E R) → Covers frees f l → (is_such frees x.deed ≡ true → AtLeast f x.front) → Covers frees f (l ++ x ∷ [])
   covers_snoc frees f l x covers here i y e free = ⊎_elim (λ t. covers i y t free)
       (λ t. subst (λ (z : Entry E R). AtLeast f z.front) t.1 (here (subst (λ (z : Entry E R). is_such frees z.deed ≡ true) (sym t.1) free))) (at_end l x y i e)
+
+  -- one entry more, whose number is past all
+  pub times_snoc : (l : List (Entry E R)) (y : Entry E R) → TimesRise l → AllBefore l y.time → TimesRise (l ++ y ∷ [])
+  times_snoc l y rise later i j x z before at_i at_j = ⊎_elim
+      (λ at_x. ⊎_elim (λ at_z. rise i j x z before at_x at_z) (λ t. let s = ap (λ (e : Entry E R). e.time) t.1 in let a = later i x at_x in omega arith) (at_end l y z j at_j))
+      (λ t. ⊎_elim (λ at_z. let k = slice_get_within l j z at_z in let s = t.0 in absurd (omega arith)) (λ u. let s = t.0 in let k = u.0 in absurd (omega arith)) (at_end l y z j at_j))
+      (at_end l y x i at_i)
+
+  pub before_snoc : (low high : ℕ) (l : List (Entry E R)) (y : Entry E R) → AllBefore l low → low ≤ high → y.time < high → AllBefore (l ++ y ∷ []) high
+  before_snoc low high l y past more here i x at = ⊎_elim (λ t. let p = past i x t in omega arith) (λ t. let s = ap (λ (e : Entry E R). e.time) t.1 in omega arith) (at_end l y x i at)
 
   pub edges_snoc : (frees takes : E → R → Bool) (l : List (Entry E R)) (y : Entry E R) → KeepsEdges frees takes l → (is_such takes y.deed ≡ true → Covers frees y.front l) → KeepsEdges frees takes (l ++ y ∷ [])
   edges_snoc frees takes l y edges covers i j x z before at_i at_j free take = ⊎_elim

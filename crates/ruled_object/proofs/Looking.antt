@@ -1,4 +1,5 @@
 -- A copy and a look keep the rule of an object's table.
+use Rattle.sync_model.specs.Front.{Front}
 use Rattle.std.proofs.Common.{◌≡◌, ℕ, zero, suc, length, ◌<◌, Bool, ⊎_elim, List, [], ◌∷◌, ◌++◌, get_or, set, Option, refl, sym, ap, ◌∙◌, subst, arith}
 use mathlib.Core.Option.{some, some-ne-none, some-injective}
 use lib.ListN.{get_elem?}
@@ -21,7 +22,7 @@ there [] i x e = absurd (some-ne-none x (sym e))
 there (y ∷ ys) zero x e = omega arith
 there (y ∷ ys) (suc i) x e = let h = there ys i x e in omega arith
 
-module _ {S N E R H : Type 0} (next : S → ℕ → E → S × R) (halts : Bool) (frees takes : E → R → Bool) (front : N → List ℕ) (at : H → N → Type 0) (tells : S → ℕ) (means : S → ℕ → S) (begin : Begin S N) where
+module _ {S N E R H : Type 0} (next : S → ℕ → E → S × R) (halts : Bool) (frees takes : E → R → Bool) (front : N → Front) (at : H → N → Type 0) (tells : S → ℕ) (means : S → ℕ → S) (begin : Begin S N) where
   abbrev St : Type 0
   St = State (Option (Cell S N)) (View E R)
 

@@ -14,6 +14,7 @@ use Rattle.std.proofs.Math.Nat.{lt_of_not-le}
 use Rattle.atomic_table.specs.Table.{State, keeps, stepped, Allows, Enters, Splits, Joins, opening, Final, Seen}
 use Rattle.atomic_table.specs.Table as table
 use Rattle.atomic_table.proofs.Lists.{at_set, at_snoc, set_here, set_else, set_again, at_longer}
+use Rattle.sync_model.specs.Front.{Front}
 use Rattle.sync_model.specs.declared.journal.Entry.{Entry}
 use Rattle.sync_model.specs.Journal.{Begins, by}
 use Rattle.ruled_object.specs.declared.cell.Cell.{Cell}
@@ -24,7 +25,7 @@ use Rattle.ruled_object.specs.declared.view.Own.{Own}
 use Rattle.ruled_object.specs.declared.view.View.{View}
 use Rattle.ruled_object.specs.Rule.{HasWord, IsFree, IsHeld, Homes, AtStage, Owned, Fits, Lawful, Lies, Rests, Kept, all_turns}
 use Rattle.ruled_object.specs.Steps.{Sat, first_of, on_first, others_of, blank, new_own, first_view, taken, one_turn, deepened, raised, added, gave, dealt, kept, joined, made, Learns, TakesWord, TakesRest, MayAdd, MayGive}
-use Rattle.ruled_object.proofs.Journals.{begins_all, begins_more, by_here, by_other, follows_snoc, edges_snoc}
+use Rattle.ruled_object.proofs.Journals.{begins_all, begins_more, by_here, by_other, follows_snoc, times_snoc, edges_snoc}
 
 module _ {V : Type 0} where
   -- what is true of the seat that stepped, and of each other, is true of all
@@ -167,7 +168,7 @@ module _ {S N E R : Type 0} (callers : ℕ) where
 pub not_both : (word : ℕ) → IsFree word → IsHeld word → ⊥
 not_both word free held = absurd (omega arith)
 
-module _ {S N E R H : Type 0} (next : S → ℕ → E → S × R) (halts : Bool) (frees takes : E → R → Bool) (front : N → List ℕ) (at : H → N → Type 0) (tells : S → ℕ) (means : S → ℕ → S) (begin : Begin S N) where
+module _ {S N E R H : Type 0} (next : S → ℕ → E → S × R) (halts : Bool) (frees takes : E → R → Bool) (front : N → Front) (at : H → N → Type 0) (tells : S → ℕ) (means : S → ℕ → S) (begin : Begin S N) where
   abbrev St : Type 0
   St = State (Option (Cell S N)) (View E R)
 
@@ -207,7 +208,7 @@ module _ {S N E R H : Type 0} (next : S → ℕ → E → S × R) (halts : Bool)
     turn = 0;
     turns = λ c. 0;
     wide = refl;
-    lawful = record { follows = tt; edges = λ i j x y before e. (cc); callers = λ c _. refl };
+    lawful = record { follows = tt; edges = λ i j x y before e. (cc); times = λ i j x y before e. (cc); callers = λ c _. refl };
     each = λ j v e. let t = in_first (first_view begin.callers ∷ []) j v e in let hs : Homes S N = some None ∷ [] in
         subst (λ (z : ℕ × V). Fits begin.callers [] 9223372036854775808 0 hs 0 (λ c. 0) (λ c. 0) z.0 z.1) (λ i. (sym t.0 i, some-injective (first_view begin.callers) v t.1 i)) record {
           seen = begins_all [];
@@ -392,6 +393,7 @@ module _ {S N E R H : Type 0} (next : S → ℕ → E → S × R) (halts : Bool)
             record {
               follows = follows_snoc next halts begin.state None v.seen e lawful.follows adds.right;
               edges = edges_snoc frees takes v.seen e lawful.edges adds.edge;
+              times = times_snoc v.seen e lawful.times adds.later;
               callers = λ c past. by_other c v.seen e (λ k. let j = k in absurd (omega arith)) ∙ lawful.callers c past;
             }
             record {

@@ -2,7 +2,7 @@
 -- The table has two words, and one slot, which has the cell. The first word tells of the machine's state; its bit of value 2^63 is set while one seat has it.
 -- The second is the turn: it is raised by one where the turn is taken, and by one where it is given back, modulo 2^64. So it is odd while a seat has the turn, and even while nobody has it.
 -- It is twice the number of turns that the callers count together, or one less while one of them is out: a step that raises it to take the turn, and counts nothing, breaks the rule.
-use Rattle.std.specs.Prelude.{◌≡◌, ℕ, ◌+◌, ◌*◌, ◌%◌, ◌^◌, ◌<◌, ◌≤◌, Bool, List, [], Option, Some, None, length, slice_index, sum_by}
+use Rattle.std.specs.Prelude.{◌≡◌, ℕ, suc, ◌+◌, ◌*◌, ◌%◌, ◌^◌, ◌<◌, ◌≤◌, Bool, List, [], Option, Some, None, length, slice_index, sum_by}
 use Rattle.std.specs.List.{range_with_len}
 use mathlib.Core.Option.{some}
 use mathlib.Core.Option as option

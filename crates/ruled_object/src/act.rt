@@ -115,13 +115,7 @@ impl<M: Worded, N: Note> Object<M, N> {
     }
 
     // Halts the object. The first misuse is kept.
-    pub(crate) fn act_halt(
-        &self,
-        seat: &mut SeatOf<M, N>,
-        misuse: Misuse,
-        note: &mut N,
-        word: u64,
-    )
+    pub(crate) fn act_halt(&self, seat: &mut SeatOf<M, N>, misuse: Misuse, note: &mut N, word: u64)
         requires halts { IsTrue M.HALTS }
         requires seat { seat.old.table_id ≡ self.now.table.shared.table_id }
         requires held { HasCell seat.old.me (λ cell. word ≡ M.tells (M.means cell.state word)) }

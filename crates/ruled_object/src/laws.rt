@@ -2,6 +2,7 @@
 ghost use Rattle.std.specs.Prelude.{◌≡◌, ◌<◌, ◌+◌, ◌%◌, ◌^◌, ℕ, List, [], ◌∷◌, ◌++◌, Option, Some, length, slice_get, slice_index};
 ghost use Rattle.atomic_table.specs.Table.{State};
 ghost use Rattle.sync_model.specs.declared.journal.Entry.{Entry};
+ghost use Rattle.sync_model.specs.Front.{Front};
 ghost use Rattle.ruled_object.specs.declared.cell.Cell.{Cell};
 ghost use Rattle.ruled_object.specs.declared.pass.Pass.{Pass};
 ghost use Rattle.ruled_object.specs.declared.rule.Begin.{Begin};

@@ -1,5 +1,6 @@
 //! New calls for a pass.
 ghost use Rattle.std.specs.Prelude.{◌≡◌, ℕ, ◌≤◌, List, []};
+ghost use Rattle.sync_model.specs.Front.{Front};
 ghost use Rattle.ruled_object.specs.Growth.{Grows};
 ghost use Rattle.ruled_object.specs.Passes.{IsPassOf};
 ghost use Rattle.ruled_object.specs.Renewals.{IsRenewed};

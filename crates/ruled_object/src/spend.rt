@@ -1,5 +1,6 @@
 //! The calls of the layers above that a pass is still good for.
 ghost use Rattle.std.specs.Prelude.{◌≡◌, ℕ, ◌<◌, List, []};
+ghost use Rattle.sync_model.specs.Front.{Front};
 ghost use Rattle.ruled_object.specs.Growth.{Grows};
 ghost use Rattle.ruled_object.specs.Passes.{left_of, own_by, IsOneLess, IsPassOf, IsSpent};
 

@@ -66,7 +66,7 @@ fn callers_are_looked_at_together(rt: HostRuntime) -> Result<(), Fail> {
     assert!(rt; look_at_both(&object, &mut one, &mut other) == None);
     let answer = object.call(&rt, &(), &mut other.pass, &mut other.note, 4);
     assert!(rt; answer == Answer::Done(7));
-    object.halt(&rt, &mut one.pass, &one.note, Misuse::WaitGroupReused);
+    object.halt(&rt, &mut one.pass, &mut one.note, Misuse::WaitGroupReused);
     assert!(rt; look_at_both(&object, &mut one, &mut other) == Some(Misuse::WaitGroupReused));
     let answer = object.call(&rt, &(), &mut other.pass, &mut other.note, 4);
     assert!(rt; answer == Answer::Halted(Misuse::WaitGroupReused));

@@ -89,7 +89,7 @@ fn halt_after<R: Wait>(rt: &R, object: &Object<Fragile, FrontNote>, mut pass: Fr
     requires { IsPassOf object.now pass }
 {
     object.park(rt, &pass);
-    object.halt(rt, &mut pass, &knows(0), Misuse::WaitGroupReused);
+    object.halt(rt, &mut pass, &mut knows(0), Misuse::WaitGroupReused);
 }
 
 fn halted_beside<R: Threads + Wait + Sync>(

@@ -85,7 +85,7 @@ impl<'a> Flyer<'a> {
     }
 
     pub(super) fn halt<R: Wait>(&mut self, rt: &R, misuse: Misuse) {
-        self.group.halt(rt, &mut self.pass, &self.note, misuse);
+        self.group.halt(rt, &mut self.pass, &mut self.note, misuse);
     }
 
     /// The misuse that halted the group, where this is its only caller.

@@ -114,7 +114,7 @@ impl<'a> Caller<'a> {
     }
 
     pub(super) fn halt<R: Wait>(&mut self, rt: &R, misuse: Misuse) {
-        self.pool.halt(rt, &mut self.pass, &self.note, misuse);
+        self.pool.halt(rt, &mut self.pass, &mut self.note, misuse);
     }
 
     /// The misuse that halted the pool, where this is its only caller.

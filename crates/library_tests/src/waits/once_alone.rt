@@ -87,7 +87,7 @@ fn a_halt_ends_the_once(rt: HostRuntime) -> Result<(), Fail> {
 fn a_halt_ends_the_stored_function(rt: HostRuntime) -> Result<(), Fail> {
     let (function, mut passes) = stored(rt.alloc(), 1, || -> u64 { 4 })?;
     let mut only = last_stored(&function, &mut passes);
-    function.halt(&rt, &mut only, &knows(0), Misuse::WaitGroupReused);
+    function.halt(&rt, &mut only, &mut knows(0), Misuse::WaitGroupReused);
     assert!(rt;
         function.call(&rt, &HERE, &mut only, &mut knows(0))
             == Answer::Halted(Misuse::WaitGroupReused)

@@ -91,7 +91,7 @@ impl<'a> Runner<'a> {
     }
 
     pub(super) fn halt<R: Wait>(&mut self, rt: &R, misuse: Misuse) {
-        self.once.halt(rt, &mut self.pass, &self.note, misuse);
+        self.once.halt(rt, &mut self.pass, &mut self.note, misuse);
     }
 
     /// How many calls of caller 0 are known.

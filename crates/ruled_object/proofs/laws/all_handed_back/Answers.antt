@@ -9,6 +9,7 @@ returns g c start journal old new whole sized each = record {
   whole = record {
     follows = whole.follows;
     edges = whole.edges;
+    times = whole.times;
     owns = λ i after at_i. let before = at_same old new i after sized at_i in (each i (get_or old i after) after before at_i).1 ∙ whole.owns i (get_or old i after) before;
     seen = λ i after at_i. subst (Begins journal) (sym (each i (get_or old i after) after (at_same old new i after sized at_i) at_i).0) (begins_all journal);
     callers = λ who past. whole.callers who (omega arith);

@@ -15,7 +15,7 @@ returns-clause-is_pass g c object pass own is held =
     (record { table = is.table; caller = is.caller; number = is.number; one = some_held owns own held is.one; turn = is.turn; empty = is.empty; turns = is.turns }, own_held owns own held)
 
 pub returns-clause-shows : goal.returns-clause-shows
-returns-clause-shows g c start pass lawful = record { own = λ own held. sym (own_held pass.seat.me.0.owns own held) ∙ lawful.own; follows = lawful.follows; edges = lawful.edges }
+returns-clause-shows g c start pass lawful = record { own = λ own held. sym (own_held pass.seat.me.0.owns own held) ∙ lawful.own; follows = lawful.follows; edges = lawful.edges; times = lawful.times }
 
 pub returns-clause-lawful : goal.returns-clause-lawful
-returns-clause-lawful g c start pass own held shows = record { own = own_held pass.seat.me.0.owns own held ∙ shows.own own held; follows = shows.follows; edges = shows.edges }
+returns-clause-lawful g c start pass own held shows = record { own = own_held pass.seat.me.0.owns own held ∙ shows.own own held; follows = shows.follows; edges = shows.edges; times = shows.times }

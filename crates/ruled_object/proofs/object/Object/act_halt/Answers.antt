@@ -12,4 +12,4 @@ returns-clause-acts g c =
     let held = c.requires.held in
     let old = c.in-Some.cell in
     let new = c.halt.new.self in
-    (old, holds me c.slot_mut.result.now old held.0 c.slot_mut.ensures.value c.in-Some.is held.1, (new, holds_new me new held.0 held.1, (c.halt.ensures.acts, c.halt.ensures.home)))
+    (old, holds me c.slot_mut.result.now old held.0 c.slot_mut.ensures.value c.in-Some.is held.1, (new, holds_new me new held.0 held.1, (c.halt.ensures.acts, c.halt.ensures.home.0)))

@@ -72,7 +72,7 @@ returns-clause-makes g c =
     c.act-answer.ensures.pass.0 added.2 added.3 c.act-answer.ensures.note.1
 
 pub returns-clause-journal : goal.returns-clause-journal
-returns-clause-journal g c = let adds = (returns-clause-entry g c).1 in record { own = adds.all ∙ ap (λ number. by number c.give_entry.new.seat.me.0.seen) (sym c.act-answer.ensures.pass.0); follows = adds.follows; edges = adds.edges }
+returns-clause-journal g c = let adds = (returns-clause-entry g c).1 in record { own = adds.all ∙ ap (λ number. by number c.give_entry.new.seat.me.0.seen) (sym c.act-answer.ensures.pass.0); follows = adds.follows; edges = adds.edges; times = adds.times }
 
 pub returns-clause-halts : goal.returns-clause-halts
 returns-clause-halts g c never misuse is =
