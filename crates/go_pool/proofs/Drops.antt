@@ -8,6 +8,7 @@ use Rattle.sync_model.specs.declared.answer.Answer.TheVariants.{Done, Halted}
 use Rattle.sync_model.specs.declared.journal.Deed.{Deed}
 use Rattle.sync_model.specs.declared.journal.Deed.TheVariants.{Event, Refused, Halt}
 use Rattle.sync_model.specs.declared.journal.Entry.{Entry}
+use Rattle.sync_model.specs.Front.{Front}
 use Rattle.sync_model.specs.Journal.{Follows, halt_next, log_of, logged, state_next, state_after}
 use Rattle.sync_model.specs.Log as log
 use Rattle.pool_core.specs.declared.pool_event.PoolEvent.TheVariants.{Put}
@@ -68,7 +69,7 @@ Drops = (room : ℕ) (before rest : laws.Log ℕ) (caller item : ℕ) (reply : P
 abbrev pub GivesOnce : Type 0
 GivesOnce = (room : ℕ) (log : laws.Log ℕ) → IsPartLog room log → (origin : ℕ → ℕ) × ComeFrom log origin
 
-module _ {N H : Type 0} (pool : Pool N H) (own : ℕ) (old new : PoolPass N) (from to : List ℕ) (item : ℕ) where
+module _ {N H : Type 0} (pool : Pool N H) (own : ℕ) (old new : PoolPass N) (from to : Front) (item : ℕ) where
   found : (spells : List (Deed (PoolEvent ℕ) (PoolReply ℕ)) → Answer PoolPut → Type 0) (reply : PoolReply ℕ) (result : Answer PoolPut) → own ≡ number_of new → (did : DidAt pool own spells (λ ds. Unit {0}) old from result new to) → deeds_of did.did.entries ≡ Event (Put item) reply ∷ [] → IsLawful pool new → Logged → Drops
       → (here : PoolPart ℕ) × Found pool new here × (reply ≡ (if is_full (room_of pool) here then Dropped item else Kept))
   found spells reply result is did only lawful logged_all drops = by_entries did.did.entries only did.did.grows.history where

@@ -1,5 +1,5 @@
 -- Halting all parts, and what all passes tell of the first halt.
-use Rattle.std.proofs.Common.{◌≡◌, ◌≢◌, inl, inr, ℕ, suc, ◌+◌, ◌<◌, ◌≤◌, ◌==◌, true, false, cond, List, [], ◌∷◌, ◌++◌, length, get_or, set, Option, Some, None, refl, sym, ap, ◌∙◌, subst, arith, length-set}
+use Rattle.std.proofs.Common.{◌≡◌, ◌≢◌, inl, inr, ℕ, suc, ◌+◌, ◌<◌, ◌≤◌, ◌==◌, true, false, cond, List, [], ◌∷◌, ◌++◌, length, get_or, set, Option, Some, None, refl, sym, ap, ◌∙◌, subst, arith, le_refl, length-set}
 use Rattle.std.specs.List.{slice_get}
 use Rattle.std.specs.Option.{option_and_then}
 use Rattle.std.proofs.lemmas.Bool.{cases_eq}
@@ -8,6 +8,7 @@ use Rattle.std.proofs.lemmas.List.{length-append, get_or_append_left, get_or-app
 use Rattle.std.proofs.lemmas.Option.{slice_get_within}
 use Rattle.sync_types.specs.declared.misuse.Misuse.{Misuse}
 use Rattle.sync_model.specs.declared.journal.Deed.TheVariants.{Halt}
+use Rattle.sync_model.specs.Front.{Front, SameCounts}
 use Rattle.sync_model.specs.Journal.{by, Follows}
 use Rattle.sync_model.specs.Journal as journals
 use Rattle.pool_core.specs.declared.pool_event.PoolEvent.{PoolEvent}
@@ -27,51 +28,114 @@ use Rattle.go_pool.specs.Parts.{PoolEntry, PartPass, PartJournal, pass_at, cell}
 use Rattle.go_pool.specs.Pools.{Journal, journal_at, halt_of, number_of, parts_of, room_of, AreAllPasses, SamePasses, IsWhole, IsSeen, Adds}
 use Rattle.go_pool.specs.Tables.{IsSquare, KeepsRows}
 use Rattle.go_pool.proofs.Seats.{same_found}
-use Rattle.go_pool.proofs.TableSteps.{cond_false, there, get_other, set_found, set_rows, rows_then}
+use Rattle.go_pool.proofs.TableSteps.{cond_true, cond_false, there, get_other, set_found, set_rows, rows_then}
 
 -- ---- halting
 
 -- the entry that halts a part of a caller with this number and front
-abbrev pub halt_by : ℕ → Misuse → List ℕ → PoolEntry
-halt_by caller misuse front = record { caller = caller; deed = Halt misuse; front = front; knew = 0 }
+abbrev pub halt_by : ℕ → Misuse → Front → PoolEntry
+halt_by caller misuse front = record { caller = caller; deed = Halt misuse; front = front.counts; time = front.time; knew = 0 }
 
-halt_is : (e : PoolEntry) (caller knew : ℕ) (misuse : Misuse) (front : List ℕ) → e.caller ≡ caller → e.deed ≡ Halt misuse → e.front ≡ front → e.knew ≡ knew → e ≡ record (halt_by caller misuse front) { knew = knew }
-halt_is e caller knew misuse front a b c d = λ i. record { caller = a i; deed = b i; front = c i; knew = d i }
+halt_is : (e : PoolEntry) (caller time knew : ℕ) (misuse : Misuse) (front : Front) → e.caller ≡ caller → e.deed ≡ Halt misuse → e.front ≡ front.counts → e.time ≡ time → e.knew ≡ knew → e ≡ record (halt_by caller misuse front) { time = time; knew = knew }
+halt_is e caller time knew misuse front a b c t d = λ i. record { caller = a i; deed = b i; front = c i; time = t i; knew = d i }
 
 module _ {N H : Type 0} (pool : Pool N H) where
-  -- the first so many parts were halted
-  pub record HaltedSo (misuse : Misuse) (front : List ℕ) (count : ℕ) (old new : PoolPass N) : Type 0 where
-    pub each : (part : ℕ) (before after : PartPass N) → part < count → pass_at part old ≡ Some before → pass_at part new ≡ Some after
-        → object.Adds part_next true pool_releases pool_acquires (part_start (room_of pool)) before (record (halt_by (number_of old) misuse front) { knew = length (object.seen_by before) }) after
+  -- an entry that halts a part was added, with this number
+  abbrev IsHalted : ℕ → Misuse → Front → ℕ → PartPass N → PartPass N → Type 0
+  IsHalted caller misuse front time before after =
+      object.Adds part_next true pool_releases pool_acquires (part_start (room_of pool)) before (record (halt_by caller misuse front) { time = time; knew = length (object.seen_by before) }) after
+
+  -- the first so many parts were halted, one after the other
+  pub record HaltedSo (misuse : Misuse) (from : Front) (count : ℕ) (old new : PoolPass N) (to : Front) : Type 0 where
+    pub times : ℕ → ℕ
+    pub each : (part : ℕ) (before after : PartPass N) → part < count → pass_at part old ≡ Some before → pass_at part new ≡ Some after → IsHalted (number_of old) misuse from (times part) before after
     pub rest : (part : ℕ) → count ≤ part → pass_at part new ≡ pass_at part old
+    pub past : (part : ℕ) → part < count → from.time < times part
+    pub rise : (part later : ℕ) → part < later → later < count → times part < times later
+    pub within : (part : ℕ) → part < count → times part ≤ to.time
+    pub last : (part : ℕ) → part + 1 ≡ count → times part ≡ to.time
+    pub same : SameCounts to from
+    pub least : from.time ≤ to.time
 
-  pub none_halted : (misuse : Misuse) (front : List ℕ) (pass : PoolPass N) → HaltedSo misuse front 0 pass pass
-  none_halted misuse front pass = record { each = λ part before after below. absurd (omega arith); rest = λ part past. refl }
+  pub none_halted : (misuse : Misuse) (front : Front) (pass : PoolPass N) → HaltedSo misuse front 0 pass pass front
+  none_halted misuse front pass = record {
+    times = λ part. 0;
+    each = λ part before after below. absurd (omega arith);
+    rest = λ part past. refl;
+    past = λ part below. absurd (omega arith);
+    rise = λ part later less below. absurd (omega arith);
+    within = λ part below. absurd (omega arith);
+    last = λ part is. absurd (omega arith);
+    same = refl;
+    least = le_refl front.time;
+  }
 
-  pub halted_on : (misuse : Misuse) (front : List ℕ) (count : ℕ) (old mid new : PoolPass N) → ((p : PartPass N) → pass_at count old ≡ Some p → object.number_of p ≡ number_of old) → HaltedSo misuse front count old mid → HaltsAt pool count misuse front mid new → HaltedSo misuse front (count + 1) old new
-  halted_on misuse front count old mid new numbers so halts = record {
-    each = λ part before after below was now. elim (cases_eq part count) [
-      | inl same ↦ here part before after same was now
-      | inr apart ↦ so.each part before after (omega arith) was (sym (kept part apart) ∙ now)
-    ];
-    rest = λ part past. kept part (λ e. omega arith) ∙ so.rest part (omega arith);
-  } where
+  -- one part more
+  module _ (misuse : Misuse) (from between to : Front) (count : ℕ) (old mid new : PoolPass N) (numbers : (p : PartPass N) → pass_at count old ≡ Some p → object.number_of p ≡ number_of old) (so : HaltedSo misuse from count old mid between)
+      (halts : HaltsAt pool count misuse to mid new) (later : between.time < to.time) (same : SameCounts to between) where
+    abbrev times_on : ℕ → ℕ
+    times_on part = cond (part == count) to.time (so.times part)
+
+    at_last : (part : ℕ) → part ≡ count → times_on part ≡ to.time
+    at_last part is = cond_true (part == count) to.time (so.times part) (grind (arith, nat_tests))
+
+    before_last : (part : ℕ) → part ≢ count → times_on part ≡ so.times part
+    before_last part apart = cond_false (part == count) to.time (so.times part) (grind (arith, nat_tests))
+
     kept : (part : ℕ) → part ≢ count → pass_at part new ≡ pass_at part mid
     kept part apart = ap (λ (l : List (PartPass N)). slice_get l part) halts.set_is ∙ get_other mid.parts.items count part halts.after apart
 
-    here : (part : ℕ) (before after : PartPass N) → part ≡ count → pass_at part old ≡ Some before → pass_at part new ≡ Some after
-        → object.Adds part_next true pool_releases pool_acquires (part_start (room_of pool)) before (record (halt_by (number_of old) misuse front) { knew = length (object.seen_by before) }) after
-    here part before after same was now =
-        let was_here : pass_at count old ≡ Some before = ap (λ (k : ℕ). pass_at k old) (sym same) ∙ was in
+    here : (part : ℕ) (before after : PartPass N) → part ≡ count → pass_at part old ≡ Some before → pass_at part new ≡ Some after → IsHalted (number_of old) misuse from to.time before after
+    here part before after is was now =
+        let was_here : pass_at count old ≡ Some before = ap (λ (k : ℕ). pass_at k old) (sym is) ∙ was in
         let is_before : halts.before ≡ before = same_found old.parts.items count halts.before before (sym (so.rest count (omega arith)) ∙ halts.was) was_here in
-        let is_after : after ≡ halts.after = set_found mid.parts.items count halts.after after (ap (λ (l : List (PartPass N)). slice_get l count) (sym halts.set_is) ∙ (ap (λ (k : ℕ). pass_at k new) (sym same) ∙ now)) in
+        let is_after : after ≡ halts.after = set_found mid.parts.items count halts.after after (ap (λ (l : List (PartPass N)). slice_get l count) (sym halts.set_is) ∙ (ap (λ (k : ℕ). pass_at k new) (sym is) ∙ now)) in
         let adds = subst (λ (p : PartPass N). object.Adds part_next true pool_releases pool_acquires (part_start (room_of pool)) p halts.entry halts.after) is_before halts.adds in
-        let entry = halt_is halts.entry (number_of old) (length (object.seen_by before)) misuse front (adds.caller ∙ numbers before was_here) halts.deed halts.known adds.knew in
-        subst (λ (p : PartPass N). object.Adds part_next true pool_releases pool_acquires (part_start (room_of pool)) before (record (halt_by (number_of old) misuse front) { knew = length (object.seen_by before) }) p) (sym is_after)
+        let counts : halts.entry.front ≡ from.counts = ap (λ (f : Front). f.counts) halts.known ∙ (same ∙ so.same) in
+        let entry = halt_is halts.entry (number_of old) to.time (length (object.seen_by before)) misuse from (adds.caller ∙ numbers before was_here) halts.deed counts (ap (λ (f : Front). f.time) halts.known) adds.knew in
+        subst (λ (p : PartPass N). IsHalted (number_of old) misuse from to.time before p) (sym is_after)
         (subst (λ (e : PoolEntry). object.Adds part_next true pool_releases pool_acquires (part_start (room_of pool)) before e halts.after) entry adds)
 
-  pub all_halted : (misuse : Misuse) (front : List ℕ) (count : ℕ) (old new : PoolPass N) → length old.parts.items ≤ count → HaltedSo misuse front count old new → Adds pool old (halt_by (number_of old) misuse front) new
-  all_halted misuse front count old new all so = record { each = λ part before after was now. so.each part before after (let w = slice_get_within old.parts.items part before was in omega arith) was now }
+    pub halted_on : HaltedSo misuse from (count + 1) old new to
+    halted_on = record {
+      times = times_on;
+      each = λ part before after below was now. elim (cases_eq part count) [
+        | inl is ↦ subst (λ (t : ℕ). IsHalted (number_of old) misuse from t before after) (sym (at_last part is)) (here part before after is was now)
+        | inr apart ↦ subst (λ (t : ℕ). IsHalted (number_of old) misuse from t before after) (sym (before_last part apart)) (so.each part before after (omega arith) was (sym (kept part apart) ∙ now))
+      ];
+      rest = λ part past. kept part (λ e. omega arith) ∙ so.rest part (omega arith);
+      past = λ part below. elim (cases_eq part count) [
+        | inl is ↦ subst (λ (t : ℕ). from.time < t) (sym (at_last part is)) (let least = so.least in omega arith)
+        | inr apart ↦ subst (λ (t : ℕ). from.time < t) (sym (before_last part apart)) (so.past part (omega arith))
+      ];
+      rise = λ part next less below.
+          let mine : times_on part ≡ so.times part = before_last part (λ e. omega arith) in
+          subst (λ (t : ℕ). t < times_on next) (sym mine) (elim (cases_eq next count) [
+            | inl is ↦ subst (λ (t : ℕ). so.times part < t) (sym (at_last next is)) (let most = so.within part (omega arith) in omega arith)
+            | inr apart ↦ subst (λ (t : ℕ). so.times part < t) (sym (before_last next apart)) (so.rise part next less (omega arith))
+          ]);
+      within = λ part below. elim (cases_eq part count) [
+        | inl is ↦ subst (λ (t : ℕ). t ≤ to.time) (sym (at_last part is)) (le_refl to.time)
+        | inr apart ↦ subst (λ (t : ℕ). t ≤ to.time) (sym (before_last part apart)) (let most = so.within part (omega arith) in omega arith)
+      ];
+      last = λ part is. at_last part (omega arith);
+      same = same ∙ so.same;
+      least = let least = so.least in omega arith;
+    }
+
+  module _ (misuse : Misuse) (from : Front) (count : ℕ) (old new : PoolPass N) (to : Front) (so : HaltedSo misuse from count old new to) where
+    -- all parts were halted
+    pub all_halted : length old.parts.items ≡ parts_of pool → count ≡ parts_of pool → Adds pool old from (record (halt_by (number_of old) misuse from) { time = to.time }) new
+    all_halted long all = record {
+      times = so.times;
+      past = λ part below. so.past part (omega arith);
+      rise = λ part later less below. so.rise part later less (omega arith);
+      last = λ part is. so.last part (omega arith);
+      each = λ part before after was now. so.each part before after (let w = slice_get_within old.parts.items part before was in omega arith) was now;
+    }
+
+    pub later_so : 0 < count → from.time < to.time
+    later_so some = let first = so.past 0 some in let most = so.within 0 some in omega arith
 
 -- ---- the first halt
 
@@ -249,6 +313,7 @@ module _ {N H : Type 0} (pool : Pool N H) where
                     own = tell.seen.whole.owns i p found.2 ∙ (ap (λ (n : ℕ). by n (journal_at part journal)) (sym number) ∙ ap (by (object.number_of p)) (sym sees));
                     follows = subst (λ (l : PartJournal). Follows part_next true (object.start_of o.0) None l) (sym sees) tell.seen.whole.follows;
                     edges = subst (λ (l : PartJournal). journals.KeepsEdges pool_releases pool_acquires l) (sym sees) tell.seen.whole.edges;
+                    times = subst (λ (l : PartJournal). journals.TimesRise l) (sym sees) tell.seen.whole.times;
                   });
             },
             kept.0 ∙ was.1,

@@ -5,6 +5,7 @@ use Rattle.std.proofs.Math.Nat.{mod-eq_of_lt}
 use Rattle.sync_model.specs.declared.answer.Answer.TheVariants.{Done, Halted}
 use Rattle.sync_model.specs.declared.journal.Deed.{Deed}
 use Rattle.sync_model.specs.declared.journal.Deed.TheVariants.{Event, Refused}
+use Rattle.sync_model.specs.Front.{Front}
 use Rattle.sync_types.specs.declared.misuse.Misuse.{Misuse}
 use Rattle.pool_core.specs.declared.pool_event.PoolEvent.{PoolEvent}
 use Rattle.pool_core.specs.declared.pool_event.PoolEvent.TheVariants.{LookOther, LookVictim}
@@ -42,13 +43,13 @@ module _ {N H : Type 0} (pool : Pool N H) (old : PoolPass N) where
       done-append (parts_of pool) (number_of old) (nothing_in (parts_of pool) (number_of old) number) (deed (look (parts_of pool) (number_of old) number) ∷ []) here later are
       (subst (λ (n : ℕ). AreDoneAt (parts_of pool) n (deed (look (parts_of pool) n number) ∷ []) later) same (subst (λ (ds : Deeds). AreDoneAt (parts_of pool) (number_of mid) ds later) only done))
 
-  module _ (mid new : PoolPass N) (between to : List ℕ) (number : ℕ) (same : number_of mid ≡ number_of old) where
+  module _ (mid new : PoolPass N) (between to : Front) (number : ℕ) (same : number_of mid ≡ number_of old) where
     -- a look that found nothing is one of those
     pub looked_more : (did : Did pool (Looks (look (parts_of pool) (number_of mid) number)) mid between (Done None) new to) (ds : PartDeeds) → AreLooks number ds → AreLooks (number + 1) (ds ++ deeds_at did.entries)
     looked_more did ds are =
         subst (λ (k : ℕ). AreLooks k (ds ++ deeds_at did.entries)) (sym (add-one number)) (more_looks mid number ds (deeds_at did.entries) did.deeds (λ e. Event e reply.Nothing) same are did.spelt did.done)
 
-    module _ (from : List ℕ) (before : SoFar pool (AreLooks number) old from mid between) (fresh : ℕ) (below : number < 2 * parts_of pool) where
+    module _ (from : Front) (before : SoFar pool (AreLooks number) old from mid between) (fresh : ℕ) (below : number < 2 * parts_of pool) where
       -- the look took an item, or was refused
       pub looks_up : (item : ℕ) → Did pool (Looks (look (parts_of pool) (number_of mid) number)) mid between (Done (Some item)) new to → Did pool (Gets (parts_of pool) (number_of old) fresh) old from (Done (Item item)) new to
       looks_up item did =
@@ -61,7 +62,7 @@ module _ {N H : Type 0} (pool : Pool N H) (old : PoolPass N) where
           (more_looks mid number (deeds_at before.es) (deeds_at did.entries) did.deeds (λ e. Refused e misuse) same before.are did.spelt did.done) did.halted
 
   -- all looks found nothing
-  pub looks_end : (new : PoolPass N) (from to : List ℕ) (number : ℕ) → number ≡ 2 * parts_of pool → SoFar pool (AreLooks number) old from new to → Did pool (Gets (parts_of pool) (number_of old) pool.fresh) old from (Done (New pool.fresh)) new to
+  pub looks_end : (new : PoolPass N) (from to : Front) (number : ℕ) → number ≡ 2 * parts_of pool → SoFar pool (AreLooks number) old from new to → Did pool (Gets (parts_of pool) (number_of old) pool.fresh) old from (Done (New pool.fresh)) new to
   looks_end new from to number all looked = record {
     deeds = nothing_in (parts_of pool) (number_of old) (2 * parts_of pool);
     entries = looked.es;

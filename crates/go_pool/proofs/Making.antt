@@ -5,7 +5,7 @@ use Rattle.std.specs.Option.{option_map_or}
 use Rattle.std.proofs.lemmas.List.{length-append}
 use Rattle.std.proofs.Math.Seq.{take-append_seam}
 use Rattle.std.proofs.lemmas.Option.{slice_get_within}
-use Rattle.sync_model.specs.Journal.{by, Follows, KeepsEdges}
+use Rattle.sync_model.specs.Journal.{by, Follows, KeepsEdges, TimesRise}
 use Rattle.pool_core.specs.Edges.{pool_releases, pool_acquires}
 use Rattle.ruled_object.specs.Growth as growth
 use Rattle.pool_core.specs.declared.pool_event.PoolEvent.{PoolEvent}
@@ -102,6 +102,7 @@ unseen_lawful {N} {start} p seen own = record {
   own = own ∙ sym (ap (by (object.number_of p)) seen);
   follows = subst (λ (l : PartJournal). Follows part_next true start None l) (sym seen) tt;
   edges = subst (λ (l : PartJournal). KeepsEdges pool_releases pool_acquires l) (sym seen) (λ i j x y before at_x at_y frees takes. cc);
+  times = subst (λ (l : PartJournal). TimesRise l) (sym seen) (λ i j x y before at_x at_y. cc);
 }
 
 module _ {N H : Type 0} (at : H → N → Type 0) (note : N) (calls : ℕ) (pool : Pool N H) where

@@ -1,5 +1,5 @@
 -- What the calls of a pool add to the journals of its parts.
-use Rattle.std.proofs.Common.{◌≡◌, ◌≢◌, inl, inr, ℕ, ◌==◌, Bool, true, false, cond, List, [], ◌∷◌, ◌++◌, map, Option, Some, None, refl, sym, ap, ◌∙◌, subst, append_assoc, append-nil, arith}
+use Rattle.std.proofs.Common.{◌≡◌, ◌≢◌, inl, inr, ℕ, ◌==◌, Bool, true, false, cond, List, [], ◌∷◌, ◌++◌, map, Option, Some, None, refl, sym, ap, ◌∙◌, subst, append_assoc, append-nil, arith, le_refl}
 use Rattle.std.specs.List.{AllByRecursion, slice_get, range_with_len}
 use Rattle.std.specs.Option.{option_map_or}
 use Rattle.std.proofs.lemmas.Bool.{cases_eq}
@@ -10,8 +10,8 @@ use Rattle.sync_model.specs.declared.answer.Answer.{Answer}
 use Rattle.sync_model.specs.declared.answer.Answer.TheVariants.{Done, Halted}
 use Rattle.sync_model.specs.declared.journal.Deed.{Deed}
 use Rattle.sync_model.specs.declared.journal.Deed.TheVariants.{Event, Refused}
-use Rattle.sync_model.specs.Front.{AtLeast}
-use Rattle.sync_model.specs.Journal.{Rising}
+use Rattle.sync_model.specs.Front.{Front, NoLess}
+use Rattle.sync_model.specs.Journal.{front_at, Rising}
 use Rattle.pool_core.specs.declared.pool_event.PoolEvent.{PoolEvent}
 use Rattle.pool_core.specs.declared.pool_event.PoolReply.{PoolReply}
 use Rattle.pool_core.specs.PartLaws.{about}
@@ -63,13 +63,13 @@ leads-append : (seen mid now : PartJournal) (es fs : List (growth.Placed (PoolEv
 leads-append seen mid now [] fs at_first then_on = subst (λ (z : PartJournal). Leads z fs now) at_first then_on
 leads-append seen mid now (e ∷ es) fs at_first then_on = (at_first.0, at_first.1, leads-append (e.before ++ e.entry ∷ []) mid now es fs at_first.2 then_on)
 
-rising_from : (low from to : List ℕ) (es : List PoolEntry) → AtLeast from low → Rising from es to → Rising low es to
-rising_from low from to [] more rising = λ c. let a = more c in let b = rising c in omega arith
-rising_from low from to (e ∷ es) more rising = ((λ c. let a = more c in let b = rising.0 c in omega arith), rising.1)
+rising_from : (low from to : Front) (es : List PoolEntry) → NoLess from low → Rising from es to → Rising low es to
+rising_from low from to [] more rising = ((λ c. let a = more.0 c in let b = rising.0 c in omega arith), let a = more.1 in let b = rising.1 in omega arith)
+rising_from low from to (e ∷ es) more rising = (((λ c. let a = more.0 c in let b = rising.0.0 c in omega arith), let a = more.1 in let b = rising.0.1 in omega arith), rising.1)
 
-rising-append : (from between to : List ℕ) (es fs : List PoolEntry) → Rising from es between → Rising between fs to → Rising from (es ++ fs) to
+rising-append : (from between to : Front) (es fs : List PoolEntry) → Rising from es between → Rising between fs to → Rising from (es ++ fs) to
 rising-append from between to [] fs at_first then_on = rising_from from between to fs at_first then_on
-rising-append from between to (e ∷ es) fs at_first then_on = (at_first.0, rising-append e.front between to es fs at_first.1 then_on)
+rising-append from between to (e ∷ es) fs at_first then_on = (at_first.0, rising-append (front_at e) between to es fs at_first.1 then_on)
 
 all-append : {A : Type 0} (P : A → Type 0) (xs ys : List A) → AllByRecursion P xs → AllByRecursion P ys → AllByRecursion P (xs ++ ys)
 all-append P [] ys at_first then_on = then_on
@@ -82,11 +82,11 @@ done-append callers caller (d ∷ one) two here later (first, rest, is, done, on
 
 module _ {N H : Type 0} (pool : Pool N H) where
   -- nothing was done yet
-  pub grows_none : (pass : PoolPass N) (front : List ℕ) → Grows pool pass front [] pass front
-  grows_none pass front = record { history = λ part. refl; mine = λ part. sym (append-nil (own_of part pass)); right = tt; fronts = λ c. omega arith; number = refl }
+  pub grows_none : (pass : PoolPass N) (front : Front) → Grows pool pass front [] pass front
+  grows_none pass front = record { history = λ part. refl; mine = λ part. sym (append-nil (own_of part pass)); right = tt; fronts = ((λ c. omega arith), le_refl front.time); number = refl }
 
   -- what two calls add, one after the other
-  pub grows_both : (old mid new : PoolPass N) (es fs : List Placed) (from between to : List ℕ) → Grows pool old from es mid between → Grows pool mid between fs new to → Grows pool old from (es ++ fs) new to
+  pub grows_both : (old mid new : PoolPass N) (es fs : List Placed) (from between to : Front) → Grows pool old from es mid between → Grows pool mid between fs new to → Grows pool old from (es ++ fs) new to
   grows_both old mid new es fs from between to one two = record {
     history = λ part. subst (λ (l : List (growth.Placed (PoolEvent ℕ) (PoolReply ℕ))). Leads (seen_of part old) l (seen_of part new)) (sym (part-append part es fs))
         (leads-append (seen_of part old) (seen_of part mid) (seen_of part new) (in_part part es) (in_part part fs) (one.history part) (two.history part));
@@ -103,7 +103,7 @@ module _ {N H : Type 0} (pool : Pool N H) where
     all = map-append (λ (q : Placed). q.placed) es fs
 
   -- a pass that is good for fewer calls made the same
-  pub grows_as : (old spent new : PoolPass N) (es : List Placed) (from to : List ℕ) → spent.number ≡ old.number → spent.parts ≡ old.parts → Grows pool spent from es new to → Grows pool old from es new to
+  pub grows_as : (old spent new : PoolPass N) (es : List Placed) (from to : Front) → spent.number ≡ old.number → spent.parts ≡ old.parts → Grows pool spent from es new to → Grows pool old from es new to
   grows_as old spent new es from to number parts grows = record {
     history = λ part. subst (λ (l : List (PartPass N)). Leads (option_map_or object.seen_by (slice_get l part) []) (in_part part es) (seen_of part new)) (ap (λ v. v.items) parts) (grows.history part);
     mine = λ part. grows.mine part ∙ ap (λ (l : List (PartPass N)). option_map_or object.own_by (slice_get l part) [] ++ entries_of (in_part part es)) (ap (λ v. v.items) parts);
@@ -112,7 +112,7 @@ module _ {N H : Type 0} (pool : Pool N H) where
     number = grows.number ∙ number;
   }
 
-  module _ {A : Type 0} {spells : Deeds → Answer A → Type 0} {timely : Deeds → Type 0} (part : ℕ) (old new : PoolPass N) (from to : List ℕ) (answer : Answer A) (numbers : (p : PartPass N) → slice_get old.parts.items part ≡ Some p → object.number_of p ≡ number_of old)
+  module _ {A : Type 0} {spells : Deeds → Answer A → Type 0} {timely : Deeds → Type 0} (part : ℕ) (old new : PoolPass N) (from to : Front) (answer : Answer A) (numbers : (p : PartPass N) → slice_get old.parts.items part ≡ Some p → object.number_of p ≡ number_of old)
       (did : DidAt pool part spells timely old from answer new to) where
     abbrev pub entries_at : List Placed
     entries_at = map (at part) did.did.entries
@@ -166,7 +166,7 @@ one_refused : (callers caller part : ℕ) (event : PoolEvent ℕ) (misuse : Misu
 one_refused callers caller part event misuse done is only =
     (done, [], sym (append-nil done), (0, part, ap (λ (o : Option ℕ). slice_get (option_map_or (λ (k : ℕ). let one : List ℕ = k ∷ [] in one) o (range_with_len 0 callers)) 0) is, only), refl)
 
-module _ {N H A : Type 0} (pool : Pool N H) (part : ℕ) (old new : PoolPass N) (from to : List ℕ) (event : PoolEvent ℕ) (reply : A → PoolReply ℕ) (numbers : (p : PartPass N) → slice_get old.parts.items part ≡ Some p → object.number_of p ≡ number_of old) (is : about (number_of old) event ≡ Some part) where
+module _ {N H A : Type 0} (pool : Pool N H) (part : ℕ) (old new : PoolPass N) (from to : Front) (event : PoolEvent ℕ) (reply : A → PoolReply ℕ) (numbers : (p : PartPass N) → slice_get old.parts.items part ≡ Some p → object.number_of p ≡ number_of old) (is : about (number_of old) event ≡ Some part) where
   single_done : (answer : Answer A) (es : List (growth.Placed (PoolEvent ℕ) (PoolReply ℕ))) → Single event reply (deeds_of es) answer → AreDoneAt (parts_of pool) (number_of old) (deeds_of es) (deeds_at (map (at part) es))
   single_done (Done given) es only =
       subst (λ (ds : Deeds). AreDoneAt (parts_of pool) (number_of old) ds (deeds_at (map (at part) es))) (sym only)
@@ -209,7 +209,7 @@ last_meets es fs misuse two = ap halt_before (map-append (λ (q : Placed). q.pla
 
 -- ---- a call of the pool takes one off first
 
-module _ {N H A : Type 0} (pool : Pool N H) (spells : Deeds → Answer A → Type 0) (old spent new : PoolPass N) (from to : List ℕ) (answer : Answer A) where
+module _ {N H A : Type 0} (pool : Pool N H) (spells : Deeds → Answer A → Type 0) (old spent new : PoolPass N) (from to : Front) (answer : Answer A) where
   pub did_as : spent.number ≡ old.number → spent.parts ≡ old.parts → Did pool spells spent from answer new to → Did pool spells old from answer new to
   did_as number parts did = record {
     deeds = did.deeds;

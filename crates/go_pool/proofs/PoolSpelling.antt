@@ -4,6 +4,7 @@ use Rattle.sync_types.specs.declared.misuse.Misuse.{Misuse}
 use Rattle.sync_model.specs.declared.answer.Answer.{Answer}
 use Rattle.sync_model.specs.declared.answer.Answer.TheVariants.{Done, Halted}
 use Rattle.sync_model.specs.declared.journal.Deed.TheVariants.{Event, Refused, Halt}
+use Rattle.sync_model.specs.Front.{Front}
 use Rattle.pool_core.specs.declared.pool_event.PoolEvent.{PoolEvent}
 use Rattle.pool_core.specs.declared.pool_event.PoolReply.{PoolReply}
 use Rattle.pool_core.specs.declared.pool_event.PoolReply.TheVariants as reply
@@ -100,7 +101,7 @@ pub gives_none : (gives : Result PoolOutcome Misuse → Bool) → ((item : ℕ) 
 gives_none gives never answer given item is = let may = subst (λ (a : CallAnswer PoolOutcome). IsGiven gives a) is given in let no = never item in (cc)
 
 -- what a call of one event did at a part, by what its protocol's call did
-pub single_at : {N H : Type 0} (pool : Pool N H) (part : ℕ) (shows : ℕ → Type 0) {old new : PoolPass N} {from to : List ℕ} {A : Type 0} (g : PoolStage) (made : PoolEvent ℕ) (reply : A → PoolReply ℕ) (words : Result PoolOutcome Misuse → A) → pool_event g 0 ≡ made → ((r : PoolReply ℕ) → Ended reply words r (pool_meaning g r))
+pub single_at : {N H : Type 0} (pool : Pool N H) (part : ℕ) (shows : ℕ → Type 0) {old new : PoolPass N} {from to : Front} {A : Type 0} (g : PoolStage) (made : PoolEvent ℕ) (reply : A → PoolReply ℕ) (words : Result PoolOutcome Misuse → A) → pool_event g 0 ≡ made → ((r : PoolReply ℕ) → Ended reply words r (pool_meaning g r))
     → {answer : CallAnswer PoolOutcome} {result : Answer A} → result ≡ told words answer → DidAt pool part (λ ds a. Spells pool_event pool_meaning g ds a) (λ ds. AreTimely pool_moment shows ds) old from answer new to → DidAt pool part (λ ds a. Single made reply ds a) (λ ds. Unit {0}) old from result new to
 single_at pool part shows {old} {new} {from} {to} g made reply words is ended {answer} {result} told_so did =
     let spells : Deeds → CallAnswer PoolOutcome → Type 0 = λ ds a. Spells pool_event pool_meaning g ds a in record {

@@ -71,7 +71,7 @@ pass_used pool old new part o p q is at_o at_p number items of same lawful = pas
 
 -- what one entry more shows is lawful
 pub lawful_added : {N : Type 0} {start : PartState ℕ} (p q : PartPass N) (e : PoolEntry) → object.Adds part_next true pool_releases pool_acquires start p e q → object.number_of q ≡ object.number_of p → growth.IsLawful part_next true pool_releases pool_acquires start q
-lawful_added p q e adds number = record { own = adds.all ∙ ap (λ (n : ℕ). by n (object.seen_by q)) (sym number); follows = adds.follows; edges = adds.edges }
+lawful_added p q e adds number = record { own = adds.all ∙ ap (λ (n : ℕ). by n (object.seen_by q)) (sym number); follows = adds.follows; edges = adds.edges; times = adds.times }
 
 -- a caller's pass to a part has its number
 pub seat_numbers : {N H : Type 0} (pool : Pool N H) (pass : PoolPass N) → IsPassOf pool pass → (part : ℕ) (p : PartPass N) → slice_get pass.parts.items part ≡ Some p → object.number_of p ≡ pass.number

@@ -8,6 +8,7 @@ use Rattle.sync_types.specs.declared.misuse.Misuse.{Misuse}
 use Rattle.sync_model.specs.declared.answer.Answer.TheVariants.{Done, Halted}
 use Rattle.sync_model.specs.declared.journal.Deed.{Deed}
 use Rattle.sync_model.specs.declared.journal.Deed.TheVariants.{Event, Refused}
+use Rattle.sync_model.specs.Front.{Front}
 use Rattle.pool_core.specs.declared.pool_event.PoolEvent.{PoolEvent}
 use Rattle.pool_core.specs.declared.pool_event.PoolEvent.TheVariants.{Sweep}
 use Rattle.pool_core.specs.declared.pool_event.PoolReply.{PoolReply}
@@ -46,7 +47,7 @@ module _ {N H : Type 0} (pool : Pool N H) where
   abbrev pub AreSwept : ℕ → PartDeeds → Type 0
   AreSwept number done = done ≡ map swept_at (take number (range_with_len 0 (parts_of pool)))
 
-  module _ (old mid new : PoolPass N) (between to : List ℕ) (number : ℕ) (below : number < parts_of pool) (numbers : (p : PartPass N) → slice_get mid.parts.items number ≡ Some p → object.number_of p ≡ number_of mid) where
+  module _ (old mid new : PoolPass N) (between to : Front) (number : ℕ) (below : number < parts_of pool) (numbers : (p : PartPass N) → slice_get mid.parts.items number ≡ Some p → object.number_of p ≡ number_of mid) where
     -- one part more
     pub swept_more : (did : DidAt pool number (λ ds a. Single {A = Unit {0}} Sweep (λ done. Swept) ds a) (λ ds. Unit {0}) mid between (Done tt) new to) (ds : PartDeeds) → AreSwept number ds
         → AreSwept (number + 1) (ds ++ deeds_at (entries_at pool number mid new between to (Done tt) numbers did))
@@ -56,7 +57,7 @@ module _ {N H : Type 0} (pool : Pool N H) where
         ∙ sym (one_more (parts_of pool) number below))
 
     -- a part refused it
-    pub swept_refused : (from : List ℕ) → SoFar pool (AreSwept number) old from mid between → (misuse : Misuse) → DidAt pool number (λ ds a. Single {A = Unit {0}} Sweep (λ done. Swept) ds a) (λ ds. Unit {0}) mid between (Halted misuse) new to → Did pool Sweeps old from (Halted misuse) new to
+    pub swept_refused : (from : Front) → SoFar pool (AreSwept number) old from mid between → (misuse : Misuse) → DidAt pool number (λ ds a. Single {A = Unit {0}} Sweep (λ done. Swept) ds a) (λ ds. Unit {0}) mid between (Halted misuse) new to → Did pool Sweeps old from (Halted misuse) new to
     swept_refused from before misuse did =
         let fs = entries_at pool number mid new between to (Halted misuse) numbers did in
         let done : deeds_at before.es ++ deeds_at fs ≡ map swept_at (take number (range_with_len 0 (parts_of pool))) ++ (number, Refused Sweep misuse) ∷ [] =
@@ -66,7 +67,7 @@ module _ {N H : Type 0} (pool : Pool N H) where
         (deeds_at before.es ++ deeds_at fs, [], sym (append-nil (deeds_at before.es ++ deeds_at fs)), (number, number, part_at (parts_of pool) number below, done), refl) (halted_at pool number mid new between to (Halted misuse) numbers did)
 
   -- all parts were swept
-  pub swept_all : (old new : PoolPass N) (from to : List ℕ) (number : ℕ) → number ≡ parts_of pool → SoFar pool (AreSwept number) old from new to → Did pool Sweeps old from (Done tt) new to
+  pub swept_all : (old new : PoolPass N) (from to : Front) (number : ℕ) → number ≡ parts_of pool → SoFar pool (AreSwept number) old from new to → Did pool Sweeps old from (Done tt) new to
   swept_all old new from to number all swept = record {
     deeds = Event Sweep Swept ∷ [];
     entries = swept.es;

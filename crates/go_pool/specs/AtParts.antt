@@ -1,6 +1,7 @@
 -- What a call of one part did, within a call of the pool.
-use Rattle.std.specs.Prelude.{◌≡◌, ℕ, true, List, Some, set}
+use Rattle.std.specs.Prelude.{◌≡◌, ℕ, true, Some, set}
 use Rattle.sync_model.specs.declared.answer.Answer.{Answer}
+use Rattle.sync_model.specs.Front.{Front}
 use Rattle.pool_core.specs.PartMachine.{part_start, part_next}
 use Rattle.call_loop.specs.Calls as running
 use Rattle.go_pool.specs.declared.pass.PoolPass.{PoolPass}
@@ -9,7 +10,7 @@ use Rattle.go_pool.specs.Parts.{PartPass, pass_at}
 use Rattle.go_pool.specs.Pools.{Deeds, number_of, room_of}
 
 -- the pass to one part did this, and those to the others are as before
-pub record DidAt {N H A : Type 0} (pool : Pool N H) (part : ℕ) (spells : Deeds → Answer A → Type 0) (timely : Deeds → Type 0) (old : PoolPass N) (from : List ℕ) (answer : Answer A) (new : PoolPass N) (to : List ℕ) : Type 0 where
+pub record DidAt {N H A : Type 0} (pool : Pool N H) (part : ℕ) (spells : Deeds → Answer A → Type 0) (timely : Deeds → Type 0) (old : PoolPass N) (from : Front) (answer : Answer A) (new : PoolPass N) (to : Front) : Type 0 where
   pub before : PartPass N
   pub after : PartPass N
   pub was : pass_at part old ≡ Some before

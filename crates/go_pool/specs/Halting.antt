@@ -2,6 +2,8 @@
 use Rattle.std.specs.Prelude.{◌≡◌, ◌<◌, ℕ, true, List, length, Some, slice_get, set}
 use Rattle.sync_types.specs.declared.misuse.Misuse.{Misuse}
 use Rattle.sync_model.specs.declared.journal.Deed.TheVariants.{Halt}
+use Rattle.sync_model.specs.Front.{Front}
+use Rattle.sync_model.specs.Journal.{front_at}
 use Rattle.pool_core.specs.declared.pool_event.PoolEvent.{PoolEvent}
 use Rattle.pool_core.specs.declared.pool_event.PoolReply.{PoolReply}
 use Rattle.pool_core.specs.Edges.{pool_releases, pool_acquires}
@@ -18,7 +20,7 @@ use Rattle.go_pool.specs.Pools.{Journal, journal_at, parts_of, room_of}
 
 module _ {N H : Type 0} where
   -- one entry more in the journal of a part, which halts it by this misuse, of a caller who knows this
-  pub record HaltsAt (pool : Pool N H) (part : ℕ) (misuse : Misuse) (front : List ℕ) (old new : PoolPass N) : Type 0 where
+  pub record HaltsAt (pool : Pool N H) (part : ℕ) (misuse : Misuse) (front : Front) (old new : PoolPass N) : Type 0 where
     pub before : PartPass N
     pub after : PartPass N
     pub entry : PoolEntry
@@ -26,7 +28,7 @@ module _ {N H : Type 0} where
     pub set_is : new.parts.items ≡ set old.parts.items part after
     pub adds : object.Adds part_next true pool_releases pool_acquires (part_start (room_of pool)) before entry after
     pub deed : entry.deed ≡ Halt misuse
-    pub known : entry.front ≡ front
+    pub known : front_at entry ≡ front
 
 module _ {M N H : Type 0} where
   -- the journal is all that these passes' callers did on the part, and each of those has seen all of it

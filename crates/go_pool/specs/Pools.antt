@@ -6,6 +6,7 @@ use Rattle.sync_types.specs.declared.misuse.Misuse.{Misuse}
 use Rattle.sync_model.specs.declared.answer.Answer.{Answer}
 use Rattle.sync_model.specs.declared.journal.Deed.{Deed}
 use Rattle.sync_model.specs.declared.journal.Deed.TheVariants.{Event, Refused, Halt}
+use Rattle.sync_model.specs.Front.{Front}
 use Rattle.sync_model.specs.Journal as journals
 use Rattle.pool_core.specs.declared.pool_event.PoolEvent.{PoolEvent}
 use Rattle.pool_core.specs.declared.pool_event.PoolReply.{PoolReply}
@@ -152,7 +153,7 @@ module _ {N H : Type 0} where
   held_after pool journal = journals.state_after part_next (part_start (room_of pool)) journal
 
   -- The caller made these entries, in order and no others, each in the journal of its part; the fronts along them never fall.
-  pub record Grows (pool : Pool N H) (old : PoolPass N) (from : List ℕ) (es : List Placed) (new : PoolPass N) (to : List ℕ) : Type 0 where
+  pub record Grows (pool : Pool N H) (old : PoolPass N) (from : Front) (es : List Placed) (new : PoolPass N) (to : Front) : Type 0 where
     pub history : (part : ℕ) → growth.Leads (seen_of part old) (in_part part es) (seen_of part new)
     pub mine : (part : ℕ) → parts.own_of part new ≡ parts.own_of part old ++ growth.entries_of (in_part part es)
     pub right : AllByRecursion (growth.IsRight part_next true (part_start (room_of pool)) (number_of old)) (all_of es)
@@ -160,7 +161,7 @@ module _ {N H : Type 0} where
     pub number : number_of new ≡ number_of old
 
   -- The caller made the events of a call that is spelt so, one after the other, each on the part that it is about, and no others. Halted is answered exactly where a halt stands before the last one's place.
-  pub record Did {A : Type 0} (pool : Pool N H) (spells : Deeds → Answer A → Type 0) (old : PoolPass N) (from : List ℕ) (answer : Answer A) (new : PoolPass N) (to : List ℕ) : Type 0 where
+  pub record Did {A : Type 0} (pool : Pool N H) (spells : Deeds → Answer A → Type 0) (old : PoolPass N) (from : Front) (answer : Answer A) (new : PoolPass N) (to : Front) : Type 0 where
     pub deeds : Deeds
     pub entries : List Placed
     pub grows : Grows pool old from entries new to
@@ -168,10 +169,14 @@ module _ {N H : Type 0} where
     pub spelt : spells deeds answer
     pub halted : growth.MeetsHalt (all_of entries) answer
 
-  -- The caller made this one entry more in the journal of each part: in each it knew what it had seen there.
-  pub record Adds (pool : Pool N H) (old : PoolPass N) (e : PoolEntry) (new : PoolPass N) : Type 0 where
+  -- The caller made this one entry more in the journal of each part, part by part from 0 up: in each it knew what it had seen there. The entries' numbers rise along the parts, from past the one that the caller had to this entry's, which is the last part's.
+  pub record Adds (pool : Pool N H) (old : PoolPass N) (from : Front) (e : PoolEntry) (new : PoolPass N) : Type 0 where
+    pub times : ℕ → ℕ
+    pub past : (part : ℕ) → part < parts_of pool → from.time < times part
+    pub rise : (part later : ℕ) → part < later → later < parts_of pool → times part < times later
+    pub last : (part : ℕ) → part + 1 ≡ parts_of pool → times part ≡ e.time
     pub each : (part : ℕ) (before after : PartPass N) → parts.pass_at part old ≡ Some before → parts.pass_at part new ≡ Some after
-        → object.Adds part_next true pool_releases pool_acquires (part_start (room_of pool)) before (record e { knew = length (object.seen_by before) }) after
+        → object.Adds part_next true pool_releases pool_acquires (part_start (room_of pool)) before (record e { time = times part; knew = length (object.seen_by before) }) after
 
   -- the journal of each part is all that the passes' callers did on it
   pub record IsWhole (pool : Pool N H) (journal : Journal) (passes : List (PoolPass N)) : Type 0 where

@@ -1,6 +1,7 @@
 //! Getting an item of a pool.
 ghost use Rattle.std.specs.Prelude.{◌≡◌, ◌≢◌, ℕ, ◌<◌, ◌*◌, Some};
 ghost use Rattle.sync_model.specs.declared.answer.Answer.TheVariants.{Done};
+ghost use Rattle.sync_model.specs.Front.{SameCounts};
 ghost use Rattle.pool_core.specs.Looks.{look};
 ghost use Rattle.pool_core.specs.PartLaws.{about};
 ghost use Rattle.protocols.specs.PoolStages.{pool_event};
@@ -38,7 +39,7 @@ impl<N: Note> Pool<N> {
         ensures note { KeepsNote N.at N.own N.front note.old note.new }
         ensures events { Did self.now (Gets (parts_of self.now) (number_of pass.old) (fresh_of self.now)) pass.old (N.front note.old) result pass.new (N.front note.new) }
         ensures origin { ComesFromPuts pass.new }
-        ensures no_edge { ((item : ℕ) → result ≢ Done (PoolGet.Item item)) → N.front note.new ≡ N.front note.old }
+        ensures no_edge { ((item : ℕ) → result ≢ Done (PoolGet.Item item)) → SameCounts (N.front note.new) (N.front note.old) }
         ensures journal { IsLawful self.now pass.new }
     {
         journal_is_log::<PartCore>();
@@ -70,7 +71,7 @@ impl<N: Note> Pool<N> {
         ensures pass { IsPassOf self.now pass.new × SamePass pass.old pass.new }
         ensures note { KeepsNote N.at N.own N.front note.old note.new }
         ensures events { Did self.now (Looks (look (parts_of self.now) (number_of pass.old) number)) pass.old (N.front note.old) result pass.new (N.front note.new) }
-        ensures no_edge { ((item : ℕ) → result ≢ Done (Some item)) → N.front note.new ≡ N.front note.old }
+        ensures no_edge { ((item : ℕ) → result ≢ Done (Some item)) → SameCounts (N.front note.new) (N.front note.old) }
         ensures journal { IsLawful self.now pass.new }
     {
         let stage = self.look_stage(pass.number(), number);

@@ -1,8 +1,10 @@
 //! Halting a pool.
 ghost use Rattle.std.specs.Prelude.{◌≡◌, ◌<◌, ◌==◌, cond};
 ghost use Rattle.sync_model.specs.declared.journal.Deed.TheVariants.{Halt};
-ghost use Rattle.sync_model.specs.Journal.{halt_of as first_in};
+ghost use Rattle.sync_model.specs.Front.{SameCounts, Later};
+ghost use Rattle.sync_model.specs.Journal.{front_at, halt_of as first_in};
 ghost use Rattle.protocols.specs.PoolStages.{pool_stands};
+ghost use Rattle.ruled_object.specs.Growth.{KeepsNote};
 ghost use Rattle.call_loop.specs.Between.{AreAllBetween};
 ghost use Rattle.go_pool.specs.Halting.{HaltsAt, AreColumns, AreTold, IsTold};
 ghost use Rattle.go_pool.specs.Parts.{PartJournal};
@@ -14,6 +16,7 @@ use crate::pass::PartPass;
 use crate::pool::{Pool, PoolPass};
 use pool_core::PartCore;
 use ruled_object::Object;
+use ruled_object::laws::notes_are_kept;
 use std::sync::Wait;
 use sync_model::Note;
 use sync_types::Misuse;
@@ -21,12 +24,17 @@ use sync_types::Misuse;
 impl<N: Note> Pool<N> {
     /// Halts the pool by a misuse, part by part from 0 up: from then on each call is answered `Halted` with the misuse of the
     /// first halt of the part where it stands. It is one entry of each part's journal, neither releases nor acquires, and takes nothing off
-    /// the calls that are left.
-    pub fn halt<R: Wait>(&self, rt: &R, pass: &mut PoolPass<N>, note: &N, misuse: Misuse)
+    /// the calls that are left. Its caller's note knows what it knew. Each entry has a number past that of the one before it, and the note has
+    /// the last one's.
+    pub fn halt<R: Wait>(&self, rt: &R, pass: &mut PoolPass<N>, note: &mut N, misuse: Misuse)
         requires pass { IsPassOf self.now pass.old }
         ensures pass { IsPassOf self.now pass.new × SamePass pass.old pass.new }
-        ensures entry { (e : PoolEntry) × Adds self.now pass.old e pass.new × (e.deed ≡ Halt misuse) × (e.front ≡ N.front note.now) }
+        ensures entry { (e : PoolEntry) × Adds self.now pass.old (N.front note.old) e pass.new × (e.deed ≡ Halt misuse) × (front_at e ≡ N.front note.new) }
+        ensures later { Later (N.front note.new) (N.front note.old) }
+        ensures note { KeepsNote N.at N.own N.front note.old note.new }
+        ensures no_edge { SameCounts (N.front note.new) (N.front note.old) }
     {
+        notes_are_kept::<N>();
         for part in 0..self.callers {
             self.halt_part(rt, pass, note, misuse, part);
         }
@@ -52,14 +60,17 @@ impl<N: Note> Pool<N> {
         &self,
         rt: &R,
         pass: &mut PoolPass<N>,
-        note: &N,
+        note: &mut N,
         misuse: Misuse,
         part: u32,
     )
         requires part { part < parts_of self.now }
         requires pass { IsPassOf self.now pass.old }
         ensures pass { IsPassOf self.now pass.new × SamePass pass.old pass.new }
-        ensures entry { HaltsAt self.now part misuse (N.front note.now) pass.old pass.new }
+        ensures entry { HaltsAt self.now part misuse (N.front note.new) pass.old pass.new }
+        ensures later { Later (N.front note.new) (N.front note.old) }
+        ensures note { KeepsNote N.at N.own N.front note.old note.new }
+        ensures no_edge { SameCounts (N.front note.new) (N.front note.old) }
     {
         let object = &self.parts[part as usize];
         let seat = &mut pass.parts[part as usize];

@@ -1,5 +1,6 @@
 //! One event at one part of a pool.
 ghost use Rattle.std.specs.Prelude.{◌≡◌, ◌<◌, false};
+ghost use Rattle.sync_model.specs.Front.{SameCounts};
 ghost use Rattle.protocols.specs.PoolStages.{pool_event, pool_meaning, pool_moment, pool_gives, pool_gains};
 ghost use Rattle.protocols.specs.Spelling.{Spells, AreTimely};
 ghost use Rattle.ruled_object.specs.Growth.{KeepsNote};
@@ -33,7 +34,7 @@ impl<N: Note> Pool<N> {
         ensures note { KeepsNote N.at N.own N.front note.old note.new }
         ensures events { DidAt self.now part (Spells pool_event pool_meaning stage) (AreTimely pool_moment (C.shows at.now.clock.now)) pass.old (N.front note.old) result pass.new (N.front note.new) }
         ensures gives { IsGiven (pool_gives stage) result }
-        ensures no_edge { has_gained (pool_gains stage) result ≡ false → N.front note.new ≡ N.front note.old }
+        ensures no_edge { has_gained (pool_gains stage) result ≡ false → SameCounts (N.front note.new) (N.front note.old) }
     {
         let object = &self.parts[part as usize];
         let seat = &mut pass.parts[part as usize];

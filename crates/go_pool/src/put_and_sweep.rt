@@ -1,5 +1,6 @@
 //! Putting an item into a pool, and removing what lies there.
-ghost use Rattle.std.specs.Prelude.{◌≡◌, ◌<◌};
+ghost use Rattle.std.specs.Prelude.{◌<◌};
+ghost use Rattle.sync_model.specs.Front.{SameCounts};
 ghost use Rattle.ruled_object.specs.Growth.{KeepsNote};
 ghost use Rattle.go_pool.specs.Calls.{Puts, Sweeps};
 ghost use Rattle.go_pool.specs.Items.{DropsWhereFull};
@@ -33,7 +34,7 @@ impl<N: Note> Pool<N> {
         ensures note { KeepsNote N.at N.own N.front note.old note.new }
         ensures events { Did self.now (Puts item) pass.old (N.front note.old) result pass.new (N.front note.new) }
         ensures dropped { DropsWhereFull self.now pass.new item result }
-        ensures no_edge { N.front note.new ≡ N.front note.old }
+        ensures no_edge { SameCounts (N.front note.new) (N.front note.old) }
         ensures journal { IsLawful self.now pass.new }
     {
         journal_is_log::<PartCore>();
@@ -57,7 +58,7 @@ impl<N: Note> Pool<N> {
         ensures pass { IsPassOf self.now pass.new × IsOneLess pass.old pass.new }
         ensures note { KeepsNote N.at N.own N.front note.old note.new }
         ensures events { Did self.now Sweeps pass.old (N.front note.old) result pass.new (N.front note.new) }
-        ensures no_edge { N.front note.new ≡ N.front note.old }
+        ensures no_edge { SameCounts (N.front note.new) (N.front note.old) }
         ensures journal { IsLawful self.now pass.new }
     {
         notes_are_kept::<N>();
