@@ -1,6 +1,7 @@
 -- What contracts see of a running Sema and of the passes to it.
 use Rattle.std.specs.Prelude.{ℕ, ◌≤◌, true, false, List, All}
 use Rattle.sync_model.specs.declared.journal.Entry.{Entry}
+use Rattle.sync_model.specs.Front.{Front}
 use Rattle.sema_core.specs.declared.event.SemaEvent.{SemaEvent}
 use Rattle.sema_core.specs.declared.event.SemaReply.{SemaReply}
 use Rattle.sema_core.specs.SemaEdges.{sema_releases, sema_acquires}
@@ -62,7 +63,7 @@ module _ {N H : Type 0} where
   AreNew sema calls passes = AreNewBetween false waits_after sema.object calls passes
 
   -- the caller made these entries, in order and no others; the fronts along them never fall
-  abbrev pub SemaGrows : Sema N H → SemaPass N → List ℕ → List (Placed SemaEvent SemaReply) → SemaPass N → List ℕ → Type 0
+  abbrev pub SemaGrows : Sema N H → SemaPass N → Front → List (Placed SemaEvent SemaReply) → SemaPass N → Front → Type 0
   SemaGrows sema old from es new to = Grows next true (start_of sema) old from es new to
 
   -- what a pass shows of the journal follows the machine, keeps the edge law, and has of its caller what the pass has

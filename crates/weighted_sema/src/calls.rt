@@ -2,6 +2,7 @@
 ghost use Rattle.std.specs.Prelude.{◌≡◌, ◌≢◌, ◌<◌, ◌≤◌, List, true};
 ghost use Rattle.sync_types.specs.declared.misuse.Misuse.{Misuse};
 ghost use Rattle.sync_model.specs.declared.answer.Answer.TheVariants.{Done, Halted};
+ghost use Rattle.sync_model.specs.Front.{SameCounts};
 ghost use Rattle.ruled_object.specs.Growth.{Placed, KeepsNote, MeetsHalt, deeds_of};
 ghost use Rattle.ruled_object.specs.Passes.{left_of, IsOneLess};
 ghost use Rattle.sema_core.specs.declared.event.SemaEvent.{SemaEvent};
@@ -37,7 +38,7 @@ impl<N: Note> Sema<N> {
         ensures pass { IsPassOf self.now pass.new × IsOneLess pass.old pass.new }
         ensures note { KeepsNote N.at N.own N.front note.old note.new }
         ensures events { (es : List (Placed SemaEvent SemaReply)) × SemaGrows self.now pass.old (N.front note.old) es pass.new (N.front note.new) × Acquires weight (deeds_of es) result × MeetsHalt es result }
-        ensures halted { (misuse : Misuse) → result ≡ Halted misuse → N.front note.new ≡ N.front note.old }
+        ensures halted { (misuse : Misuse) → result ≡ Halted misuse → SameCounts (N.front note.new) (N.front note.old) }
         ensures journal { IsSemaLawful self.now pass.new }
     {
         acquired(call(&self.object, rt, at, pass, note, SemaStage::Acquire(weight)))
@@ -60,7 +61,7 @@ impl<N: Note> Sema<N> {
         ensures pass { IsPassOf self.now pass.new × IsOneLess pass.old pass.new }
         ensures note { KeepsNote N.at N.own N.front note.old note.new }
         ensures events { (es : List (Placed SemaEvent SemaReply)) × SemaGrows self.now pass.old (N.front note.old) es pass.new (N.front note.new) × Tries weight (deeds_of es) result × MeetsHalt es result }
-        ensures no_edge { result ≢ Done true → N.front note.new ≡ N.front note.old }
+        ensures no_edge { result ≢ Done true → SameCounts (N.front note.new) (N.front note.old) }
         ensures journal { IsSemaLawful self.now pass.new }
     {
         tried(call(&self.object, rt, at, pass, note, SemaStage::Try(weight)))
@@ -84,7 +85,7 @@ impl<N: Note> Sema<N> {
         ensures pass { IsPassOf self.now pass.new × IsOneLess pass.old pass.new }
         ensures note { KeepsNote N.at N.own N.front note.old note.new }
         ensures events { (es : List (Placed SemaEvent SemaReply)) × SemaGrows self.now pass.old (N.front note.old) es pass.new (N.front note.new) × Releases weight (deeds_of es) result × MeetsHalt es result }
-        ensures no_edge { N.front note.new ≡ N.front note.old }
+        ensures no_edge { SameCounts (N.front note.new) (N.front note.old) }
         ensures journal { IsSemaLawful self.now pass.new }
     {
         released(call(&self.object, rt, at, pass, note, SemaStage::Release(weight)))
