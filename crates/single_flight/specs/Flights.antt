@@ -1,6 +1,7 @@
 -- What contracts see of a running Flight and of the passes to it.
 use Rattle.std.specs.Prelude.{◌≡◌, ℕ, true, List, All}
 use Rattle.sync_model.specs.declared.journal.Entry.{Entry}
+use Rattle.sync_model.specs.Front.{Front}
 use Rattle.flight_core.specs.declared.event.FlightEvent.{FlightEvent}
 use Rattle.flight_core.specs.declared.event.FlightReply.{FlightReply}
 use Rattle.flight_core.specs.FlightEdges.{flight_releases, flight_acquires}
@@ -61,7 +62,7 @@ module _ {N H : Type 0} where
   AreNew group calls passes = AreNewBetween Out flight_stands group.object calls passes
 
   -- the caller made these entries, in order and no others; the fronts along them never fall
-  abbrev pub FlightGrows : Group N H → FlightPass N → List ℕ → List (Placed FlightEvent FlightReply) → FlightPass N → List ℕ → Type 0
+  abbrev pub FlightGrows : Group N H → FlightPass N → Front → List (Placed FlightEvent FlightReply) → FlightPass N → Front → Type 0
   FlightGrows group old from es new to = Grows next true (start_of group) old from es new to
 
   -- what a pass shows of the journal follows the machine, keeps the edge law, and has of its caller what the pass has

@@ -2,6 +2,7 @@
 ghost use Rattle.std.specs.Prelude.{◌≡◌, ◌<◌, List};
 ghost use Rattle.sync_types.specs.declared.misuse.Misuse.{Misuse};
 ghost use Rattle.sync_model.specs.declared.answer.Answer.TheVariants.{Halted};
+ghost use Rattle.sync_model.specs.Front.{SameCounts};
 ghost use Rattle.ruled_object.specs.Growth.{Placed, KeepsNote, MeetsHalt, deeds_of};
 ghost use Rattle.ruled_object.specs.Passes.{left_of, number_of, IsOneLess, SamePass};
 ghost use Rattle.flight_core.specs.declared.event.FlightEvent.{FlightEvent};
@@ -36,7 +37,7 @@ impl<N: Note> Group<N> {
         ensures pass { StandsAs self.now pass.new result × IsOneLess pass.old pass.new }
         ensures note { KeepsNote N.at N.own N.front note.old note.new }
         ensures events { (es : List (Placed FlightEvent FlightReply)) × FlightGrows self.now pass.old (N.front note.old) es pass.new (N.front note.new) × Comes key (deeds_of es) result × MeetsHalt es result }
-        ensures halted { (misuse : Misuse) → result ≡ Halted misuse → N.front note.new ≡ N.front note.old }
+        ensures halted { (misuse : Misuse) → result ≡ Halted misuse → SameCounts (N.front note.new) (N.front note.old) }
         ensures journal { IsFlightLawful self.now pass.new }
     {
         let caller = pass.number();
@@ -64,7 +65,7 @@ impl<N: Note> Group<N> {
         ensures pass { IsPassOf self.now pass.new × SamePass pass.old pass.new }
         ensures note { KeepsNote N.at N.own N.front note.old note.new }
         ensures events { (es : List (Placed FlightEvent FlightReply)) × FlightGrows self.now pass.old (N.front note.old) es pass.new (N.front note.new) × Lands value (deeds_of es) result × MeetsHalt es result }
-        ensures no_edge { N.front note.new ≡ N.front note.old }
+        ensures no_edge { SameCounts (N.front note.new) (N.front note.old) }
         ensures journal { IsFlightLawful self.now pass.new }
     {
         let Flight { caller: _ } = flight;
