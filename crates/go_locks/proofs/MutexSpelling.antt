@@ -7,6 +7,7 @@ use Rattle.sync_model.specs.declared.answer.Answer.TheVariants.{Done, Halted}
 use Rattle.sync_model.specs.declared.journal.Deed.TheVariants.{Event, Refused, Halt}
 use Rattle.sync_types.specs.declared.lock_call.LockReply.{LockReply}
 use Rattle.sync_types.specs.declared.lock_call.LockReply.TheVariants as outcome
+use Rattle.sync_model.specs.Front.{Front}
 use Rattle.mutex_core.specs.declared.event.MutexEvent.{MutexEvent}
 use Rattle.mutex_core.specs.declared.event.MutexEvent.TheVariants.{Arrive, Try, Unlock, Woken}
 use Rattle.mutex_core.specs.declared.reply.MutexReply.{MutexReply}
@@ -117,7 +118,7 @@ clocked_by shows [] timely = tt
 clocked_by shows (d ∷ deeds) timely = (clocked_one shows d timely.0, clocked_by shows deeds timely.1)
 
 -- what a call did, by what its protocol's call did
-module _ {N : Type 0} (shows : ℕ → Type 0) {start : State} {old new : Pass State N MutexEvent MutexReply} {from to : List ℕ} {answer : CallAnswer LockReply} where
+module _ {N : Type 0} (shows : ℕ → Type 0) {start : State} {old new : Pass State N MutexEvent MutexReply} {from to : Front} {answer : CallAnswer LockReply} where
   as_here : {A : Type 0} (first : MutexStage) (spells : List MutexDeed → Answer A → Type 0) (words : Result LockReply Misuse → A) → ((deeds : List MutexDeed) → Spells mutex_event mutex_meaning first deeds answer → spells deeds (running.told words answer)) → {result : Answer A} → result ≡ running.told words answer → running.Did next true start (λ ds a. Spells mutex_event mutex_meaning first ds a) (λ ds. AreTimely mutex_moment shows ds) old from answer new to
       → Did next start spells (AreClocked shows) old from result new to
   as_here first spells words spelt {result} is did =

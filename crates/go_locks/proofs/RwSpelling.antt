@@ -1,5 +1,5 @@
 -- The spelling of a reader/writer mutex's protocol, in the words of this crate.
-use Rattle.std.proofs.Common.{◌≡◌, ℕ, Bool, true, false, List, [], ◌∷◌, ◌++◌, Result, Ok, Err, refl, sym, subst, ◌∙◌}
+use Rattle.std.proofs.Common.{◌≡◌, ℕ, Bool, true, List, [], ◌∷◌, ◌++◌, Result, Ok, Err, refl, sym, subst, ◌∙◌}
 use Rattle.std.proofs.lemmas.List.{append_assoc}
 use Rattle.sync_types.specs.declared.misuse.Misuse.{Misuse}
 use Rattle.sync_model.specs.declared.answer.Answer.{Answer}
@@ -7,6 +7,7 @@ use Rattle.sync_model.specs.declared.answer.Answer.TheVariants.{Done, Halted}
 use Rattle.sync_model.specs.declared.journal.Deed.TheVariants.{Event, Refused, Halt}
 use Rattle.sync_types.specs.declared.lock_call.LockReply.{LockReply}
 use Rattle.sync_types.specs.declared.lock_call.LockReply.TheVariants as outcome
+use Rattle.sync_model.specs.Front.{Front}
 use Rattle.rw_core.specs.declared.event.RwEvent.{RwEvent}
 use Rattle.rw_core.specs.declared.event.RwEvent.TheVariants.{ReadArrive, ReadTry, ReadUnlock, WriteArrive, WriteTry, WriteWoken, WriteUnlock, Leave}
 use Rattle.rw_core.specs.declared.reply.RwReply.{RwReply}
@@ -213,7 +214,7 @@ clocked_by shows [] timely = tt
 clocked_by shows (d ∷ deeds) timely = (clocked_one shows d timely.0, clocked_by shows deeds timely.1)
 
 -- what a call did, by what its protocol's call did
-module _ {N : Type 0} (shows : ℕ → Type 0) {start : State} {old new : Pass State N RwEvent RwReply} {from to : List ℕ} {answer : CallAnswer LockReply} where
+module _ {N : Type 0} (shows : ℕ → Type 0) {start : State} {old new : Pass State N RwEvent RwReply} {from to : Front} {answer : CallAnswer LockReply} where
   pub as_here : {A : Type 0} (first : RwMutexStage) (spells : List RwDeed → Answer A → Type 0) (words : Result LockReply Misuse → A) → ((deeds : List RwDeed) → Spells rw_event rw_meaning first deeds answer → spells deeds (running.told words answer)) → {result : Answer A} → result ≡ running.told words answer → running.Did next true start (λ ds a. Spells rw_event rw_meaning first ds a) (λ ds. AreTimely rw_moment shows ds) old from answer new to
       → Did next start spells (AreClocked shows) old from result new to
   as_here first spells words spelt {result} is did =

@@ -2,6 +2,7 @@
 ghost use Rattle.std.specs.Prelude.{◌≡◌, ◌≢◌, ◌<◌, true};
 ghost use Rattle.sync_types.specs.declared.misuse.Misuse.{Misuse};
 ghost use Rattle.sync_model.specs.declared.answer.Answer.TheVariants.{Done, Halted};
+ghost use Rattle.sync_model.specs.Front.{SameCounts};
 ghost use Rattle.mutex_core.specs.Edges.{acquires, releases};
 ghost use Rattle.mutex_core.specs.MutexMachine.{next};
 ghost use Rattle.mutex_core.specs.Word.{is_uncontended};
@@ -37,7 +38,7 @@ impl<N: Note> Mutex<N> {
         ensures pass { IsPassOfMutex self.now pass.new × IsOneLess pass.old pass.new }
         ensures note { KeepsNote N.at N.own N.front note.old note.new }
         ensures events { Did next (mutex_start self.now) Locks (AreClocked (C.shows at.now.clock.now)) pass.old (N.front note.old) result pass.new (N.front note.new) }
-        ensures halted { (misuse : Misuse) → result ≡ Halted misuse → N.front note.new ≡ N.front note.old }
+        ensures halted { (misuse : Misuse) → result ≡ Halted misuse → SameCounts (N.front note.new) (N.front note.old) }
         ensures journal { IsLawful next true (λ event reply. releases reply) (λ event reply. acquires reply) (mutex_start self.now) pass.new }
         ensures turns { NeedsNoTurn next true is_uncontended (mutex_start self.now) pass.old (N.front note.old) pass.new (N.front note.new) }
     {
@@ -60,7 +61,7 @@ impl<N: Note> Mutex<N> {
         ensures pass { IsPassOfMutex self.now pass.new × IsOneLess pass.old pass.new }
         ensures note { KeepsNote N.at N.own N.front note.old note.new }
         ensures events { Did next (mutex_start self.now) Tries (AreClocked (C.shows at.now.clock.now)) pass.old (N.front note.old) result pass.new (N.front note.new) }
-        ensures no_edge { result ≢ Done true → N.front note.new ≡ N.front note.old }
+        ensures no_edge { result ≢ Done true → SameCounts (N.front note.new) (N.front note.old) }
         ensures journal { IsLawful next true (λ event reply. releases reply) (λ event reply. acquires reply) (mutex_start self.now) pass.new }
         ensures turns { NeedsNoTurn next true is_uncontended (mutex_start self.now) pass.old (N.front note.old) pass.new (N.front note.new) }
     {
@@ -83,7 +84,7 @@ impl<N: Note> Mutex<N> {
         ensures pass { IsPassOfMutex self.now pass.new × IsOneLess pass.old pass.new }
         ensures note { KeepsNote N.at N.own N.front note.old note.new }
         ensures events { Did next (mutex_start self.now) Unlocks (AreClocked (C.shows at.now.clock.now)) pass.old (N.front note.old) result pass.new (N.front note.new) }
-        ensures no_edge { N.front note.new ≡ N.front note.old }
+        ensures no_edge { SameCounts (N.front note.new) (N.front note.old) }
         ensures journal { IsLawful next true (λ event reply. releases reply) (λ event reply. acquires reply) (mutex_start self.now) pass.new }
         ensures turns { NeedsNoTurn next true is_uncontended (mutex_start self.now) pass.old (N.front note.old) pass.new (N.front note.new) }
     {

@@ -2,12 +2,14 @@
 ghost use Rattle.std.specs.Prelude.{◌≡◌, true};
 ghost use Rattle.sync_model.specs.declared.journal.Deed.TheVariants.{Halt};
 ghost use Rattle.sync_model.specs.declared.journal.Entry.{Entry};
-ghost use Rattle.sync_model.specs.Journal.{halt_of};
+ghost use Rattle.sync_model.specs.Front.{SameCounts, Later};
+ghost use Rattle.sync_model.specs.Journal.{front_at, halt_of};
 ghost use Rattle.rw_core.specs.declared.event.RwEvent.{RwEvent};
 ghost use Rattle.rw_core.specs.declared.reply.RwReply.{RwReply};
 ghost use Rattle.rw_core.specs.Edges.{acquires, releases};
 ghost use Rattle.rw_core.specs.RwMachine.{next};
 ghost use Rattle.ruled_object.specs.Gathered.{SamePasses, IsWhole, IsSeen};
+ghost use Rattle.ruled_object.specs.Growth.{KeepsNote};
 ghost use Rattle.ruled_object.specs.Passes.{Adds, SamePass};
 ghost use Rattle.go_locks.specs.RwMutexes.{RwJournal, rw_start, IsPassOfRwMutex, AreAllOfRwMutex};
 
@@ -20,12 +22,15 @@ impl<N: Note> RwMutex<N> {
     /// Halts the lock by a misuse: from then on each event of its callers, the waiting ones' too, is answered `Halted`. The
     /// first halt is kept. It is one entry of the journal, neither releases nor acquires, and takes nothing off the calls
     /// that are left.
-    pub fn halt<R: Wait>(&self, rt: &R, pass: &mut RwPass<N>, note: &N, misuse: Misuse)
+    pub fn halt<R: Wait>(&self, rt: &R, pass: &mut RwPass<N>, note: &mut N, misuse: Misuse)
         requires { IsPassOfRwMutex self.now pass.old }
         ensures pass { IsPassOfRwMutex self.now pass.new × SamePass pass.old pass.new }
         ensures entry { (e : Entry RwEvent RwReply)
             × Adds next true (λ event reply. releases reply) (λ event reply. acquires reply) (rw_start self.now) pass.old e pass.new
-            × (e.deed ≡ Halt misuse) × (e.front ≡ N.front note.now) }
+            × (e.deed ≡ Halt misuse) × (front_at e ≡ N.front note.new) }
+        ensures later { Later (N.front note.new) (N.front note.old) }
+        ensures note { KeepsNote N.at N.own N.front note.old note.new }
+        ensures no_edge { SameCounts (N.front note.new) (N.front note.old) }
     {
         call_loop::halt(&self.object, rt, pass, note, misuse);
     }

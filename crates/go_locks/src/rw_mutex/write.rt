@@ -2,6 +2,7 @@
 ghost use Rattle.std.specs.Prelude.{◌≡◌, ◌≢◌, ◌<◌, true};
 ghost use Rattle.sync_types.specs.declared.misuse.Misuse.{Misuse};
 ghost use Rattle.sync_model.specs.declared.answer.Answer.TheVariants.{Done, Halted};
+ghost use Rattle.sync_model.specs.Front.{SameCounts};
 ghost use Rattle.rw_core.specs.declared.event.RwEvent.{RwEvent};
 ghost use Rattle.rw_core.specs.Edges.{acquires, releases};
 ghost use Rattle.rw_core.specs.RwMachine.{next};
@@ -38,7 +39,7 @@ impl<N: Note> RwMutex<N> {
         ensures pass { IsPassOfRwMutex self.now pass.new × IsOneLess pass.old pass.new }
         ensures note { KeepsNote N.at N.own N.front note.old note.new }
         ensures events { Did next (rw_start self.now) WriteLocks (AreClocked (C.shows at.now.clock.now)) pass.old (N.front note.old) result pass.new (N.front note.new) }
-        ensures halted { (misuse : Misuse) → result ≡ Halted misuse → N.front note.new ≡ N.front note.old }
+        ensures halted { (misuse : Misuse) → result ≡ Halted misuse → SameCounts (N.front note.new) (N.front note.old) }
         ensures journal { IsLawful next true (λ event reply. releases reply) (λ event reply. acquires reply) (rw_start self.now) pass.new }
     {
         locked(call(&self.object, rt, at, pass, note, RwMutexStage::Lock))
@@ -58,7 +59,7 @@ impl<N: Note> RwMutex<N> {
         ensures pass { IsPassOfRwMutex self.now pass.new × IsOneLess pass.old pass.new }
         ensures note { KeepsNote N.at N.own N.front note.old note.new }
         ensures events { Did next (rw_start self.now) (Tries RwEvent.WriteTry) (AreClocked (C.shows at.now.clock.now)) pass.old (N.front note.old) result pass.new (N.front note.new) }
-        ensures no_edge { result ≢ Done true → N.front note.new ≡ N.front note.old }
+        ensures no_edge { result ≢ Done true → SameCounts (N.front note.new) (N.front note.old) }
         ensures journal { IsLawful next true (λ event reply. releases reply) (λ event reply. acquires reply) (rw_start self.now) pass.new }
     {
         tried(call(&self.object, rt, at, pass, note, RwMutexStage::TryLock))
@@ -80,7 +81,7 @@ impl<N: Note> RwMutex<N> {
         ensures pass { IsPassOfRwMutex self.now pass.new × IsOneLess pass.old pass.new }
         ensures note { KeepsNote N.at N.own N.front note.old note.new }
         ensures events { Did next (rw_start self.now) (Unlocks RwEvent.WriteUnlock) (AreClocked (C.shows at.now.clock.now)) pass.old (N.front note.old) result pass.new (N.front note.new) }
-        ensures no_edge { N.front note.new ≡ N.front note.old }
+        ensures no_edge { SameCounts (N.front note.new) (N.front note.old) }
         ensures journal { IsLawful next true (λ event reply. releases reply) (λ event reply. acquires reply) (rw_start self.now) pass.new }
     {
         unlocked(call(&self.object, rt, at, pass, note, RwMutexStage::Unlock))
