@@ -1,9 +1,10 @@
 -- The calls of a cond's protocol, in the words of this crate.
-use Rattle.std.proofs.Common.{◌≡◌, ℕ, suc, true, false, List, [], ◌∷◌, ◌++◌, replicate, Ok, refl, sym, ◌∙◌, subst}
+use Rattle.std.proofs.Common.{◌≡◌, ℕ, suc, true, false, [], ◌∷◌, ◌++◌, replicate, Ok, refl, sym, ◌∙◌, subst}
 use Rattle.sync_types.specs.declared.misuse.Misuse.{Misuse}
 use Rattle.sync_model.specs.declared.answer.Answer.{Answer}
 use Rattle.sync_model.specs.declared.answer.Answer.TheVariants.{Done, Halted}
 use Rattle.sync_model.specs.declared.journal.Deed.TheVariants.{Event, Refused, Halt}
+use Rattle.sync_model.specs.Front.{Front, SameCounts}
 use Rattle.wait_cores.specs.declared.notify.NotifyEvent.{NotifyEvent}
 use Rattle.wait_cores.specs.declared.notify.NotifyEvent.TheVariants as event
 use Rattle.wait_cores.specs.declared.notify.NotifyReply.{NotifyReply}
@@ -49,7 +50,7 @@ leaves_on count (Halt m ∷ rest) answer spelt = absurd spelt
 pub leaves_by : (deeds : NotifyDeeds) (answer : CallAnswer Unit) → Spells cond_event cond_meaning stage.Leave deeds answer → Leaves deeds (done_answer answer)
 leaves_by = leaves_on 0
 
-module _ {N : Type 0} (start : NotifyState) (shows : ℕ → Type 0) (old new : CondPass N) (from to : List ℕ) (answer : CallAnswer Unit) where
+module _ {N : Type 0} (start : NotifyState) (shows : ℕ → Type 0) (old new : CondPass N) (from to : Front) (answer : CallAnswer Unit) where
   -- what a call of the protocol did, and in the words of this crate
   abbrev Called : CondStage → Type 0
   Called first = running.Did next true start (λ ds a. Spells cond_event cond_meaning first ds a) (λ ds. AreTimely cond_moment shows ds) old from answer new to
@@ -62,7 +63,7 @@ module _ {N : Type 0} (start : NotifyState) (shows : ℕ → Type 0) (old new : 
 
   -- a ticket, a signal and a broadcast, after which its caller knows what it knew
   pub made_by : (first : CondStage) (event : NotifyEvent) → ((now : ℕ) → cond_event first now ≡ event) → ((r : NotifyReply) → cond_meaning first r ≡ at_once_meaning r) → ((outcome : Unit) → cond_gains first outcome ≡ false)
-      → (result : Answer Unit) → result ≡ done_answer answer → Called first → (running.has_gained (cond_gains first) answer ≡ false → to ≡ from) → Does (Makes event) result × (to ≡ from)
+      → (result : Answer Unit) → result ≡ done_answer answer → Called first → (running.has_gained (cond_gains first) answer ≡ false → SameCounts to from) → Does (Makes event) result × SameCounts to from
   made_by first event makes means gains result is did no_edge = (did_by first (Makes event) (λ deeds spelt. makes_by first event makes means deeds answer spelt) result is did, no_edge (gains_nothing (cond_gains first) answer gains))
 
   -- a leaving

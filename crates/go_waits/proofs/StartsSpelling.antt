@@ -1,8 +1,9 @@
 -- The calls of the protocol of Starts, in the words of this crate.
-use Rattle.std.proofs.Common.{◌≡◌, ◌≢◌, ℕ, suc, Bool, true, false, List, [], ◌∷◌, ◌++◌, replicate, Ok, Err, refl, sym, ◌∙◌, subst}
+use Rattle.std.proofs.Common.{◌≡◌, ◌≢◌, ℕ, suc, Bool, true, false, [], ◌∷◌, ◌++◌, replicate, Ok, Err, refl, sym, ◌∙◌, subst}
 use Rattle.sync_model.specs.declared.answer.Answer.{Answer}
 use Rattle.sync_model.specs.declared.answer.Answer.TheVariants.{Done, Halted}
 use Rattle.sync_model.specs.declared.journal.Deed.TheVariants.{Event, Refused, Halt}
+use Rattle.sync_model.specs.Front.{Front}
 use Rattle.starts_core.specs.declared.protocol.StartsOutcome.{StartsOutcome}
 use Rattle.starts_core.specs.declared.protocol.StartsOutcome.TheVariants as outcome
 use Rattle.starts_core.specs.declared.protocol.StartsStage.{StartsStage}
@@ -51,7 +52,7 @@ waits_on count (Refused e m ∷ rest) answer (of, none, is) =
     ends (λ ds a. WaitsStart ds (running.told started_of a)) (replicate count (Event event.Leave reply.Still)) (λ x. Refused x m) e event.Leave rest answer (Halted m) of.1 none is (count, refl)
 waits_on count (Halt m ∷ rest) answer spelt = absurd spelt
 
-module _ {N : Type 0} (start : StartsState) (shows : ℕ → Type 0) (old new : StartsPass N) (from to : List ℕ) (answer : CallAnswer StartsOutcome) where
+module _ {N : Type 0} (start : StartsState) (shows : ℕ → Type 0) (old new : StartsPass N) (from to : Front) (answer : CallAnswer StartsOutcome) where
   -- what a call of the protocol did, and in the words of this crate
   abbrev Called : StartsStage → Type 0
   Called first = running.Did next true start (λ ds a. Spells starts_event starts_meaning first ds a) (λ ds. AreTimely starts_moment shows ds) old from answer new to

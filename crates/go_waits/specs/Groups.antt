@@ -1,6 +1,7 @@
 -- What contracts see of a running WaitGroup and of the passes to it.
 use Rattle.std.specs.Prelude.{◌≡◌, ℕ, ℤ, pos, true, false, List, All, replicate}
 use Rattle.sync_model.specs.declared.journal.Entry.{Entry}
+use Rattle.sync_model.specs.Front.{Front}
 use Rattle.wait_cores.specs.declared.group.GroupEvent.{GroupEvent}
 use Rattle.wait_cores.specs.declared.group.GroupPlace.TheVariants.{Out}
 use Rattle.wait_cores.specs.declared.group.GroupReply.{GroupReply}
@@ -59,7 +60,7 @@ module _ {N H : Type 0} where
   AreNew group calls passes = AreNewBetween false waits_after group.object calls passes
 
   -- the caller made these entries, in order and no others; the fronts along them never fall
-  abbrev pub GroupGrows : WaitGroup N H → GroupPass N → List ℕ → List (Placed GroupEvent GroupReply) → GroupPass N → List ℕ → Type 0
+  abbrev pub GroupGrows : WaitGroup N H → GroupPass N → Front → List (Placed GroupEvent GroupReply) → GroupPass N → Front → Type 0
   GroupGrows group old from es new to = Grows next true (start_of group) old from es new to
 
   -- what a pass shows of the journal follows the machine, keeps the edge law, and has of its caller what the pass has

@@ -4,6 +4,7 @@ use Rattle.sync_model.specs.declared.answer.Answer.{Answer}
 use Rattle.sync_model.specs.declared.answer.Answer.TheVariants.{Done, Halted}
 use Rattle.sync_model.specs.declared.journal.Deed.{Deed}
 use Rattle.sync_model.specs.declared.journal.Deed.TheVariants.{Event, Refused}
+use Rattle.sync_model.specs.Front.{Front}
 use Rattle.sync_model.specs.Journal.{log_of}
 use Rattle.wait_cores.specs.declared.once.OnceEvent.{OnceEvent}
 use Rattle.wait_cores.specs.declared.once.OnceEvent.TheVariants.{Begin, End, Leave}
@@ -41,11 +42,11 @@ module _ {T : Type 0} where
   RunsOnce pass = count_by begins (log_of (object.seen_by pass)) ≤ 1
 
 -- The pass shows that its caller, which came with `old`, runs the function: its beginning was answered so, nobody else's was so far as it has seen, and it hasn't ended the function.
-pub record HasBegun {T N H : Type 0} (once : Once T N H) (old : OncePass T N) (from : List ℕ) (pass : OncePass T N) : Type 0 where
+pub record HasBegun {T N H : Type 0} (once : Once T N H) (old : OncePass T N) (from : Front) (pass : OncePass T N) : Type 0 where
   pub runs : IsRunnerOf once pass
   pub alone : RunsOnce pass
   pub less : object.IsOneLess old pass
-  pub front : List ℕ
+  pub front : Front
   pub entries : List (Placed (OnceEvent T) (OnceReply T))
   pub grows : OnceGrows once old from entries pass front
   pub deeds : deeds_of entries ≡ Event Begin reply.Run ∷ []

@@ -1,6 +1,7 @@
 -- What contracts see of a running Once and of the passes to it.
 use Rattle.std.specs.Prelude.{◌≡◌, ℕ, Bool, true, false, List}
 use Rattle.sync_model.specs.declared.journal.Entry.{Entry}
+use Rattle.sync_model.specs.Front.{Front}
 use Rattle.wait_cores.specs.declared.once.OnceEvent.{OnceEvent}
 use Rattle.wait_cores.specs.declared.once.OnceReply.{OnceReply}
 use Rattle.wait_cores.specs.OnceEdges.{once_releases, once_acquires}
@@ -65,7 +66,7 @@ module _ {T N H : Type 0} where
   AreNew once calls passes = AreNewBetween (false, false) once_stands once.object calls passes
 
   -- the caller made these entries, in order and no others; the fronts along them never fall
-  abbrev pub OnceGrows : Once T N H → OncePass T N → List ℕ → List (Placed (OnceEvent T) (OnceReply T)) → OncePass T N → List ℕ → Type 0
+  abbrev pub OnceGrows : Once T N H → OncePass T N → Front → List (Placed (OnceEvent T) (OnceReply T)) → OncePass T N → Front → Type 0
   OnceGrows once old from es new to = Grows next true (start_of once) old from es new to
 
   -- what a pass shows of the journal follows the machine, keeps the edge law, and has of its caller what the pass has

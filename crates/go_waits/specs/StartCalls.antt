@@ -4,6 +4,7 @@ use Rattle.sync_model.specs.declared.answer.Answer.{Answer}
 use Rattle.sync_model.specs.declared.answer.Answer.TheVariants.{Done, Halted}
 use Rattle.sync_model.specs.declared.journal.Deed.{Deed}
 use Rattle.sync_model.specs.declared.journal.Deed.TheVariants.{Event, Refused}
+use Rattle.sync_model.specs.Front.{Front}
 use Rattle.starts_core.specs.declared.starts.StartEvent.{StartEvent}
 use Rattle.starts_core.specs.declared.starts.StartEvent.TheVariants.{Leave}
 use Rattle.starts_core.specs.declared.starts.StartReply.{StartReply}
@@ -32,5 +33,5 @@ WaitsStart deeds (Done false) = ToldBy (Event Leave reply.Never) deeds
 WaitsStart deeds (Halted misuse) = ToldBy (Refused Leave misuse) deeds
 
 -- what a call did on the starts: these events, each at its place, and it answered by them
-abbrev pub StartsDid : {N H A : Type 0} → Starts N H → (StartDeeds → Answer A → Type 0) → StartsPass N → List ℕ → Answer A → StartsPass N → List ℕ → Type 0
+abbrev pub StartsDid : {N H A : Type 0} → Starts N H → (StartDeeds → Answer A → Type 0) → StartsPass N → Front → Answer A → StartsPass N → Front → Type 0
 StartsDid starts spells old from answer new to = Did next (start_of starts) spells (λ deeds. Unit {0}) old from answer new to

@@ -1,6 +1,7 @@
 //! Go's `Once.Do`.
 ghost use Rattle.std.specs.Prelude.{◌≡◌, ◌≢◌, ◌<◌, List};
 ghost use Rattle.sync_model.specs.declared.answer.Answer.TheVariants.{Done};
+ghost use Rattle.sync_model.specs.Front.{SameCounts};
 ghost use Rattle.wait_cores.specs.declared.once.OnceEvent.{OnceEvent};
 ghost use Rattle.wait_cores.specs.declared.once.OnceReply.{OnceReply};
 ghost use Rattle.ruled_object.specs.Growth.{Placed, KeepsNote, MeetsHalt, deeds_of};
@@ -45,7 +46,7 @@ impl<T: Copy, N: Note> Once<T, N> {
         ensures note { KeepsNote N.at N.own N.front note.old note.new }
         ensures events { (es : List (Placed (OnceEvent T) (OnceReply T))) × OnceGrows self.now pass.old (N.front note.old) es pass.new (N.front note.new) × Runs T.kept (F.post function) (deeds_of es) result × MeetsHalt es result }
         ensures once { RunsOnce pass.new }
-        ensures no_edge { result ≢ Done Already → N.front note.new ≡ N.front note.old }
+        ensures no_edge { result ≢ Done Already → SameCounts (N.front note.new) (N.front note.old) }
         ensures journal { IsOnceLawful self.now pass.new }
     {
         growth::<OnceCore<T>, N>();

@@ -3,7 +3,8 @@ ghost use Rattle.std.specs.Prelude.{◌≡◌, ◌≤◌, ◌<◌, IfOk, List};
 ghost use Rattle.sync_types.specs.declared.misuse.Misuse.{Misuse};
 ghost use Rattle.sync_model.specs.declared.answer.Answer.TheVariants.{Halted};
 ghost use Rattle.sync_model.specs.declared.journal.Deed.TheVariants.{Halt};
-ghost use Rattle.sync_model.specs.Journal.{halt_of};
+ghost use Rattle.sync_model.specs.Front.{SameCounts, Later};
+ghost use Rattle.sync_model.specs.Journal.{front_at, halt_of};
 ghost use Rattle.wait_cores.specs.declared.once.OnceEvent.{OnceEvent};
 ghost use Rattle.wait_cores.specs.declared.once.OnceReply.{OnceReply};
 ghost use Rattle.wait_cores.specs.OnceMachine.{start};
@@ -75,7 +76,7 @@ impl<T: Copy, F: FnOnce() -> T + Drop, N: Note> OnceValue<T, F, N> {
         ensures note { KeepsNote N.at N.own N.front note.old note.new }
         ensures events { (es : List (Placed (OnceEvent T) (OnceReply T))) × OnceGrows (once_of self.now) pass.old (N.front note.old) es pass.new (N.front note.new) × Gives (F.post (function_of self.now)) (deeds_of es) result × MeetsHalt es result }
         ensures once { RunsOnce pass.new }
-        ensures halted { (misuse : Misuse) → result ≡ Halted misuse → N.front note.new ≡ N.front note.old }
+        ensures halted { (misuse : Misuse) → result ≡ Halted misuse → SameCounts (N.front note.new) (N.front note.old) }
         ensures journal { IsOnceLawful (once_of self.now) pass.new }
     {
         growth::<OnceCore<T>, N>();
@@ -95,10 +96,13 @@ impl<T: Copy, F: FnOnce() -> T + Drop, N: Note> OnceValue<T, F, N> {
 
     /// Halts the function by a misuse, and wakes all who wait: from then on each call is answered `Halted` with the first
     /// halt's misuse.
-    pub fn halt<R: Wait>(&self, rt: &R, pass: &mut OncePass<T, N>, note: &N, misuse: Misuse)
+    pub fn halt<R: Wait>(&self, rt: &R, pass: &mut OncePass<T, N>, note: &mut N, misuse: Misuse)
         requires pass { IsPassOf (once_of self.now) pass.old }
         ensures pass { IsPassOf (once_of self.now) pass.new × SamePass pass.old pass.new }
-        ensures entry { (e : OnceMade T) × OnceHalts (once_of self.now) pass.old e pass.new × (e.deed ≡ Halt misuse) × (e.front ≡ N.front note.now) }
+        ensures entry { (e : OnceMade T) × OnceHalts (once_of self.now) pass.old e pass.new × (e.deed ≡ Halt misuse) × (front_at e ≡ N.front note.new) }
+        ensures later { Later (N.front note.new) (N.front note.old) }
+        ensures note { KeepsNote N.at N.own N.front note.old note.new }
+        ensures no_edge { SameCounts (N.front note.new) (N.front note.old) }
     {
         self.once.halt(rt, pass, note, misuse);
     }

@@ -1,5 +1,6 @@
 //! The calls of a cond that notify.
 ghost use Rattle.std.specs.Prelude.{◌≡◌, ◌<◌};
+ghost use Rattle.sync_model.specs.Front.{SameCounts};
 ghost use Rattle.wait_cores.specs.declared.notify.NotifyEvent.{NotifyEvent};
 ghost use Rattle.ruled_object.specs.Growth.{KeepsNote};
 ghost use Rattle.ruled_object.specs.Passes.{left_of, IsOneLess};
@@ -31,7 +32,7 @@ impl<N: Note> Cond<N> {
         ensures pass { IsPassOf self.now pass.new × IsOneLess pass.old pass.new }
         ensures note { KeepsNote N.at N.own N.front note.old note.new }
         ensures events { CondDid self.now (Makes NotifyEvent.Signal) pass.old (N.front note.old) result pass.new (N.front note.new) }
-        ensures no_edge { N.front note.new ≡ N.front note.old }
+        ensures no_edge { SameCounts (N.front note.new) (N.front note.old) }
         ensures journal { IsCondLawful self.now pass.new }
     {
         done(call(&self.object, rt, at, pass, note, CondStage::Signal))
@@ -52,7 +53,7 @@ impl<N: Note> Cond<N> {
         ensures pass { IsPassOf self.now pass.new × IsOneLess pass.old pass.new }
         ensures note { KeepsNote N.at N.own N.front note.old note.new }
         ensures events { CondDid self.now (Makes NotifyEvent.Broadcast) pass.old (N.front note.old) result pass.new (N.front note.new) }
-        ensures no_edge { N.front note.new ≡ N.front note.old }
+        ensures no_edge { SameCounts (N.front note.new) (N.front note.old) }
         ensures journal { IsCondLawful self.now pass.new }
     {
         done(call(&self.object, rt, at, pass, note, CondStage::Broadcast))

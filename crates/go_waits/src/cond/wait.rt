@@ -2,6 +2,7 @@
 ghost use Rattle.std.specs.Prelude.{◌≡◌, ◌≢◌, ◌<◌, Err};
 ghost use Rattle.sync_types.specs.declared.misuse.Misuse.{Misuse};
 ghost use Rattle.sync_model.specs.declared.answer.Answer.TheVariants.{Done};
+ghost use Rattle.sync_model.specs.Front.{SameCounts};
 ghost use Rattle.ruled_object.specs.Growth.{KeepsNote};
 ghost use Rattle.ruled_object.specs.Passes.{left_of, IsOneLess, IsSpent, SamePass};
 ghost use Rattle.go_locks.specs.Mutexes.{IsHomeOfMutex, IsPassOfMutex};
@@ -42,7 +43,7 @@ impl<N: Note> Cond<N> {
         ensures mutex { IsPassOfMutex mutex.now mutex_pass.new × IsOneLess mutex_pass.old mutex_pass.new }
         ensures note { KeepsNote N.at N.own N.front note.old note.new }
         ensures events { (spent : MutexPass N) × IsSpent mutex_pass.old spent × Waits (C.shows at.now.clock.now) self.now mutex.now pass.old spent (N.front note.old) result pass.new mutex_pass.new (N.front note.new) }
-        ensures no_edge { (misuse : Misuse) → result ≡ Done (Err misuse) → N.front note.new ≡ N.front note.old }
+        ensures no_edge { (misuse : Misuse) → result ≡ Done (Err misuse) → SameCounts (N.front note.new) (N.front note.old) }
         ensures journal { IsCondLawful self.now pass.new × (IsMutexLawful mutex.now mutex_pass.old → IsMutexLawful mutex.now mutex_pass.new) }
     {
         notes_are_kept::<N>();

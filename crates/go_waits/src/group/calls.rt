@@ -1,6 +1,7 @@
 //! The calls of a wait group.
 ghost use Rattle.std.specs.Prelude.{◌≡◌, ◌≢◌, ◌<◌, List, negsuc, Ok};
 ghost use Rattle.sync_model.specs.declared.answer.Answer.TheVariants.{Done};
+ghost use Rattle.sync_model.specs.Front.{SameCounts};
 ghost use Rattle.ruled_object.specs.Growth.{Placed, KeepsNote, MeetsHalt, deeds_of};
 ghost use Rattle.ruled_object.specs.Passes.{left_of, IsOneLess};
 ghost use Rattle.wait_cores.specs.declared.group.GroupEvent.{GroupEvent};
@@ -34,7 +35,7 @@ impl<N: Note> WaitGroup<N> {
         ensures pass { IsPassOf self.now pass.new × IsOneLess pass.old pass.new }
         ensures note { KeepsNote N.at N.own N.front note.old note.new }
         ensures events { (es : List (Placed GroupEvent GroupReply)) × GroupGrows self.now pass.old (N.front note.old) es pass.new (N.front note.new) × Adds delta (deeds_of es) result × MeetsHalt es result }
-        ensures no_edge { N.front note.new ≡ N.front note.old }
+        ensures no_edge { SameCounts (N.front note.new) (N.front note.old) }
         ensures journal { IsGroupLawful self.now pass.new }
     {
         call(&self.object, rt, at, pass, note, GroupStage::Add(delta))
@@ -53,7 +54,7 @@ impl<N: Note> WaitGroup<N> {
         ensures pass { IsPassOf self.now pass.new × IsOneLess pass.old pass.new }
         ensures note { KeepsNote N.at N.own N.front note.old note.new }
         ensures events { (es : List (Placed GroupEvent GroupReply)) × GroupGrows self.now pass.old (N.front note.old) es pass.new (N.front note.new) × Adds (negsuc 0) (deeds_of es) result × MeetsHalt es result }
-        ensures no_edge { N.front note.new ≡ N.front note.old }
+        ensures no_edge { SameCounts (N.front note.new) (N.front note.old) }
         ensures journal { IsGroupLawful self.now pass.new }
     {
         self.add(rt, at, pass, note, -1)
@@ -76,7 +77,7 @@ impl<N: Note> WaitGroup<N> {
         ensures pass { IsPassOf self.now pass.new × IsOneLess pass.old pass.new }
         ensures note { KeepsNote N.at N.own N.front note.old note.new }
         ensures events { (es : List (Placed GroupEvent GroupReply)) × GroupGrows self.now pass.old (N.front note.old) es pass.new (N.front note.new) × Waits (deeds_of es) result × MeetsHalt es result }
-        ensures no_edge { result ≢ Done (Ok tt) → N.front note.new ≡ N.front note.old }
+        ensures no_edge { result ≢ Done (Ok tt) → SameCounts (N.front note.new) (N.front note.old) }
         ensures journal { IsGroupLawful self.now pass.new }
     {
         call(&self.object, rt, at, pass, note, GroupStage::Wait)

@@ -1,5 +1,6 @@
 //! A wait group's `go`: a call of the group and one of the starts, one after the other.
 ghost use Rattle.std.specs.Prelude.{◌≡◌, ◌<◌};
+ghost use Rattle.sync_model.specs.Front.{SameCounts};
 ghost use Rattle.ruled_object.specs.Growth.{KeepsNote};
 ghost use Rattle.ruled_object.specs.Passes.{left_of, IsOneLess, IsSpent};
 ghost use Rattle.go_waits.specs.GoCalls.{Goes};
@@ -39,7 +40,7 @@ impl<N: Note> WaitGroup<N> {
         ensures starts { startings.IsPassOf starts.now starts_pass.new × IsOneLess starts_pass.old starts_pass.new }
         ensures note { KeepsNote N.at N.own N.front note.old note.new }
         ensures events { (spent : StartsPass N) × IsSpent starts_pass.old spent × Goes worker self.now starts.now pass.old spent (N.front note.old) result pass.new starts_pass.new (N.front note.new) }
-        ensures no_edge { N.front note.new ≡ N.front note.old }
+        ensures no_edge { SameCounts (N.front note.new) (N.front note.old) }
         ensures journal { IsGroupLawful self.now pass.new × (startings.IsStartsLawful starts.now starts_pass.old → startings.IsStartsLawful starts.now starts_pass.new) }
     {
         notes_are_kept::<N>();

@@ -1,6 +1,7 @@
 //! The calls of a worker.
 ghost use Rattle.std.specs.Prelude.{◌≡◌, ◌≢◌, ◌<◌, true};
 ghost use Rattle.sync_model.specs.declared.answer.Answer.TheVariants.{Done};
+ghost use Rattle.sync_model.specs.Front.{SameCounts};
 ghost use Rattle.starts_core.specs.declared.starts.StartEvent.{StartEvent};
 ghost use Rattle.ruled_object.specs.Growth.{KeepsNote};
 ghost use Rattle.ruled_object.specs.Passes.{left_of, IsOneLess};
@@ -32,7 +33,7 @@ impl<N: Note> Starts<N> {
         ensures pass { IsPassOf self.now pass.new × IsOneLess pass.old pass.new }
         ensures note { KeepsNote N.at N.own N.front note.old note.new }
         ensures events { StartsDid self.now (MakesStart (StartEvent.Start worker)) pass.old (N.front note.old) result pass.new (N.front note.new) }
-        ensures no_edge { N.front note.new ≡ N.front note.old }
+        ensures no_edge { SameCounts (N.front note.new) (N.front note.old) }
         ensures journal { IsStartsLawful self.now pass.new }
     {
         done(call(&self.object, rt, at, pass, note, StartsStage::Start(worker)))
@@ -54,7 +55,7 @@ impl<N: Note> Starts<N> {
         ensures pass { IsPassOf self.now pass.new × IsOneLess pass.old pass.new }
         ensures note { KeepsNote N.at N.own N.front note.old note.new }
         ensures events { StartsDid self.now (MakesStart StartEvent.End) pass.old (N.front note.old) result pass.new (N.front note.new) }
-        ensures no_edge { N.front note.new ≡ N.front note.old }
+        ensures no_edge { SameCounts (N.front note.new) (N.front note.old) }
         ensures journal { IsStartsLawful self.now pass.new }
     {
         done(call(&self.object, rt, at, pass, note, StartsStage::End))
@@ -78,7 +79,7 @@ impl<N: Note> Starts<N> {
         ensures pass { IsPassOf self.now pass.new × IsOneLess pass.old pass.new }
         ensures note { KeepsNote N.at N.own N.front note.old note.new }
         ensures events { StartsDid self.now WaitsStart pass.old (N.front note.old) result pass.new (N.front note.new) }
-        ensures no_edge { result ≢ Done true → N.front note.new ≡ N.front note.old }
+        ensures no_edge { result ≢ Done true → SameCounts (N.front note.new) (N.front note.old) }
         ensures journal { IsStartsLawful self.now pass.new }
     {
         started(call(&self.object, rt, at, pass, note, StartsStage::WaitStart))

@@ -1,8 +1,10 @@
 //! Halting Starts by a misuse.
 ghost use Rattle.std.specs.Prelude.{◌≡◌};
 ghost use Rattle.sync_model.specs.declared.journal.Deed.TheVariants.{Halt};
-ghost use Rattle.sync_model.specs.Journal.{halt_of};
+ghost use Rattle.sync_model.specs.Front.{SameCounts, Later};
+ghost use Rattle.sync_model.specs.Journal.{front_at, halt_of};
 ghost use Rattle.ruled_object.specs.Gathered.{SamePasses};
+ghost use Rattle.ruled_object.specs.Growth.{KeepsNote};
 ghost use Rattle.ruled_object.specs.Passes.{SamePass};
 ghost use Rattle.go_waits.specs.Startings.{StartsJournal, StartsMade, StartsHalts, AreAllPasses, IsPassOf, IsStartsWhole, IsStartsSeen};
 
@@ -14,10 +16,13 @@ use sync_types::Misuse;
 impl<N: Note> Starts<N> {
     /// Halts the starts by a misuse, and wakes all who wait: from then on each call is answered `Halted` with the first
     /// halt's misuse.
-    pub fn halt<R: Wait>(&self, rt: &R, pass: &mut StartsPass<N>, note: &N, misuse: Misuse)
+    pub fn halt<R: Wait>(&self, rt: &R, pass: &mut StartsPass<N>, note: &mut N, misuse: Misuse)
         requires pass { IsPassOf self.now pass.old }
         ensures pass { IsPassOf self.now pass.new × SamePass pass.old pass.new }
-        ensures entry { (e : StartsMade) × StartsHalts self.now pass.old e pass.new × (e.deed ≡ Halt misuse) × (e.front ≡ N.front note.now) }
+        ensures entry { (e : StartsMade) × StartsHalts self.now pass.old e pass.new × (e.deed ≡ Halt misuse) × (front_at e ≡ N.front note.new) }
+        ensures later { Later (N.front note.new) (N.front note.old) }
+        ensures note { KeepsNote N.at N.own N.front note.old note.new }
+        ensures no_edge { SameCounts (N.front note.new) (N.front note.old) }
     {
         call_loop::halt(&self.object, rt, pass, note, misuse);
     }

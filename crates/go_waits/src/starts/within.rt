@@ -1,5 +1,6 @@
 //! `start` as a part of a longer call, which takes one off the calls that are left: a wait group's `go`.
 ghost use Rattle.std.specs.Prelude.{◌≡◌, ◌<◌};
+ghost use Rattle.sync_model.specs.Front.{SameCounts};
 ghost use Rattle.starts_core.specs.declared.starts.StartEvent.{StartEvent};
 ghost use Rattle.ruled_object.specs.Growth.{KeepsNote};
 ghost use Rattle.ruled_object.specs.Passes.{left_of, IsSpent, SamePass};
@@ -37,7 +38,7 @@ impl<N: Note> Starts<N> {
         ensures pass { IsPassOf self.now pass.new × SamePass pass.old pass.new }
         ensures note { KeepsNote N.at N.own N.front note.old note.new }
         ensures events { StartsDid self.now (MakesStart (StartEvent.Start worker)) pass.old (N.front note.old) result pass.new (N.front note.new) }
-        ensures no_edge { N.front note.new ≡ N.front note.old }
+        ensures no_edge { SameCounts (N.front note.new) (N.front note.old) }
         ensures journal { IsStartsLawful self.now pass.new }
     {
         done(call_within(&self.object, rt, at, pass, note, StartsStage::Start(worker)))

@@ -16,7 +16,7 @@ returns-in-Halted-clause-events g c =
 pub returns-in-Halted-clause-journal : goal.returns-in-Halted-clause-journal
 returns-in-Halted-clause-journal g c = (
   c.call.ensures.journal,
-  (λ lawful. subst (λ pass. IsMutexLawful c.args.mutex.now pass) (sym c.spend_within.ensures.1.1) (record { own = lawful.own; follows = lawful.follows; edges = lawful.edges })),
+  (λ lawful. subst (λ pass. IsMutexLawful c.args.mutex.now pass) (sym c.spend_within.ensures.1.1) (record { own = lawful.own; follows = lawful.follows; edges = lawful.edges; times = lawful.times })),
 )
 
 pub returns-in-Halted-unlock_within-clause-events : goal.returns-in-Halted-unlock_within-clause-events
