@@ -18,7 +18,7 @@ use Rattle.shared_plain.specs.declared.event.Answered.{Answered}
 use Rattle.shared_plain.specs.declared.mark.Mark.{Mark}
 use Rattle.shared_plain.specs.declared.plain.Plain.{Plain}
 use Rattle.shared_plain.specs.Counting.{length-items}
-use Rattle.shared_plain.specs.Marks.{front_by, holding, own_by, seen_of, KeepsOwn, IsMarkOf}
+use Rattle.shared_plain.specs.Marks.{counts_by, front_by, holding, own_by, seen_of, KeepsOwn, IsMarkOf}
 use Rattle.shared_plain.specs.PlainHistory.{Step, front_of, history_of, items_by}
 use Rattle.shared_plain.specs.PlainMachine.{contents_of, next}
 use Rattle.shared_plain.specs.Plains.{caller_count}
@@ -133,7 +133,10 @@ module _ (plain : Plain) (laws : PassLaws plain) (frees takes : Event → Option
     count = same.count;
     same = λ i before after at_old at_new. same_calls i before after (both i before after at_old at_new);
     rises = λ i before after at_old at_new. let b = both i before after at_old at_new in
-        subst (λ n. AtLeast (front_of n (seen_by after.note.pass)) (front_by before.note)) (sym b.marks.callers) (rises before.note.callers (seen_by before.note.pass) (seen_by after.note.pass) b.begins);
+        let same = b.marks.time in (
+          subst (λ n. AtLeast (front_of n (seen_by after.note.pass)) (counts_by before.note)) (sym b.marks.callers) (rises before.note.callers (seen_by before.note.pass) (seen_by after.note.pass) b.begins),
+          omega arith,
+        );
     begins = λ i before after at_old at_new. let b = both i before after at_old at_new in (history_of b.begins.0, ap history_of b.begins.1 ∙ history-append (seen_by before.note.pass) b.begins.0);
   }
 
@@ -180,6 +183,6 @@ module _ (plain : Plain) (laws : PassLaws plain) (frees takes : Event → Option
         let most = front_at_most n c journal in
         let long = length-items n c [] journal in
         let same_long = ap (λ (l : List Item). length l) (calls_are c) in
-        let front : slice_index (front_by caller.note) c ≡ slice_index (front_of n journal) c = λ k. slice_index (front_of (callers k) (b.seen k)) c in
+        let front : slice_index (counts_by caller.note) c ≡ slice_index (front_of n journal) c = λ k. slice_index (front_of (callers k) (b.seen k)) c in
         omega arith;
   }

@@ -12,7 +12,7 @@ use Rattle.ruled_object.specs.Notes.{held_by, IsNoteOf}
 use Rattle.ruled_object.specs.Passes.{number_of, seen_by, own_by as entries_of}
 use Rattle.shared_plain.specs.declared.mark.Mark.{Mark}
 use Rattle.shared_plain.specs.declared.plain.Plain.{Plain}
-use Rattle.shared_plain.specs.Marks.{front_by, holding, own_by, seen_of, IsMarkOf}
+use Rattle.shared_plain.specs.Marks.{counts_by, holding, own_by, seen_of, IsMarkOf}
 use Rattle.shared_plain.specs.PlainHistory.{calls_counted, history_of, items_by}
 use Rattle.shared_plain.specs.PlainMachine.{Holdings, first_holdings}
 use Rattle.shared_plain.specs.Plains.{caller_count}
@@ -73,7 +73,7 @@ pub record IsNewMark (plain : Plain) (i spare : ℕ) (mark : Mark) : Type 0 wher
   pub is : IsMarkOf plain mark
   pub own : own_by mark ≡ Some (record { number = i; items = []; spare = spare })
   pub seen : seen_of mark ≡ []
-  pub knows : (c : ℕ) → slice_index (front_by mark) c ≡ 0
+  pub knows : (c : ℕ) → slice_index (counts_by mark) c ≡ 0
 
 pub new_mark : (plain : Plain) (mark : Mark) (i spare : ℕ) → IsNoteOf plain.object mark.pass → held_by mark.pass ≡ Some (entries_of mark.pass) → number_of mark.pass ≡ i → seen_by mark.pass ≡ [] → entries_of mark.pass ≡ []
     → mark.callers ≡ caller_count plain → mark.spare ≡ spare → mark.done ≡ 0 → IsNewMark plain i spare mark

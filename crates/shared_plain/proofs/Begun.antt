@@ -42,11 +42,11 @@ module _ (start : Contents) (call : SharedCall) (reply : SharedReply) (cost : �
   pub moved : (b : ℕ) → spot_of b becomes.items ≡ spot_next b call reply (spot_of b was.items)
   moved b = ap (spot_of b) last_made ∙ (spot_one_more b 0 was.items called.item ∙ (λ i. spot_next b (called.is_call i) (called.is_reply i) (spot_of b was.items)))
 
-pub begun_stands : (plain : Plain) (old : Mark) (m done : ℕ) (own : List Step) (start : Contents) (reply : SharedReply) (was becomes : Holding) (front front_new : List ℕ) (seen seen_new : List _) (own_new : Option Holding)
+pub begun_stands : (plain : Plain) (old : Mark) (m done : ℕ) (own : List Step) (start : Contents) (reply : SharedReply) (was becomes : Holding) (front front_new : List ℕ) (time time_new : ℕ) (seen seen_new : List _) (own_new : Option Holding)
     → held_by old.pass ≡ Some own → KeepsOwn old own → own_by old ≡ Some was → own_new ≡ Some becomes → done ≡ old.done → done ≢ 2 ^ 64 - 1 → m < maps_of plain
-    → Called start (calls.Begin m) reply 0 (record { own = own_by old; front = front; seen = seen }) (record { own = own_new; front = front_new; seen = seen_new })
+    → Called start (calls.Begin m) reply 0 (record { own = own_by old; front = front; time = time; seen = seen }) (record { own = own_new; front = front_new; time = time_new; seen = seen_new })
     → Stands plain (record { map = m; begin = done; from = 0 }) m (length was.items) becomes.items
-begun_stands plain old m done own start reply was becomes front front_new seen seen_new own_new held keeps had has is_done below there called =
+begun_stands plain old m done own start reply was becomes front front_new time time_new seen seen_new own_new held keeps had has is_done below there called =
     let c = number_of old.pass in
     let n = old.callers in
     let mine : was.items ≡ items_by n c (seen_by old.pass) = owned old own was held had in

@@ -65,8 +65,8 @@ module _ (n c : ℕ) where
       bounded_one before x (call_in x.deed) (items_from n c (before ++ x ∷ []) xs) whole (omega (arith, length-append (history_of (before ++ x ∷ [])) (history_of xs)))
       (λ k z at_k. subst (λ (l : List Step). bound z ≤ length (history_of l)) same (bounded (before ++ x ∷ []) xs k z at_k)) j y at_j
 
-abbrev pub state_at : ℕ → ℕ → ℕ → List Step → CallerState
-state_at n c spare seen = record { own = Some (record { number = c; items = items_by n c seen; spare = spare }); front = front_of n seen; seen = history_of seen }
+abbrev pub state_at : ℕ → ℕ → ℕ → ℕ → List Step → CallerState
+state_at n c spare time seen = record { own = Some (record { number = c; items = items_by n c seen; spare = spare }); front = front_of n seen; time = time; seen = history_of seen }
 
 -- the entry of a journal that a caller made
 pub record Adds (start : Holdings) (c : ℕ) (event : Event) (answered : Answered) (seen between : List Step) (e : Step) : Type 0 where
@@ -76,9 +76,9 @@ pub record Adds (start : Holdings) (c : ℕ) (event : Event) (answered : Answere
   pub same : by c (seen ++ between) ≡ by c seen
   pub follows : Follows next false start None ((seen ++ between) ++ e ∷ [])
 
-pub called : Unseen → (start : Holdings) (n c : ℕ) (event : Event) (answered : Answered) (seen between : List Step) (e : Step) (spare left cost : ℕ) → c < n → left + cost ≡ spare → Adds start c event answered seen between e
-    → Called (contents_of start) (call_of event) answered.reply cost (state_at n c spare seen) (state_at n c left ((seen ++ between) ++ e ∷ []))
-called unseen start n c event answered seen between e spare left cost below spent adds =
+pub called : Unseen → (start : Holdings) (n c : ℕ) (event : Event) (answered : Answered) (seen between : List Step) (e : Step) (spare left time cost : ℕ) → c < n → left + cost ≡ spare → Adds start c event answered seen between e
+    → Called (contents_of start) (call_of event) answered.reply cost (state_at n c spare time seen) (state_at n c left time ((seen ++ between) ++ e ∷ []))
+called unseen start n c event answered seen between e spare left time cost below spent adds =
     let front : List Step = seen ++ between in
     let whole : List Step = front ++ e ∷ [] in
     let made : Made = (call_of event, answered) in
@@ -109,6 +109,7 @@ called unseen start n c event answered seen between e spare left cost below spen
       is_reply = refl;
       is_front = refl;
       counted = counted_by n c whole below;
+      time = refl;
       rises = rises n seen whole (between ++ e ∷ [], append_assoc seen between (e ∷ []));
       begins = (history_of between ++ entered c (Some made) [], history ∙ (ap (λ l. l ++ entered c (Some made) []) longer ∙ append_assoc (history_of seen) (history_of between) (entered c (Some made) [])));
       from = omega (arith, length-append (history_of seen) (history_of between));

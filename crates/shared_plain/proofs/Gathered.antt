@@ -76,7 +76,7 @@ module _ {A : Type 0} where
   item_there (x ∷ xs) (suc i) below = item_there xs i (omega arith)
 
 pub same_marks : (list : List (Caller Mark)) → AreSameMarks list list
-same_marks list = record { count = refl; each = λ i before after at_b at_a. let same = some_is before after (sym at_b ∙ at_a) in subst (λ (c : Caller Mark). IsSameMark before.note c.note) same (record { number = refl; callers = refl; spare = refl; done = refl }) }
+same_marks list = record { count = refl; each = λ i before after at_b at_a. let same = some_is before after (sym at_b ∙ at_a) in subst (λ (c : Caller Mark). IsSameMark before.note c.note) same (record { number = refl; callers = refl; spare = refl; time = refl; done = refl }) }
 
 -- one note more has another pass of the same caller
 pub marks_on : (old list : List (Caller Mark)) (i : ℕ) (before after : Caller Mark) → slice_get old i ≡ Some before → IsSameMark before.note after.note → AreSameMarks old list → AreSameMarks old (set list i after)
@@ -98,5 +98,5 @@ marks_joined first second third one two = record {
       let middle = item_there second i (omega arith) in
       let a = one.each i before middle.0 at_b middle.1 in
       let b = two.each i middle.0 after middle.1 at_a in
-      record { number = b.number ∙ a.number; callers = b.callers ∙ a.callers; spare = b.spare ∙ a.spare; done = b.done ∙ a.done };
+      record { number = b.number ∙ a.number; callers = b.callers ∙ a.callers; spare = b.spare ∙ a.spare; time = b.time ∙ a.time; done = b.done ∙ a.done };
 }

@@ -11,7 +11,7 @@ use Rattle.ruled_object.specs.Passes.{number_of, seen_by}
 use Rattle.shared_plain.specs.declared.event.Answered.{Answered}
 use Rattle.shared_plain.specs.declared.mark.Mark.{Mark}
 use Rattle.shared_plain.specs.declared.plain.Plain.{Plain}
-use Rattle.shared_plain.specs.Marks.{front_by, holding, own_by, IsMarkOf}
+use Rattle.shared_plain.specs.Marks.{counts_by, holding, own_by, IsMarkOf}
 use Rattle.shared_plain.specs.PlainHistory.{Step, call_in, counts, calls_counted, front_of, item_at, listed, items_from, items_by}
 
 module _ (n c : ℕ) where
@@ -39,12 +39,12 @@ counted_by n c seen below =
     let first : 0 + c ≡ c = omega arith in
     at_caller (λ d. calls_counted d seen) 0 n c below ∙ (ap (λ d. calls_counted d seen) first ∙ sym (length-items n c [] seen))
 
-pub is_counted : (home : Plain) (mark : Mark) → IsMarkOf home mark → IsCounted (own_by mark) (front_by mark)
+pub is_counted : (home : Plain) (mark : Mark) → IsMarkOf home mark → IsCounted (own_by mark) (counts_by mark)
 is_counted home mark is = by_held (held_by mark.pass)
   where
     below : number_of mark.pass < mark.callers
     below = let inside = is.pass.caller in let same = is.callers in omega arith
 
-    by_held : (found : Option (List Step)) → IsCounted (holding mark found) (front_by mark)
+    by_held : (found : Option (List Step)) → IsCounted (holding mark found) (counts_by mark)
     by_held None = tt
     by_held (Some own) = counted_by mark.callers (number_of mark.pass) (seen_by mark.pass) below

@@ -1,6 +1,7 @@
 -- A caller's note: what contracts see of it.
 use Rattle.std.specs.Prelude.{◌≡◌, ◌≢◌, ℕ, ◌-◌, ◌^◌, List, [], Option, Some, None}
 use Rattle.sync_model.specs.declared.item.SharedEntry.{SharedEntry}
+use Rattle.sync_model.specs.Front.{Front}
 use Rattle.sync_model.specs.Note.{Holding}
 use Rattle.sync_model.specs.Journal.{by}
 use Rattle.ruled_object.specs.Notes.{held_by, IsNoteOf}
@@ -11,8 +12,12 @@ use Rattle.shared_plain.specs.PlainHistory.{Step, calls_counted, front_of, histo
 use Rattle.shared_plain.specs.Walks.{AreInOrder}
 
 -- for each caller the number of its shared calls that are known
-abbrev pub front_by : Mark → List ℕ
-front_by mark = front_of mark.callers (seen_by mark.pass)
+abbrev pub counts_by : Mark → List ℕ
+counts_by mark = front_of mark.callers (seen_by mark.pass)
+
+-- the counts, and the number of the last event
+abbrev pub front_by : Mark → Front
+front_by mark = record { counts = counts_by mark; time = mark.stamp.time }
 
 -- the holder, with its calls, of a pass that holds entries
 abbrev pub holding : Mark → Option (List Step) → Option Holding

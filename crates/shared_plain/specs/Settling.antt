@@ -20,11 +20,12 @@ PlainPass = Pass Holdings NoNote Event (Option Answered)
 abbrev pub passes_in : List (Caller Mark) → List PlainPass
 passes_in callers = map (λ caller. caller.note.pass) callers
 
--- the same caller's note, whatever its pass has seen
+-- the same caller's note, with the same number, whatever its pass has seen
 pub record IsSameMark (old new : Mark) : Type 0 where
   pub number : number_of new.pass ≡ number_of old.pass
   pub callers : new.callers ≡ old.callers
   pub spare : new.spare ≡ old.spare
+  pub time : new.stamp.time ≡ old.stamp.time
   pub done : new.done ≡ old.done
 
 pub record AreSameMarks (old new : List (Caller Mark)) : Type 0 where

@@ -5,6 +5,7 @@ ghost use Rattle.shared_plain.specs.Counting.{is_counted};
 use crate::machine::PlainMachine;
 use crate::plain::Plain;
 use ruled_object::PassOf;
+use stamps::Stamp;
 use sync_model::{CallerNote, NoNote, Note};
 
 /// What a caller knows of all shared calls: as much of the one history as it has seen.
@@ -13,6 +14,7 @@ pub struct Mark {
     pub(crate) pass: PassOf<PlainMachine, NoNote>,
     pub(crate) callers: u32,
     pub(crate) spare: u32,
+    pub(crate) stamp: Stamp,
     // How many shared calls the caller made; it stays at the type's last value.
     pub(crate) done: u64,
 }
@@ -31,6 +33,7 @@ impl Note for Mark {
             pass: home.object.copy(&mut self.pass),
             callers: self.callers,
             spare: 0,
+            stamp: self.stamp.same(),
             done: 0,
         }
     }
@@ -38,6 +41,10 @@ impl Note for Mark {
     fn merge(&mut self, home: &Plain, other: Self) {
         let Mark { pass, .. } = other;
         home.object.merge(&mut self.pass, pass);
+    }
+
+    fn meet(&mut self, other: &mut Self) {
+        self.stamp.meet(&mut other.stamp);
     }
 
     ghost counted = { is_counted };

@@ -10,6 +10,7 @@ use crate::plain::Plain;
 use crate::state::PlainState;
 use ruled_object::laws::passes_and_copies;
 use ruled_object::{Object, PassOf};
+use stamps::Stamp;
 use std::alloc::{AllocError, Global};
 use sync_model::{Caller, MAX_CALLERS, NoNote};
 use sync_types::AtomicKind;
@@ -32,31 +33,45 @@ impl Plain {
         passes_and_copies::<PlainMachine, NoNote>();
         let start = PlainState::new(alloc, maps, keys, kinds)?;
         let callers = spare.len() as u32;
-        let (object, passes) = Object::new(alloc, callers, 0, start, NoNote)?;
-        let callers = callers_with(alloc, callers, passes, spare)?;
+        let (object, passes) = Object::new(alloc, callers, 0, start, NoNote::new())?;
+        let callers = callers_with(alloc, callers, passes, spare, &Stamp::first())?;
         Ok((Plain { object, keys }, callers))
     }
 }
 
-// A caller with each pass, who has as many spare entries.
+// A caller with each pass, who has as many spare entries, and a note with this number.
 fn callers_with(
     alloc: Global,
     count: u32,
     passes: Vec<PassOf<PlainMachine, NoNote>>,
     spare: &[u32],
+    stamp: &Stamp,
 ) -> Result<Vec<Caller<Mark>>, AllocError>
-    ensures { IfOk result (λ callers. callers.items ≡ map (λ p. record { note = record { pass = p.0; callers = count; spare = p.1; done = 0 } }) (zip passes.items spare.now)) }
+    ensures { IfOk result (λ callers. callers.items ≡ map (λ p. record { note = record { pass = p.0; callers = count; spare = p.1; stamp = stamp.now; done = 0 } }) (zip passes.items spare.now)) }
 {
     passes
         .into_iter()
         .zip(spare)
-        .map(|(pass, spare)| Caller {
-            note: Mark {
-                pass,
-                callers: count,
-                spare: *spare,
-                done: 0,
-            },
-        })
+        .map(|(pass, spare)| caller_with(pass, count, *spare, stamp))
         .collect(alloc)
+}
+
+// A caller with this pass.
+fn caller_with(
+    pass: PassOf<PlainMachine, NoNote>,
+    callers: u32,
+    spare: u32,
+    stamp: &Stamp,
+) -> Caller<Mark>
+    ensures { result ≡ record { note = record { pass = pass; callers = callers; spare = spare; stamp = stamp.now; done = 0 } } }
+{
+    Caller {
+        note: Mark {
+            pass,
+            callers,
+            spare,
+            stamp: stamp.same(),
+            done: 0,
+        },
+    }
 }

@@ -37,11 +37,12 @@ impl Plain {
     {
         maps_and_atomics_stay();
         passes_and_copies::<PlainMachine, NoNote>();
+        let mut nothing = NoNote::new();
         mark.spare -= cost;
         mark.done = one_more(mark.done);
         match self
             .object
-            .call(rt, &(), &mut mark.pass, &mut NoNote, event)
+            .call(rt, &(), &mut mark.pass, &mut nothing, event)
         {
             Answer::Done(Some(answered)) => answered,
             Answer::Done(None) => unreachable!(),

@@ -1,4 +1,4 @@
-use Rattle.std.proofs.Common.{refl, sym, ap, ◌∙◌, subst}
+use Rattle.std.proofs.Common.{le_refl, refl, sym, ap, ◌∙◌, subst}
 use Rattle.sync_model.specs.Front.{AtLeast}
 use Rattle.sync_model.specs.Journal.{by}
 use Rattle.ruled_object.specs.Passes.{number_of, seen_by}
@@ -11,7 +11,7 @@ use Rattle.shared_plain.proofs.mark.MarkNote.merge.Goals as goal
 pub returns-clause-home : goal.returns-clause-home
 returns-clause-home c home is =
     let old = c.args.self.now in
-    let new : Mark = record { pass = c.merge.new.pass; callers = old.callers; spare = old.spare; done = old.done } in
+    let new : Mark = record { pass = c.merge.new.pass; callers = old.callers; spare = old.spare; stamp = old.stamp; done = old.done } in
     record {
       pass = note_of c.args.home.now home old new c.requires.home.0.pass c.merge.ensures.pass.0 c.merge.ensures.pass.1.0 is.pass;
       callers = is.callers;
@@ -24,7 +24,7 @@ returns-clause-front c =
     let other = c.args.other in
     let new = seen_by c.merge.new.pass in
     let callers = c.requires.home.1.callers ∙ sym c.requires.home.0.callers in (
-      rises old.callers (seen_by old.pass) new c.merge.ensures.seen.0,
+      (rises old.callers (seen_by old.pass) new c.merge.ensures.seen.0, le_refl old.stamp.time),
       subst (λ n. AtLeast (front_of old.callers new) (front_of n (seen_by other.pass))) (sym callers) (rises old.callers (seen_by other.pass) new c.merge.ensures.seen.1),
     )
 
@@ -32,7 +32,7 @@ pub returns-clause-own : goal.returns-clause-own
 returns-clause-own c =
     let old = c.args.self.now in
     let pass = c.merge.new.pass in
-    let new : Mark = record { pass = pass; callers = old.callers; spare = old.spare; done = old.done } in
+    let new : Mark = record { pass = pass; callers = old.callers; spare = old.spare; stamp = old.stamp; done = old.done } in
     let number = c.merge.ensures.pass.1.0 in
     let held = c.merge.ensures.held in
     same_own new old held number refl refl

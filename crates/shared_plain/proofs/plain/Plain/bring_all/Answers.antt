@@ -32,10 +32,10 @@ loop-caller-preserved c =
     let here = slice_get-get_or callers i c.caller-item.result below in
     let at_i = sym (c.loop-caller.invariant.rest i (le_refl i)) ∙ here in
     let before : Caller Mark = get_or callers i c.caller-item.result in
-    let after : Caller Mark = record { note = record { pass = c.bring.new.pass; callers = before.note.callers; spare = before.note.spare; done = before.note.done } } in
+    let after : Caller Mark = record { note = record { pass = c.bring.new.pass; callers = before.note.callers; spare = before.note.spare; stamp = before.note.stamp; done = before.note.done } } in
     record {
       brought = subst (λ l. Brought c.args.self.now.object l c.bring.new.all) (sym (taken_more (λ (caller : Caller Mark). caller.note.pass) first i before at_i))
           (c.bring.ensures.all (passes_in (take i first)) c.loop-caller.invariant.brought);
-      same = marks_on first callers i before after at_i (record { number = c.bring.ensures.pass.0; callers = refl; spare = refl; done = refl }) c.loop-caller.invariant.same;
+      same = marks_on first callers i before after at_i (record { number = c.bring.ensures.pass.0; callers = refl; spare = refl; time = refl; done = refl }) c.loop-caller.invariant.same;
       rest = λ k past. set_other callers i k after (λ e. omega arith) ∙ c.loop-caller.invariant.rest k (omega arith);
     }

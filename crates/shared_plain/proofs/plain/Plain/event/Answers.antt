@@ -32,7 +32,7 @@ pub returns-clause-home : goal.returns-clause-home
 returns-clause-home g c home is =
     let object = c.args.self.now.object in
     let old : Mark = c.args.mark.now in
-    let new : Mark = record { pass = c.call.new.pass; callers = old.callers; spare = old.spare - c.args.cost; done = c.one_more-mark.result } in
+    let new : Mark = record { pass = c.call.new.pass; callers = old.callers; spare = old.spare - c.args.cost; stamp = old.stamp; done = c.one_more-mark.result } in
     let at_self = c.requires.mark.0 in
     let had = held_there old c.requires.mark.1 in
     let kept = at_self.keeps had.0 had.1 in
@@ -68,7 +68,7 @@ returns-clause-called g c =
     let object = c.args.self.now.object in
     let start = start_of object in
     let old : Mark = c.args.mark.now in
-    let new : Mark = record { pass = c.call.new.pass; callers = old.callers; spare = old.spare - c.args.cost; done = c.one_more-mark.result } in
+    let new : Mark = record { pass = c.call.new.pass; callers = old.callers; spare = old.spare - c.args.cost; stamp = old.stamp; done = c.one_more-mark.result } in
     let is = c.requires.mark.0 in
     let had = held_there old c.requires.mark.1 in
     let was_pass = c.passes_and_copies.ensures.is_pass object old.pass had.0 is.pass had.1 in
@@ -86,7 +86,7 @@ returns-clause-called g c =
     let left = old.spare - c.args.cost in
     let spent : left + c.args.cost ≡ old.spare = omega arith in
     let whole = (seen_by old.pass ++ adds.between) ++ entry.0 ∷ [] in
-    let made = called c.maps_and_atomics_stay.ensures.no_entry start n who c.args.event answered (seen_by old.pass) adds.between entry.0 old.spare left c.args.cost below spent record {
+    let made = called c.maps_and_atomics_stay.ensures.no_entry start n who c.args.event answered (seen_by old.pass) adds.between entry.0 old.spare left old.stamp.time c.args.cost below spent record {
       caller = adds.caller;
       knew = adds.knew;
       deed = deed;
@@ -94,11 +94,11 @@ returns-clause-called g c =
       follows = subst (λ l. Follows next false start None l) adds.history adds.follows;
     } in
     let number = c.call.ensures.pass.1.0 in
-    let from : state_of own_by front_by seen_of old ≡ state_at n who old.spare (seen_by old.pass) = λ i. record { own = ap (holding old) had.1 i; front = front_by old; seen = seen_of old } in
-    let to : state_of own_by front_by seen_of new ≡ state_at n who left whole =
-    (λ i. record { own = ap (holding new) is_pass.1 i; front = front_by new; seen = seen_of new }) ∙ (λ i. state_at n (number i) left (adds.history i)) in
+    let from : state_of own_by front_by seen_of old ≡ state_at n who old.spare old.stamp.time (seen_by old.pass) = λ i. record (state_of own_by front_by seen_of old) { own = ap (holding old) had.1 i } in
+    let to : state_of own_by front_by seen_of new ≡ state_at n who left old.stamp.time whole =
+    (λ i. record (state_of own_by front_by seen_of new) { own = ap (holding new) is_pass.1 i }) ∙ (λ i. state_at n (number i) left old.stamp.time (adds.history i)) in
     subst (λ s. Called (contents_of start) (call_of c.args.event) answered.reply c.args.cost s (state_of own_by front_by seen_of new)) (sym from)
-    (subst (λ s. Called (contents_of start) (call_of c.args.event) answered.reply c.args.cost (state_at n who old.spare (seen_by old.pass)) s) (sym to) made)
+    (subst (λ s. Called (contents_of start) (call_of c.args.event) answered.reply c.args.cost (state_at n who old.spare old.stamp.time (seen_by old.pass)) s) (sym to) made)
 
 pub returns-clause-shown : goal.returns-clause-shown
 returns-clause-shown g c key value is =

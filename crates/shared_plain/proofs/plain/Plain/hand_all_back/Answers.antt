@@ -46,12 +46,12 @@ loop-caller-preserved c =
     let here = slice_get-get_or callers i c.caller-item.result below in
     let at_i = sym (c.loop-caller.invariant.rest i (le_refl i)) ∙ here in
     let before : Caller Mark = get_or callers i c.caller-item.result in
-    let after : Caller Mark = record { note = record { pass = c.hand_back.new.pass; callers = before.note.callers; spare = before.note.spare; done = before.note.done } } in
+    let after : Caller Mark = record { note = record { pass = c.hand_back.new.pass; callers = before.note.callers; spare = before.note.spare; stamp = before.note.stamp; done = before.note.done } } in
     let number : number_of before.note.pass ≡ i = c.requires.order i before at_i in
     record {
       hands = λ journal passes hands. subst (λ k. HandsBack plain.object (k + 1) journal passes c.hand_back.new.all) number
           (c.hand_back.ensures.all journal passes (subst (λ k. HandsBack plain.object k journal passes c.loop-caller.all) (sym number) (c.loop-caller.invariant.hands journal passes hands)));
-      same = marks_on first callers i before after at_i (record { number = c.hand_back.ensures.pass.1.0; callers = refl; spare = refl; done = refl }) c.loop-caller.invariant.same;
+      same = marks_on first callers i before after at_i (record { number = c.hand_back.ensures.pass.1.0; callers = refl; spare = refl; time = refl; done = refl }) c.loop-caller.invariant.same;
       back = λ journal passes hands k caller at_most at_k.
           let held = subst (λ j. HandsBack plain.object j journal passes c.loop-caller.all) (sym number) (c.loop-caller.invariant.hands journal passes hands) in
           let mine : IsBack plain journal passes i after.note = record {
