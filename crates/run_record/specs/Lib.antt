@@ -6,6 +6,7 @@ pub mod Example
 pub mod Exclusion
 pub mod Explains
 pub mod Halts
+pub mod InOneOrder
 pub mod Journals
 pub mod Limits
 pub mod Lines

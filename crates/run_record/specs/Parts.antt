@@ -61,7 +61,7 @@ module _ {E R : Type 0} (event : E → ObjectEvent) (reply : R → ObjectReply) 
   lifted_deed (Halt misuse) = Halt misuse
 
   abbrev pub lifted : Entry E R → ObjectEntry
-  lifted entry = record { caller = entry.caller; deed = lifted_deed entry.deed; front = entry.front; knew = entry.knew }
+  lifted entry = record { caller = entry.caller; deed = lifted_deed entry.deed; front = entry.front; knew = entry.knew; time = entry.time }
 
   -- the items are entries of the object's journal, and their deeds are those of a call from this stage on
   abbrev pub stages : {G O : Type 0} → (G → ℕ → E) → (G → R → Step G O) → ℕ → G → Part O
