@@ -4,6 +4,7 @@ use Rattle.sync_types.specs.declared.misuse.Misuse.{Misuse}
 use Rattle.sync_model.specs.declared.answer.Answer.{Answer}
 use Rattle.sync_model.specs.declared.answer.Answer.TheVariants.{Done, Halted}
 use Rattle.sync_model.specs.declared.journal.Deed.{Deed}
+use Rattle.sync_model.specs.Front.{Front, SameCounts}
 use Rattle.ruled_object.specs.declared.pass.Pass.{Pass}
 use Rattle.ruled_object.specs.Cells.{deed_of}
 use Rattle.ruled_object.specs.Growth.{Placed, deeds_of, Grows, halt_before, MeetsHalt, AddUp, LastTells}
@@ -162,16 +163,16 @@ module _ {G O E R : Type 0} (event_of : G → ℕ → E) (meaning : G → R → 
 
 module _ {S N E R G O : Type 0} (next : S → ℕ → E → S × R) (halts : Bool) (start : S) (event_of : G → ℕ → E) (moment : E → Option ℕ) (meaning : G → R → Step G O) (shows : ℕ → Type 0) (gives : G → Result O Misuse → Bool) (gains : G → O → Bool) where
   -- What the call has made until a stage is due. Whatever spells the rest from there spells the whole from the first stage.
-  pub record SoFar (stage : G) (old : Pass S N E R) (from : List ℕ) (due : G) (now : Pass S N E R) (to : List ℕ) : Type 0 where
+  pub record SoFar (stage : G) (old : Pass S N E R) (from : Front) (due : G) (now : Pass S N E R) (to : Front) : Type 0 where
     pub entries : List (Placed E R)
     pub grows : Grows next halts start old from entries now to
     pub spelt : (rest : List (Deed E R)) (answer : CallAnswer O) → Spells event_of meaning due rest answer → Spells event_of meaning stage (deeds_of entries ++ rest) answer
     pub moments : AreTimely moment shows (deeds_of entries)
     pub results : (given : Result O Misuse) → gives due given ≡ true → gives stage given ≡ true
     pub gained : (outcome : O) → gains due outcome ≡ gains stage outcome
-    pub front : to ≡ from
+    pub front : SameCounts to from
 
-  pub begun : (stage : G) (old : Pass S N E R) (from : List ℕ) → Grows next halts start old from [] old from → SoFar stage old from stage old from
+  pub begun : (stage : G) (old : Pass S N E R) (from : Front) → Grows next halts start old from [] old from → SoFar stage old from stage old from
   begun stage old from grows = record {
     entries = [];
     grows = grows;
@@ -183,8 +184,8 @@ module _ {S N E R G O : Type 0} (next : S → ℕ → E → S × R) (halts : Boo
   }
 
   -- a stage more
-  pub goes_on : (stage : G) (old mid new : Pass S N E R) (from middle to : List ℕ) (due later : G) (step : Step G O) → AddUp N next halts start → ((r : R) → KeepsResults gives due (meaning due r)) → ((r : R) → (acquired : Bool) × GainsAtItsEnd gains due acquired (meaning due r)) → SoFar stage old from due mid middle
-      → MadeStage next halts start event_of moment meaning shows due mid middle (Done step) new to → IsOn step later → to ≡ middle → SoFar stage old from later new to
+  pub goes_on : (stage : G) (old mid new : Pass S N E R) (from middle to : Front) (due later : G) (step : Step G O) → AddUp N next halts start → ((r : R) → KeepsResults gives due (meaning due r)) → ((r : R) → (acquired : Bool) × GainsAtItsEnd gains due acquired (meaning due r)) → SoFar stage old from due mid middle
+      → MadeStage next halts start event_of moment meaning shows due mid middle (Done step) new to → IsOn step later → SameCounts to middle → SoFar stage old from later new to
   goes_on stage old mid new from middle to due later step both keeps gained so made is front =
       let answered = reply_of event_of meaning due step made.answer made.means in
       let kept = subst (λ (s : Step G O). KeepsResults gives due s) (sym answered.1) (keeps answered.0) in
@@ -203,7 +204,7 @@ module _ {S N E R G O : Type 0} (next : S → ℕ → E → S × R) (halts : Boo
       }
 
   -- the last stage
-  pub ends : (stage : G) (old mid new : Pass S N E R) (from middle to : List ℕ) (due : G) (step : Answer (Step G O)) (answer : CallAnswer O) → AddUp N next halts start → LastTells E R → SoFar stage old from due mid middle
+  pub ends : (stage : G) (old mid new : Pass S N E R) (from middle to : Front) (due : G) (step : Answer (Step G O)) (answer : CallAnswer O) → AddUp N next halts start → LastTells E R → SoFar stage old from due mid middle
       → MadeStage next halts start event_of moment meaning shows due mid middle step new to → IsEnd step answer → Did next halts start (λ ds a. Spells event_of meaning stage ds a) (λ ds. AreTimely moment shows ds) old from answer new to
   ends stage old mid new from middle to due step answer both tells so made end = record {
     entries = so.entries ++ made.one ∷ [];
@@ -215,19 +216,19 @@ module _ {S N E R G O : Type 0} (next : S → ℕ → E → S × R) (halts : Boo
   }
 
   -- the same, by what one stage came to: it goes on, or it ends the call
-  pub on_by : (stage : G) (old mid new : Pass S N E R) (from middle to : List ℕ) (due later : G) (came : Answer (Step G O)) (step : Step G O) → AddUp N next halts start → ((r : R) → KeepsResults gives due (meaning due r)) → ((r : R) → (acquired : Bool) × GainsAtItsEnd gains due acquired (meaning due r)) → SoFar stage old from due mid middle
-      → MadeStage next halts start event_of moment meaning shows due mid middle came new to → (acquires_by (gains due) came ≡ false → to ≡ middle) → came ≡ Done step → IsOn step later → SoFar stage old from later new to
+  pub on_by : (stage : G) (old mid new : Pass S N E R) (from middle to : Front) (due later : G) (came : Answer (Step G O)) (step : Step G O) → AddUp N next halts start → ((r : R) → KeepsResults gives due (meaning due r)) → ((r : R) → (acquired : Bool) × GainsAtItsEnd gains due acquired (meaning due r)) → SoFar stage old from due mid middle
+      → MadeStage next halts start event_of moment meaning shows due mid middle came new to → (acquires_by (gains due) came ≡ false → SameCounts to middle) → came ≡ Done step → IsOn step later → SoFar stage old from later new to
   on_by stage old mid new from middle to due later came step both keeps gained so made quiet is on =
       goes_on stage old mid new from middle to due later step both keeps gained so (subst (λ (a : Answer (Step G O)). MadeStage next halts start event_of moment meaning shows due mid middle a new to) is made) on
       (quiet (ap (λ (a : Answer (Step G O)). acquires_by (gains due) a) is ∙ on_quiet (gains due) step later on))
 
-  pub ends_at : (stage : G) (old mid new : Pass S N E R) (from middle to : List ℕ) (due : G) (came step : Answer (Step G O)) (answer : CallAnswer O) → AddUp N next halts start → LastTells E R → SoFar stage old from due mid middle
+  pub ends_at : (stage : G) (old mid new : Pass S N E R) (from middle to : Front) (due : G) (came step : Answer (Step G O)) (answer : CallAnswer O) → AddUp N next halts start → LastTells E R → SoFar stage old from due mid middle
       → MadeStage next halts start event_of moment meaning shows due mid middle came new to → came ≡ step → IsEnd step answer → Did next halts start (λ ds a. Spells event_of meaning stage ds a) (λ ds. AreTimely moment shows ds) old from answer new to
   ends_at stage old mid new from middle to due came step answer both tells so made is end =
       ends stage old mid new from middle to due step answer both tells so (subst (λ (a : Answer (Step G O)). MadeStage next halts start event_of moment meaning shows due mid middle a new to) is made) end
 
   -- the rest of a call, from the stage that is due, makes the call whole
-  pub joined : (stage : G) (old mid new : Pass S N E R) (from middle to : List ℕ) (due : G) (answer : CallAnswer O) → AddUp N next halts start → SoFar stage old from due mid middle
+  pub joined : (stage : G) (old mid new : Pass S N E R) (from middle to : Front) (due : G) (answer : CallAnswer O) → AddUp N next halts start → SoFar stage old from due mid middle
       → Did next halts start (λ ds a. Spells event_of meaning due ds a) (λ ds. AreTimely moment shows ds) mid middle answer new to
       → Did next halts start (λ ds a. Spells event_of meaning stage ds a) (λ ds. AreTimely moment shows ds) old from answer new to
   joined stage old mid new from middle to due answer both so did = record {
@@ -239,10 +240,10 @@ module _ {S N E R G O : Type 0} (next : S → ℕ → E → S × R) (halts : Boo
   }
 
   -- The first stage didn't end the call, and the rest was made from a later one: the call is made whole.
-  pub went_on : (stage : G) (old mid new : Pass S N E R) (from middle to : List ℕ) (later : G) (came : Answer (Step G O)) (step : Step G O) (answer : CallAnswer O) → AddUp N next halts start → ((r : R) → KeepsResults gives stage (meaning stage r))
-      → ((r : R) → (acquired : Bool) × GainsAtItsEnd gains stage acquired (meaning stage r)) → Grows next halts start old from [] old from → MadeStage next halts start event_of moment meaning shows stage old from came mid middle → (acquires_by (gains stage) came ≡ false → middle ≡ from) → came ≡ Done step → IsOn step later
-      → Did next halts start (λ ds a. Spells event_of meaning later ds a) (λ ds. AreTimely moment shows ds) mid middle answer new to → (has_gained (gains later) answer ≡ false → to ≡ middle)
-      → Did next halts start (λ ds a. Spells event_of meaning stage ds a) (λ ds. AreTimely moment shows ds) old from answer new to × (has_gained (gains stage) answer ≡ false → to ≡ from)
+  pub went_on : (stage : G) (old mid new : Pass S N E R) (from middle to : Front) (later : G) (came : Answer (Step G O)) (step : Step G O) (answer : CallAnswer O) → AddUp N next halts start → ((r : R) → KeepsResults gives stage (meaning stage r))
+      → ((r : R) → (acquired : Bool) × GainsAtItsEnd gains stage acquired (meaning stage r)) → Grows next halts start old from [] old from → MadeStage next halts start event_of moment meaning shows stage old from came mid middle → (acquires_by (gains stage) came ≡ false → SameCounts middle from) → came ≡ Done step → IsOn step later
+      → Did next halts start (λ ds a. Spells event_of meaning later ds a) (λ ds. AreTimely moment shows ds) mid middle answer new to → (has_gained (gains later) answer ≡ false → SameCounts to middle)
+      → Did next halts start (λ ds a. Spells event_of meaning stage ds a) (λ ds. AreTimely moment shows ds) old from answer new to × (has_gained (gains stage) answer ≡ false → SameCounts to from)
   went_on stage old mid new from middle to later came step answer both keeps gained nothing made quiet is on did rest =
       let so = on_by stage old old mid from from middle stage later came step both keeps gained (begun stage old from nothing) made quiet is on in
       (joined stage old mid new from middle to later answer both so did, λ none. rest (same_gain answer so.gained ∙ none) ∙ so.front)

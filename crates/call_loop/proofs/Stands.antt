@@ -6,6 +6,7 @@ use Rattle.sync_model.specs.declared.answer.Answer.TheVariants.{Done}
 use Rattle.sync_model.specs.declared.journal.Deed.{Deed}
 use Rattle.sync_model.specs.declared.journal.Deed.TheVariants.{Event, Refused, Halt}
 use Rattle.sync_model.specs.declared.journal.Entry.{Entry}
+use Rattle.sync_model.specs.Front.{Front}
 use Rattle.sync_model.specs.Log as log
 use Rattle.sync_model.specs.Journal.{halt_next, halt_after, halt_of, by, logged, log_of, state_next, state_after, Right, Follows}
 use Rattle.ruled_object.specs.declared.pass.Pass.{Pass}
@@ -48,7 +49,7 @@ module _ {S E R W : Type 0} (next : S → ℕ → E → S × R) (halts : Bool) (
 
 module _ {S N E R G O W : Type 0} (next : S → ℕ → E → S × R) (halts : Bool) (start : S) (event_of : G → ℕ → E) (meaning : G → R → Step G O) (out : W) (move : W → E → R → W) (allows : W → G → Bool) where
   -- the answer to the event of a stage that is allowed is one that it may get
-  pub comes : (stage : G) (old new : Pass S N E R) (from to : List ℕ) (event : E) (reply : R) → Makes next halts start old from event (Done reply) new to → (of : IsEventOf event_of stage event)
+  pub comes : (stage : G) (old new : Pass S N E R) (from to : Front) (event : E) (reply : R) → Makes next halts start old from event (Done reply) new to → (of : IsEventOf event_of stage event)
       → ((before : List (Entry E R)) → Follows next halts start None before → log.Follows next start (log_of before) × (log.after next start (log_of before) ≡ state_after next start before))
       → ((entries : List (log.Entry E R)) → log.Follows next start entries → allows (stands.stand_from move out (number_of old) entries) stage ≡ true → IsExpected (meaning stage (next (log.after next start entries) (number_of old) (event_of stage of.0)).1))
       → allows (stand_by out move (own_by old)) stage ≡ true → IsExpected (meaning stage reply)

@@ -5,13 +5,14 @@ use Rattle.sync_types.specs.declared.misuse.Misuse.{Misuse}
 use Rattle.sync_model.specs.declared.answer.Answer.{Answer}
 use Rattle.sync_model.specs.declared.answer.Answer.TheVariants.{Done, Halted}
 use Rattle.sync_model.specs.declared.journal.Deed.{Deed}
+use Rattle.sync_model.specs.Front.{Front}
 use Rattle.ruled_object.specs.declared.pass.Pass.{Pass}
 use Rattle.ruled_object.specs.Growth.{Placed, deeds_of, Grows, MeetsHalt}
 use Rattle.protocols.specs.Spelling.{CallAnswer}
 
 -- The call made these events, one after the other, and no others. `from` is the front of the caller's note before, and `to` the front after.
 -- `spells` says which events a call of this kind may make and what it then answers, and `timely` which moments they may have.
-pub record Did {S N E R A : Type 0} (next : S → ℕ → E → S × R) (halts : Bool) (start : S) (spells : List (Deed E R) → Answer A → Type 0) (timely : List (Deed E R) → Type 0) (old : Pass S N E R) (from : List ℕ) (answer : Answer A) (new : Pass S N E R) (to : List ℕ) : Type 0 where
+pub record Did {S N E R A : Type 0} (next : S → ℕ → E → S × R) (halts : Bool) (start : S) (spells : List (Deed E R) → Answer A → Type 0) (timely : List (Deed E R) → Type 0) (old : Pass S N E R) (from : Front) (answer : Answer A) (new : Pass S N E R) (to : Front) : Type 0 where
   pub entries : List (Placed E R)
   -- each is the machine's at its place, behind all that the caller had seen
   pub grows : Grows next halts start old from entries new to
@@ -58,7 +59,7 @@ module _ {A B : Type 0} where
   halt_told words (Halted misuse) entries meets = meets
 
 -- what a call did by one spelling it did by another one, where that says the same in other words
-pub retold : {S N E R A B : Type 0} (next : S → ℕ → E → S × R) (halts : Bool) (start : S) (spells : List (Deed E R) → Answer A → Type 0) (timely : List (Deed E R) → Type 0) (spells_so : List (Deed E R) → Answer B → Type 0) (timely_so : List (Deed E R) → Type 0) (words : A → B) (old new : Pass S N E R) (from to : List ℕ) (answer : Answer A) (result : Answer B)
+pub retold : {S N E R A B : Type 0} (next : S → ℕ → E → S × R) (halts : Bool) (start : S) (spells : List (Deed E R) → Answer A → Type 0) (timely : List (Deed E R) → Type 0) (spells_so : List (Deed E R) → Answer B → Type 0) (timely_so : List (Deed E R) → Type 0) (words : A → B) (old new : Pass S N E R) (from to : Front) (answer : Answer A) (result : Answer B)
     → ((deeds : List (Deed E R)) → spells deeds answer → spells_so deeds (told words answer)) → ((deeds : List (Deed E R)) → timely deeds → timely_so deeds) → result ≡ told words answer
     → Did next halts start spells timely old from answer new to → Did next halts start spells_so timely_so old from result new to
 retold next halts start spells timely spells_so timely_so words old new from to answer result spelt moments is did = record {

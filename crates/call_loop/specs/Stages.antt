@@ -1,7 +1,8 @@
 -- What one stage of a running call did.
-use Rattle.std.specs.Prelude.{◌≡◌, ℕ, Bool, false, List, [], ◌∷◌, Option}
+use Rattle.std.specs.Prelude.{◌≡◌, ℕ, Bool, false, [], ◌∷◌, Option}
 use Rattle.sync_model.specs.declared.answer.Answer.{Answer}
 use Rattle.sync_model.specs.declared.answer.Answer.TheVariants.{Done, Halted}
+use Rattle.sync_model.specs.Front.{Front}
 use Rattle.ruled_object.specs.declared.pass.Pass.{Pass}
 use Rattle.ruled_object.specs.Cells.{deed_of}
 use Rattle.ruled_object.specs.Growth.{Placed, Grows, MeetsHalt}
@@ -17,7 +18,7 @@ module _ {G O R : Type 0} where
   meant meaning stage (Halted misuse) = Halted misuse
 
 -- The caller made the stage's event, and no other. The call goes on by its answer.
-pub record MadeStage {S N E R G O : Type 0} (next : S → ℕ → E → S × R) (halts : Bool) (start : S) (event_of : G → ℕ → E) (moment : E → Option ℕ) (meaning : G → R → Step G O) (shows : ℕ → Type 0) (stage : G) (old : Pass S N E R) (from : List ℕ) (step : Answer (Step G O)) (new : Pass S N E R) (to : List ℕ) : Type 0 where
+pub record MadeStage {S N E R G O : Type 0} (next : S → ℕ → E → S × R) (halts : Bool) (start : S) (event_of : G → ℕ → E) (moment : E → Option ℕ) (meaning : G → R → Step G O) (shows : ℕ → Type 0) (stage : G) (old : Pass S N E R) (from : Front) (step : Answer (Step G O)) (new : Pass S N E R) (to : Front) : Type 0 where
   pub one : Placed E R
   pub grows : Grows next halts start old from (one ∷ []) new to
   pub event : E

@@ -3,6 +3,7 @@
 //! The calls from here down to the machine's step are inlined, so that the compiler makes one function of a call on a type:
 //! `docs/PERFORMANCE.md` says what it saves.
 ghost use Rattle.std.specs.Prelude.{◌≡◌, ◌<◌, true, false};
+ghost use Rattle.sync_model.specs.Front.{SameCounts};
 ghost use Rattle.ruled_object.specs.Growth.{IsLawful, KeepsNote, NeedsNoTurn};
 ghost use Rattle.ruled_object.specs.Passes.{own_by, left_of, callers_of, start_of, IsHomeOf, IsOneLess, IsPassOf, SamePass};
 ghost use Rattle.ruled_object.specs.Standing.{stand_by};
@@ -37,7 +38,7 @@ pub fn call<P: Protocol + Worded, N: Note, C: Clock, R: Wait>(
     ensures note { KeepsNote N.at N.own N.front note.old note.new }
     ensures events { Did P.next P.HALTS (start_of object.now) (Spells P.event P.meaning stage) (AreTimely P.moment (C.shows at.now.clock.now)) pass.old (N.front note.old) result pass.new (N.front note.new) }
     ensures gives { IsGiven (P.gives stage) result }
-    ensures no_edge { has_gained (P.gains stage) result ≡ false → N.front note.new ≡ N.front note.old }
+    ensures no_edge { has_gained (P.gains stage) result ≡ false → SameCounts (N.front note.new) (N.front note.old) }
     ensures journal { IsLawful P.next P.HALTS P.frees P.takes (start_of object.now) pass.new }
     ensures turns { NeedsNoTurn P.next P.HALTS P.alone (start_of object.now) pass.old (N.front note.old) pass.new (N.front note.new) }
 {
@@ -73,7 +74,7 @@ pub fn call_within<P: Protocol + Worded, N: Note, C: Clock, R: Wait>(
     ensures note { KeepsNote N.at N.own N.front note.old note.new }
     ensures events { Did P.next P.HALTS (start_of object.now) (Spells P.event P.meaning stage) (AreTimely P.moment (C.shows at.now.clock.now)) pass.old (N.front note.old) result pass.new (N.front note.new) }
     ensures gives { IsGiven (P.gives stage) result }
-    ensures no_edge { has_gained (P.gains stage) result ≡ false → N.front note.new ≡ N.front note.old }
+    ensures no_edge { has_gained (P.gains stage) result ≡ false → SameCounts (N.front note.new) (N.front note.old) }
     ensures journal { IsLawful P.next P.HALTS P.frees P.takes (start_of object.now) pass.new }
     ensures turns { NeedsNoTurn P.next P.HALTS P.alone (start_of object.now) pass.old (N.front note.old) pass.new (N.front note.new) }
 {
@@ -114,7 +115,7 @@ fn go_on<P: Protocol + Worded, N: Note, C: Clock, R: Wait>(
     ensures note { KeepsNote N.at N.own N.front note.old note.new }
     ensures events { Did P.next P.HALTS (start_of object.now) (Spells P.event P.meaning stage) (AreTimely P.moment (C.shows at.now.clock.now)) pass.old (N.front note.old) result pass.new (N.front note.new) }
     ensures gives { IsGiven (P.gives stage) result }
-    ensures no_edge { has_gained (P.gains stage) result ≡ false → N.front note.new ≡ N.front note.old }
+    ensures no_edge { has_gained (P.gains stage) result ≡ false → SameCounts (N.front note.new) (N.front note.old) }
     ensures journal { IsLawful P.next P.HALTS P.frees P.takes (start_of object.now) pass.new }
 {
     P::laws();

@@ -2,8 +2,10 @@
 ghost use Rattle.std.specs.Prelude.{◌≡◌, List, IsTrue};
 ghost use Rattle.sync_model.specs.declared.journal.Deed.TheVariants.{Halt};
 ghost use Rattle.sync_model.specs.declared.journal.Entry.{Entry};
-ghost use Rattle.sync_model.specs.Journal.{halt_of};
+ghost use Rattle.sync_model.specs.Front.{SameCounts, Later};
+ghost use Rattle.sync_model.specs.Journal.{front_at, halt_of};
 ghost use Rattle.ruled_object.specs.Gathered.{SamePasses, IsWhole, IsSeen};
+ghost use Rattle.ruled_object.specs.Growth.{KeepsNote};
 ghost use Rattle.ruled_object.specs.Passes.{own_by, start_of, Adds, IsPassOf, SamePass};
 ghost use Rattle.ruled_object.specs.Standing.{stand_by};
 ghost use Rattle.call_loop.specs.Between.{AreAllBetween};
@@ -17,12 +19,13 @@ use sync_types::Misuse;
 
 /// Halts the object by a misuse, and wakes all who sleep: from then on each event is answered `Halted`. The first halt is
 /// kept. It is one entry of the journal, neither releases nor acquires, leaves its caller where it stood, and takes nothing
-/// off the calls that are left.
+/// off the calls that are left. Its caller's note knows what it knew, and has the entry's number, which is past the one that it
+/// had.
 pub fn halt<P: Protocol + Worded, N: Note, R: Wait>(
     object: &Object<P, N>,
     rt: &R,
     pass: &mut PassOf<P, N>,
-    note: &N,
+    note: &mut N,
     misuse: Misuse,
 )
     requires halts { IsTrue P.HALTS }
@@ -31,7 +34,10 @@ pub fn halt<P: Protocol + Worded, N: Note, R: Wait>(
     ensures stands { stand_by P.out P.stands (own_by pass.new) ≡ stand_by P.out P.stands (own_by pass.old) }
     ensures entry { (e : Entry P.Event P.Reply)
         × Adds P.next P.HALTS P.frees P.takes (start_of object.now) pass.old e pass.new
-        × (e.deed ≡ Halt misuse) × (e.front ≡ N.front note.now) }
+        × (e.deed ≡ Halt misuse) × (front_at e ≡ N.front note.new) }
+    ensures later { Later (N.front note.new) (N.front note.old) }
+    ensures note { KeepsNote N.at N.own N.front note.old note.new }
+    ensures no_edge { SameCounts (N.front note.new) (N.front note.old) }
 {
     standing::<P, P::Stand>();
     object.halt(rt, pass, note, misuse);

@@ -1,5 +1,6 @@
 //! One stage of a running call.
 ghost use Rattle.std.specs.Prelude.{◌≡◌, true, false};
+ghost use Rattle.sync_model.specs.Front.{SameCounts};
 ghost use Rattle.ruled_object.specs.Growth.{IsLawful, KeepsNote, NeedsNoTurn};
 ghost use Rattle.ruled_object.specs.Passes.{own_by, callers_of, start_of, IsHomeOf, IsPassOf, SamePass};
 ghost use Rattle.ruled_object.specs.Standing.{stand_by};
@@ -48,7 +49,7 @@ pub(crate) fn make<P: Protocol + Worded, N: Note, C: Clock, R: Wait>(
     ensures made { MadeStage P.next P.HALTS (start_of object.now) P.event P.moment P.meaning (C.shows at.now.clock.now) stage pass.old (N.front note.old) result pass.new (N.front note.new) }
     ensures expected { MayCome result }
     ensures stands { StandsOn P.out P.left (P.allows (start_of object.now)) (stand_by P.out P.stands (own_by pass.new)) result }
-    ensures no_edge { acquires_by (P.gains stage) result ≡ false → N.front note.new ≡ N.front note.old }
+    ensures no_edge { acquires_by (P.gains stage) result ≡ false → SameCounts (N.front note.new) (N.front note.old) }
     ensures journal { IsLawful P.next P.HALTS P.frees P.takes (start_of object.now) pass.new }
     ensures turns { NeedsNoTurn P.next P.HALTS P.alone (start_of object.now) pass.old (N.front note.old) pass.new (N.front note.new) }
 {

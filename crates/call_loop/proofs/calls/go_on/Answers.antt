@@ -16,7 +16,7 @@ loop-init g c =
       (tt, tt),
       c.requires.pass,
       (refl, refl),
-      record { home = λ home is. is; kept = refl; rises = λ caller. omega arith },
+      record { home = λ home is. is; kept = refl; rises = ((λ caller. omega arith), omega arith) },
       c.requires.allowed,
       begun m.next m.HALTS start p.event p.moment p.meaning (g.C.Clock.shows c.args.at.now.clock.now) p.gives p.gains c.args.stage c.args.pass.now from nothing,
     )
