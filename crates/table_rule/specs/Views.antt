@@ -43,8 +43,9 @@ abbrev pub held_in : ℕ → List Own → Option Holding
 held_in number [] = None
 held_in number (own ∷ owns) = Some (record { number = number; items = own.items; spare = own.spare })
 
+-- what contracts see of a view alone. No event of an object changes it, so that its number is 0; the caller's note has a number of its own
 abbrev pub view_state : View → CallerState
-view_state v = record { own = held_in v.number v.owns; front = v.front; seen = v.seen }
+view_state v = record { own = held_in v.number v.owns; front = v.front; time = 0; seen = v.seen }
 
 -- how many calls the first caller made
 abbrev pub made_by : List Own → ℕ
