@@ -204,6 +204,7 @@ module _ (k : Begin) (laws : HistoryLaws) (log : List SharedEntry) (calls : ℕ 
               is_front = may.front;
               counted = front_mine;
               rises = rises_on;
+              time = refl;
               begins = begins_more v.seen log (history_with log v.number x) history_on fits.seen;
               from = may.from;
               to = bound_on log (entry_of v.number x) x.entry x.place may.last may.to;
