@@ -5,7 +5,7 @@ use Rattle.std.proofs.lemmas.Option.{slice_get_within}
 use Rattle.sync_model.specs.declared.item.Item.{Item}
 use Rattle.shared_table.specs.declared.note.SharedNote.{SharedNote}
 use Rattle.shared_table.specs.declared.table.SharedTable.{SharedTable}
-use Rattle.shared_table.specs.Notes.{front_by, IsLawfulFor}
+use Rattle.shared_table.specs.Notes.{counts_by, IsLawfulFor}
 use Rattle.shared_table.specs.Tables.{caller_count}
 use Rattle.shared_table.proofs.Settles.{item_there}
 
@@ -18,7 +18,7 @@ module _ (table : SharedTable) (note : SharedNote) (law : IsLawfulFor table note
   ]
 
   -- what the front counts was made
-  pub counted_made : (c i : ℕ) → i < slice_index (front_by note) c → (c < caller_count table) × ((x : Item) × (slice_get (law.calls c) i ≡ Some x))
+  pub counted_made : (c i : ℕ) → i < slice_index (counts_by note) c → (c < caller_count table) × ((x : Item) × (slice_get (law.calls c) i ≡ Some x))
   counted_made c i counted = (made_by_caller c i there.0 there.1, there)
     where
       there : (x : Item) × (slice_get (law.calls c) i ≡ Some x)

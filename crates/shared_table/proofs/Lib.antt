@@ -4,6 +4,7 @@ pub mod Seeing
 pub mod Walks
 pub mod MapCalls
 pub mod Payments
+pub mod Timed
 pub mod Calling
 pub mod FirstCallers
 pub mod Noting

@@ -197,7 +197,7 @@ undrafted first me after n used word call m costs d told =
         seen = makes.seen;
         is = makes.is ∙ ap (λ o. record (called_view v o makes.seen) { walk = None; leaf = None; lock = Some (bare l) })
             (ap (λ c. paid c used (with_item (with_draft v.owns d.words) makes.item)) costs ∙ spend_undrafted used v.owns d.words makes.item ∙ sym (ap (λ c. paid c used (with_item v.owns makes.item)) costs));
-        called = subst (λ own. Called (start_of v.begin) (calls.Map m call) (replies.Map (key_reply call (leaf_value v.leaf l.key))) (cost_of call) (record { own = own; front = v.front; seen = v.seen }) (view_state after.0)) (held_undrafted v.number v.owns d.words) makes.called;
+        called = subst (λ own. Called (start_of v.begin) (calls.Map m call) (replies.Map (key_reply call (leaf_value v.leaf l.key))) (cost_of call) (record (view_state v) { own = own }) (view_state after.0)) (held_undrafted v.number v.owns d.words) makes.called;
         looks = makes.looks;
       },
     )

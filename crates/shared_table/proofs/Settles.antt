@@ -19,7 +19,7 @@ use Rattle.shared_table.specs.declared.table.SharedTable.{SharedTable}
 use Rattle.table_rule.specs.declared.view.Own.{Own}
 use Rattle.table_rule.specs.declared.view.View.{View}
 use Rattle.table_rule.specs.Layout.{callers_of}
-use Rattle.shared_table.specs.Notes.{front_by, own_by, seen_by, IsNoteOf}
+use Rattle.shared_table.specs.Notes.{counts_by, front_by, own_by, seen_by, IsNoteOf}
 use Rattle.shared_table.specs.Settling.{IsSameCaller, AreSameCallers, Gathered, after_first, MayTake, IsBack}
 use Rattle.table_rule.specs.Shape.{start_of}
 use Rattle.shared_table.specs.Tables.{caller_count, first_of}
@@ -163,7 +163,10 @@ module _ (table : SharedTable) (callers : List (Caller SharedNote)) (all : AreAl
         spare = ap (spare_in caller.note.spare) here ∙ (ap (spare_in old.0.note.spare) (sym o.2) ∙ old.0.note.spare_is) ∙ sym kept.spare;
       }
 
-  module _ (news : List (Caller SharedNote)) (count : length news ≡ length callers) (back : (i : ℕ) (caller : Caller SharedNote) → slice_get news i ≡ Some caller → IsBack table w i caller.note) where
+  module _ (news : List (Caller SharedNote)) (are : AreSameCallers callers news) (back : (i : ℕ) (caller : Caller SharedNote) → slice_get news i ≡ Some caller → IsBack table w i caller.note) where
+    count : length news ≡ length callers
+    count = are.count
+
     abbrev new_view : ℕ → Own → View
     new_view i own = record v { seen = looks.log; heard = []; number = i; owns = own ∷ [] }
 
@@ -200,7 +203,7 @@ module _ (table : SharedTable) (callers : List (Caller SharedNote)) (all : AreAl
     own_same i old new at_old at_new = let h = has i old new at_old at_new in
         ap (λ (u : View). held_in u.number u.owns) h.view ∙ sym (ap (λ n. held_in n old.note.seat.me.0.owns) h.old_number ∙ ap (held_in i) h.had)
 
-    front_is : (i : ℕ) (new : Caller SharedNote) → slice_get news i ≡ Some new → front_by new.note ≡ v.front
+    front_is : (i : ℕ) (new : Caller SharedNote) → slice_get news i ≡ Some new → counts_by new.note ≡ v.front
     front_is i new at_new = let old = old_of i new at_new in ap (λ (u : View). u.front) (has i old.0 new old.1 at_new).view
 
     seen_is : (i : ℕ) (new : Caller SharedNote) → slice_get news i ≡ Some new → seen_by new.note ≡ looks.log
@@ -223,7 +226,7 @@ module _ (table : SharedTable) (callers : List (Caller SharedNote)) (all : AreAl
           counted = subst (λ (u : View). IsCounted (held_in u.number u.owns) u.front) same (counted h is.counted);
         }
       where
-        counted : (h : Has i old new) → IsCounted (own_by old.note) (front_by old.note) → slice_index v.front i ≡ length h.own.items
+        counted : (h : Has i old new) → IsCounted (own_by old.note) (counts_by old.note) → slice_index v.front i ≡ length h.own.items
         counted h was =
             let below = slice_get_within callers i old at_old in
             let mine = looks.owned i h.own h.at in
@@ -245,7 +248,10 @@ module _ (table : SharedTable) (callers : List (Caller SharedNote)) (all : AreAl
     same_calls = record {
       count = count;
       same = own_same;
-      rises = λ i old new at_old at_new. subst (λ f. AtLeast f (front_by old.note)) (sym (front_is i new at_new)) (g.fronts i old (slice_get_within callers i old at_old) at_old);
+      rises = λ i old new at_old at_new. (
+        subst (λ f. AtLeast f (counts_by old.note)) (sym (front_is i new at_new)) (g.fronts i old (slice_get_within callers i old at_old) at_old),
+        let same = (are.each i old new at_old at_new).time in omega arith,
+      );
       begins = λ i old new at_old at_new. let h = g.heard i old (slice_get_within callers i old at_old) at_old in subst (λ s. Begins s (seen_by old.note)) (sym (seen_is i new at_new)) (looks.heard h.0 (seen_by old.note) h.1);
     }
 
@@ -278,10 +284,23 @@ callers_on first list i before after at_i same all = record {
   ];
 }
 
+-- callers who stay the same twice stay the same
+pub same_twice : (old mid new : List (Caller SharedNote)) → AreSameCallers old mid → AreSameCallers mid new → AreSameCallers old new
+same_twice old mid new first next = record {
+  count = next.count ∙ first.count;
+  each = λ i before after at_before at_after.
+      let inside = slice_get_within old i before at_before in
+      let many = first.count in
+      let there = item_there mid i (omega arith) in
+      let was = first.each i before there.0 at_before there.1 in
+      let is = next.each i there.0 after there.1 at_after in
+      record { number = is.number ∙ was.number; next = is.next ∙ was.next; spare = is.spare ∙ was.spare; time = is.time ∙ was.time };
+}
+
 pub same_callers : (list : List (Caller SharedNote)) → AreSameCallers list list
 same_callers list = record {
   count = refl;
-  each = λ i before after at_before at_after. subst (λ (x : Caller SharedNote). IsSameCaller before.note x.note) (same_Some before after (sym at_before ∙ at_after)) record { number = refl; next = refl; spare = refl };
+  each = λ i before after at_before at_after. subst (λ (x : Caller SharedNote). IsSameCaller before.note x.note) (same_Some before after (sym at_before ∙ at_after)) record { number = refl; next = refl; spare = refl; time = refl };
 }
 
 module _ (all : View) (n : ℕ) (below : n < length all.owns) where

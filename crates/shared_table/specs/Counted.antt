@@ -2,7 +2,7 @@
 use Rattle.sync_model.specs.Note.{IsCounted}
 use Rattle.shared_table.specs.declared.note.SharedNote.{SharedNote}
 use Rattle.shared_table.specs.declared.table.SharedTable.{SharedTable}
-use Rattle.shared_table.specs.Notes.{front_by, own_by, IsNoteOf}
+use Rattle.shared_table.specs.Notes.{counts_by, own_by, IsNoteOf}
 
-pub is_counted : (home : SharedTable) (note : SharedNote) → IsNoteOf home note → IsCounted (own_by note) (front_by note)
+pub is_counted : (home : SharedTable) (note : SharedNote) → IsNoteOf home note → IsCounted (own_by note) (counts_by note)
 is_counted home note is = is.counted

@@ -5,7 +5,7 @@ use Rattle.table_rule.specs.declared.begin.Begin.{Begin}
 use Rattle.shared_table.specs.declared.note.SharedNote.{SharedNote}
 use Rattle.shared_table.specs.declared.table.SharedTable.{SharedTable}
 use Rattle.table_rule.specs.declared.view.View.{View}
-use Rattle.shared_table.specs.Notes.{front_by, own_by, seen_by, IsNoteOf}
+use Rattle.shared_table.specs.Notes.{counts_by, own_by, seen_by, IsNoteOf}
 use Rattle.table_rule.specs.Views.{new_owns, first_view}
 
 -- the first seat, when it has let the first n callers go: the next one's room begins here
@@ -17,4 +17,4 @@ pub record IsNewCaller (table : SharedTable) (spares : List ℕ) (i : ℕ) (call
   pub is : IsNoteOf table caller.note
   pub own : own_by caller.note ≡ Some (record { number = i; items = []; spare = slice_index spares i })
   pub seen : seen_by caller.note ≡ []
-  pub knows : (c : ℕ) → slice_index (front_by caller.note) c ≡ 0
+  pub knows : (c : ℕ) → slice_index (counts_by caller.note) c ≡ 0

@@ -6,6 +6,7 @@ use Rattle.sync_model.specs.declared.item.SharedCall.TheVariants.{Atomic}
 use Rattle.sync_model.specs.declared.item.SharedEntry.{SharedEntry}
 use Rattle.sync_model.specs.declared.item.Item.{Item}
 use Rattle.sync_model.specs.declared.item.SharedReply.TheVariants as replies
+use Rattle.sync_model.specs.Front.{Front}
 use Rattle.sync_model.specs.Note.{Holding, IsCounted}
 use Rattle.sync_types.specs.SequentialAtomic.{atomic_reply}
 use Rattle.sync_model.specs.SharedCalls.{Lawful}
@@ -20,8 +21,12 @@ use Rattle.table_words.specs.Seats.{begin_of, IsSeatOf}
 use Rattle.table_rule.specs.Views.{held_in, IsIdle}
 
 -- for each caller the number of its shared calls that are known
-abbrev pub front_by : SharedNote → List ℕ
-front_by note = note.seat.me.0.front
+abbrev pub counts_by : SharedNote → List ℕ
+counts_by note = note.seat.me.0.front
+
+-- the counts, and the number of the last event
+abbrev pub front_by : SharedNote → Front
+front_by note = record { counts = counts_by note; time = note.stamp.time }
 
 -- the holder, with its calls; a copy has none
 abbrev pub own_by : SharedNote → Option Holding
@@ -40,7 +45,7 @@ pub record IsNoteOf (table : SharedTable) (note : SharedNote) : Type 0 where
   pub idle : IsIdle note.seat.me.0
   pub few : length note.seat.me.0.owns ≤ 1
   pub unwritten : (i : ℕ) (own : Own) → slice_get note.seat.me.0.owns i ≡ Some own → own.draft ≡ []
-  pub counted : IsCounted (own_by note) (front_by note)
+  pub counted : IsCounted (own_by note) (counts_by note)
 
 -- an operation that makes this of an atomic's word is the call
 pub record IsOperationOn (table : SharedTable) (atomic : ℕ) (call : AtomicCall) (f : ℕ → ℕ) : Type 0 where
@@ -59,4 +64,4 @@ pub record IsLawfulFor (table : SharedTable) (note : SharedNote) : Type 0 where
   pub lawful : Lawful (first_of table) (seen_by note) calls
   pub none_else : (c : ℕ) → caller_count table ≤ c → calls c ≡ []
   pub mine : (holding : Holding) → own_by note ≡ Some holding → calls holding.number ≡ holding.items
-  pub made : (c : ℕ) → slice_index (front_by note) c ≤ length (calls c)
+  pub made : (c : ℕ) → slice_index (counts_by note) c ≤ length (calls c)

@@ -7,15 +7,16 @@ use Rattle.shared_table.specs.declared.note.SharedNote.{SharedNote}
 use Rattle.shared_table.specs.declared.table.SharedTable.{SharedTable}
 use Rattle.table_rule.specs.declared.view.Own.{Own}
 use Rattle.table_rule.specs.declared.view.View.{View}
-use Rattle.shared_table.specs.Notes.{front_by, seen_by}
+use Rattle.shared_table.specs.Notes.{counts_by, seen_by}
 use Rattle.table_words.specs.Seats.{begin_of, IsSeatOf}
 use Rattle.table_rule.specs.Views.{next_in, spare_in, dealt, IsIdle}
 
--- it is the same caller's note, with the same room, whatever its seat knows
+-- it is the same caller's note, with the same room and the same number, whatever its seat knows
 pub record IsSameCaller (old new : SharedNote) : Type 0 where
   pub number : new.number ≡ old.number
   pub next : new.next ≡ old.next
   pub spare : new.spare ≡ old.spare
+  pub time : new.stamp.time ≡ old.stamp.time
 
 pub record AreSameCallers (old new : List (Caller SharedNote)) : Type 0 where
   pub count : length new ≡ length old
@@ -31,7 +32,7 @@ pub record Gathered (table : SharedTable) (callers : List (Caller SharedNote)) (
   pub count : length me.0.owns ≡ n
   pub owns : (i : ℕ) (caller : Caller SharedNote) → i < n → slice_get callers i ≡ Some caller → (own : Own) × (slice_get me.0.owns i ≡ Some own) × (caller.note.seat.me.0.owns ≡ own ∷ [])
   pub heard : (i : ℕ) (caller : Caller SharedNote) → i < n → slice_get callers i ≡ Some caller → (j : ℕ) × (slice_get me.0.heard j ≡ Some (seen_by caller.note))
-  pub fronts : (i : ℕ) (caller : Caller SharedNote) → i < n → slice_get callers i ≡ Some caller → AtLeast me.0.front (front_by caller.note)
+  pub fronts : (i : ℕ) (caller : Caller SharedNote) → i < n → slice_get callers i ≡ Some caller → AtLeast me.0.front (counts_by caller.note)
 
 -- the view of one seat for all callers, when it has let the first n go
 abbrev pub after_first : View → ℕ → View

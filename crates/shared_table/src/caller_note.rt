@@ -23,6 +23,10 @@ impl Note for SharedNote {
         home.merge(self, other);
     }
 
+    fn meet(&mut self, other: &mut Self) {
+        self.stamp.meet(&mut other.stamp);
+    }
+
     ghost counted = { is_counted };
 }
 

@@ -1,10 +1,10 @@
 //! Copies of notes, and their merging, by splitting and joining seats. Both cost a load of one word or two, and wait for
 //! nobody.
 ghost use Rattle.std.specs.Prelude.{◌≡◌, None};
-ghost use Rattle.sync_model.specs.Front.{AtLeast};
+ghost use Rattle.sync_model.specs.Front.{AtLeast, NoLess};
 ghost use Rattle.sync_model.specs.Journal.{Begins};
 ghost use Rattle.sync_model.specs.Note.{SameHome};
-ghost use Rattle.shared_table.specs.Notes.{front_by, own_by, seen_by, IsNoteOf, IsLawfulFor};
+ghost use Rattle.shared_table.specs.Notes.{counts_by, front_by, own_by, seen_by, IsNoteOf, IsLawfulFor};
 
 use crate::note::SharedNote;
 use crate::table::SharedTable;
@@ -23,6 +23,7 @@ impl SharedTable {
             number: note.number,
             next: 0,
             spare: 0,
+            stamp: note.stamp.same(),
         }
     }
 
@@ -32,7 +33,7 @@ impl SharedTable {
         requires note { IsNoteOf self.now note.old }
         requires other { IsNoteOf self.now other × (own_by other ≡ None) }
         ensures home { SameHome IsNoteOf note.old note.new }
-        ensures front { AtLeast (front_by note.new) (front_by note.old) × AtLeast (front_by note.new) (front_by other) }
+        ensures front { NoLess (front_by note.new) (front_by note.old) × AtLeast (counts_by note.new) (counts_by other) }
         ensures own { own_by note.new ≡ own_by note.old }
         ensures seen { Begins (seen_by note.new) (seen_by note.old) × Begins (seen_by note.new) (seen_by other) }
         ensures lawful { IsLawfulFor self.now note.new }

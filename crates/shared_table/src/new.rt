@@ -10,6 +10,7 @@ ghost use Rattle.table_rule.specs.Views.{first_view};
 use crate::note::SharedNote;
 use crate::table::SharedTable;
 use atomic_table::Seat;
+use stamps::Stamp;
 use std::alloc::{AllocError, Global};
 use sync_model::{Caller, MAX_CALLERS};
 use sync_types::{AtomicKind, Seq};
@@ -71,6 +72,7 @@ impl SharedTable {
                 number: number as u32,
                 next,
                 spare,
+                stamp: Stamp::first(),
             };
             callers.push_reserved(Caller { note });
             next += 128 * spare as u64;

@@ -3,6 +3,7 @@ ghost use Rattle.std.specs.Prelude.{◌≡◌};
 ghost use Rattle.table_rule.specs.Views.{spare_in, next_in};
 
 use atomic_table::Seat;
+use stamps::Stamp;
 use table_words::View;
 
 /// What a caller knows of all shared calls, and the words of the table that it may still use for entries and nodes.
@@ -13,6 +14,7 @@ pub struct SharedNote {
     // Where the room begins, and how many units it has.
     pub(crate) next: u64,
     pub(crate) spare: u32,
+    pub(crate) stamp: Stamp,
     ghost number_is: { seat.me.0.number ≡ number },
     ghost next_is: { next_in next seat.me.0.owns ≡ next },
     ghost spare_is: { spare_in spare seat.me.0.owns ≡ spare },

@@ -4,7 +4,7 @@ ghost use Rattle.sync_model.specs.declared.caller.Caller.{Caller};
 ghost use Rattle.sync_model.specs.Front.{AtLeast};
 ghost use Rattle.sync_model.specs.Shared.{AreAllCallers, SameCalls, Settled};
 ghost use Rattle.shared_table.specs.declared.note.SharedNote.{SharedNote};
-ghost use Rattle.shared_table.specs.Notes.{front_by, own_by, seen_by, IsNoteOf};
+ghost use Rattle.shared_table.specs.Notes.{counts_by, front_by, own_by, seen_by, IsNoteOf};
 ghost use Rattle.shared_table.specs.Settling.{IsSameCaller, AreSameCallers, Gathered, MayTake, IsBack};
 ghost use Rattle.shared_table.specs.Tables.{caller_count, first_of};
 ghost use Rattle.table_words.specs.Seats.{IsSeatOf};
@@ -60,7 +60,7 @@ impl SharedTable {
         requires all { IsSeatOf self.now.words all.old × (all.old.me.0.live ≡ true) }
         requires next { all.old.me.0.number + length all.old.me.0.owns ≡ note.old.number }
         ensures all { (all.new.table_id ≡ all.old.table_id) × (all.new.me ≡ (joined all.old.me.0 note.old.seat.me.0, all.old.me.1)) }
-        ensures knows { AtLeast all.new.me.0.front all.old.me.0.front × AtLeast all.new.me.0.front (front_by note.old) }
+        ensures knows { AtLeast all.new.me.0.front all.old.me.0.front × AtLeast all.new.me.0.front (counts_by note.old) }
         ensures note { IsSameCaller note.old note.new }
     {
         let copy = self.seat_like(note);

@@ -6,6 +6,7 @@ use Rattle.sync_types.specs.declared.map_object.MapReply.TheVariants.{Found}
 use Rattle.table_rule.specs.declared.view.View.{View}
 use Rattle.shared_table.proofs.Calling.{note_on}
 use Rattle.shared_table.proofs.Noting.{lawful_for}
+use Rattle.shared_table.proofs.Timed.{called_by}
 use Rattle.shared_table.proofs.table.SharedTable.look_up.Goals as goal
 
 pub returns-clause-home : goal.returns-clause-home
@@ -15,3 +16,6 @@ pub returns-clause-lawful : goal.returns-clause-lawful
 returns-clause-lawful g c =
     let placed = c.walk.ensures.called.1 in
     lawful_for c.args.self.now _ c.walk.new.seat.me.0 (ap (λ (u : View). u.begin) placed.is ∙ c.requires.note.0.begin) placed.looks
+
+pub returns-clause-called : goal.returns-clause-called
+returns-clause-called g c = called_by c.args.self.now c.args.note.now c.walk.new.seat.me.0 (calls.Map c.args.map (Load c.args.key)) (replies.Map (Found c.walk.result)) 0 c.requires.note.0 c.walk.ensures.called.1.called

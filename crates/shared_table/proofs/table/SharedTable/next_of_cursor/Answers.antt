@@ -8,6 +8,7 @@ use Rattle.table_rule.specs.Views.{view_state}
 use Rattle.shared_table.proofs.Calling.{note_on}
 use Rattle.shared_table.proofs.CursorNotes.{of_holder, holder_of}
 use Rattle.shared_table.proofs.Noting.{lawful_for}
+use Rattle.shared_table.proofs.Timed.{called_by}
 use Rattle.shared_table.proofs.table.SharedTable.next_of_cursor.Goals as goal
 
 pub next-requires-clause-cursor : goal.next-requires-clause-cursor
@@ -31,8 +32,7 @@ returns-clause-home c home at_home =
 pub returns-clause-called : goal.returns-clause-called
 returns-clause-called c map begin is =
     let stepped = c.next.ensures.stepped map begin (of_holder (IsCursor c.args.self.now.words c.args.cursor.now map begin) (own_by c.args.note.now) c.requires.note.1 is) in
-    let called = stepped.placed.called in
-    search rules
+    called_by c.args.self.now c.args.note.now c.next.new.seat.me.0 (calls.Next begin) (replies.Shown c.next.result) 0 c.requires.note.0 stepped.placed.called
 
 pub returns-clause-stands : goal.returns-clause-stands
 returns-clause-stands c map begin is = holder_of (IsCursor c.args.self.now.words c.next.new.self map begin) (view_state c.next.new.seat.me.0).own
