@@ -1,12 +1,12 @@
 -- The passes of one object, and its journal in the words of the record.
-use Rattle.std.proofs.Common.{◌≡◌, ◌⊎◌, inl, inr, ℕ, ◌+◌, ◌<◌, ◌≤◌, Bool, true, false, ◌==◌, cond, List, [], ◌∷◌, ◌++◌, map, length, get_or, Option, Some, None, slice_get, refl, sym, ap, subst, ◌∙◌, arith, length-append}
+use Rattle.std.proofs.Common.{◌≡◌, ◌⊎◌, inl, inr, ℕ, zero, suc, ◌+◌, ◌<◌, ◌≤◌, Bool, true, false, ◌==◌, cond, List, [], ◌∷◌, ◌++◌, map, length, get_or, Option, Some, None, slice_get, refl, sym, ap, subst, ◌∙◌, arith, length-append}
 use Rattle.std.specs.Option.{option_map}
-use Rattle.std.proofs.lemmas.Option.{slice_get_within, slice_get_cases, slice_get-map}
+use Rattle.std.proofs.lemmas.Option.{none-some, same_Some, slice_get_within, slice_get_cases, slice_get-map}
 use Rattle.sync_model.specs.declared.journal.Deed.{Deed}
 use Rattle.sync_model.specs.declared.journal.Deed.TheVariants.{Event, Refused, Halt}
 use Rattle.sync_model.specs.declared.journal.Entry.{Entry}
 use Rattle.sync_types.specs.declared.misuse.Misuse.{Misuse}
-use Rattle.sync_model.specs.Journal.{by, halt_next, halt_after, halt_of}
+use Rattle.sync_model.specs.Journal.{by, halt_next, halt_after, halt_of, TimesRise}
 use Rattle.ruled_object.specs.declared.object.Object.{Object}
 use Rattle.ruled_object.specs.declared.pass.Pass.{Pass}
 use Rattle.ruled_object.specs.Gathered.{IsWhole, SameOwn}
@@ -69,10 +69,11 @@ module _ {S N E R : Type 0} (next : S → ℕ → E → S × R) (halts : Bool) (
     by_case (inl (x, within, some, is)) = (x, some, after.owns i pass here ∙ sym (before.owns i x some))
     by_case (inr (past, none)) = absurd (omega (arith, past, sized, slice_get_within new i pass here))
 
--- a journal that is such a one, with this first halt, in which each worker's entries are those of its pass
+-- a journal that is such a one, with this first halt, in which each worker's entries are those of its pass, and numbers rise
 pub record IsTold {N : Type 0} (is : List ObjectEntry → Type 0) (first : Option Misuse) (all : List (AnyPass N)) : Type 0 where
   pub journal : List ObjectEntry
   pub of : is journal
+  pub times : TimesRise journal
   pub halted : first ≡ halt_of journal
   pub parts : AreParts journal all
 
@@ -99,6 +100,17 @@ module _ {E R : Type 0} (event : E → ObjectEvent) (reply : R → ObjectReply) 
   halt_lifted : (h : Option Misuse) (own : List (Entry E R)) → halt_after h (lift own) ≡ halt_after h own
   halt_lifted h [] = refl
   halt_lifted h (x ∷ own) = ap (λ (k : Option Misuse). halt_after k (lift own)) (halt_next_lifted h x.deed) ∙ halt_lifted (halt_next h x.deed) own
+
+  unlifted : (own : List (Entry E R)) (i : ℕ) (x : ObjectEntry) → slice_get (lift own) i ≡ Some x → (e : Entry E R) × (slice_get own i ≡ Some e) × (e.time ≡ x.time)
+  unlifted [] i x at = absurd (none-some x at)
+  unlifted (e ∷ own) zero x at = (e, refl, ap (λ (y : ObjectEntry). y.time) (same_Some (lifted event reply e) x at))
+  unlifted (e ∷ own) (suc i) x at = unlifted own i x at
+
+  pub times_lifted : (own : List (Entry E R)) → TimesRise own → TimesRise (lift own)
+  times_lifted own times i j x y before first second =
+      let earlier = unlifted own i x first in
+      let later = unlifted own j y second in
+      omega (arith, times i j earlier.0 later.0 before earlier.1 later.1, earlier.2, later.2)
 
   by_lifted : (c : ℕ) (own : List (Entry E R)) → by c (lift own) ≡ lift (by c own)
   by_lifted c [] = refl
@@ -130,6 +142,7 @@ pub told_of : {M S N E R H W : Type 0} (is : List ObjectEntry → Type 0) (first
 told_of is first pass_as ps kind object history same such = let h = history.of in record {
   journal = lift kind.event kind.reply h.journal;
   of = such (lift kind.event kind.reply h.journal) (h.journal, refl, h.whole.follows, h.whole.edges);
+  times = times_lifted kind.event kind.reply h.journal h.whole.times;
   halted = h.halted ∙ sym (halt_lifted kind.event kind.reply None h.journal);
   parts = parts_of kind.event kind.reply pass_as same ps kind.next true kind.frees kind.takes (start_of object) h.journal h.whole;
 }

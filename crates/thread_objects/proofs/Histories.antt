@@ -1,5 +1,6 @@
 -- Columns of whatever kind: what their passes tell of the object's journal.
 use Rattle.std.proofs.Common.{◌≡◌, ℕ, [], Option, refl, ap}
+use Rattle.std.proofs.lemmas.Option.{none-some}
 use Rattle.sync_types.specs.declared.misuse.Misuse.{Misuse}
 use Rattle.thread_objects.specs.declared.column.AnyColumn.{AnyColumn}
 use Rattle.thread_objects.specs.declared.column.AnyColumn.TheVariants as columns
@@ -27,6 +28,7 @@ module _ {N H : Type 0} where
   history_of at home workers first objects.Shared (columns.None n) seated history = record {
     journal = [];
     of = refl;
+    times = λ i j x y before first second. absurd (none-some x first);
     halted = history.1;
     parts = λ worker. ap (λ (p : AnyPass N). own_of p) (got_same n worker passes.None);
   }

@@ -3,12 +3,13 @@ use Rattle.std.proofs.Common.{◌≡◌, ℕ, ◌+◌, Bool, true, false, ◌==�
 use Rattle.std.proofs.lemmas.List.{append-nil, length-append}
 use Rattle.std.proofs.lemmas.Option.{none-some, same_Some}
 use Rattle.sync_model.specs.declared.item.Item.{Item}
-use Rattle.sync_model.specs.Front.{AtLeast}
+use Rattle.sync_model.specs.Front.{Front, AtLeast, NoLess}
+use Rattle.sync_model.specs.Journal.{front_at}
 use Rattle.sync_model.specs.Note.{Holding, IsCounted}
 use Rattle.sync_model.specs.Shared.{items_of}
 use Rattle.run_record.specs.declared.made.Made.{Made}
 use Rattle.run_record.specs.declared.made.Made.TheVariants.{Shared, Entered}
-use Rattle.run_record.specs.Record.{ObjectEntry, shared_in, entries_in, front_of}
+use Rattle.run_record.specs.Record.{ObjectEntry, shared_in, entries_in}
 use Rattle.thread_objects.specs.Working.{Desk, Rises, CountsOwn, Moves, number_in}
 
 pub least_over : (low from to : List ℕ) → AtLeast from low → AtLeast to from → AtLeast to low
@@ -33,13 +34,16 @@ entries_append object [] ys = refl
 entries_append object (Shared x ∷ xs) ys = entries_append object xs ys
 entries_append object (Entered other entry ∷ xs) ys = entries_joined (other == object) entry (entries_in object xs) (entries_in object ys) (entries_in object (xs ++ ys)) (entries_append object xs ys)
 
-rises_from : (low from to : List ℕ) (xs : List Made) → AtLeast from low → Rises from xs to → Rises low xs to
-rises_from low from to [] least rises = least_over low from to least rises
-rises_from low from to (x ∷ xs) least rises = (least_over low from (front_of x) least rises.0, rises.1)
+rises_from : (low from to : Front) (xs : List Made) → NoLess from low → Rises from xs to → Rises low xs to
+rises_from low from to [] least rises = (least_over low.counts from.counts to.counts least.0 rises.0, omega (arith, least.1, rises.1))
+rises_from low from to (Shared x ∷ xs) least rises =
+    (least_over low.counts from.counts x.front least.0 rises.0, rises_from (record { counts = x.front; time = low.time }) (record { counts = x.front; time = from.time }) to xs (λ i. omega arith, least.1) rises.1)
+rises_from low from to (Entered object entry ∷ xs) least rises = ((least_over low.counts from.counts entry.front least.0 rises.0.0, omega (arith, least.1, rises.0.1)), rises.1)
 
-rises_append : (from between to : List ℕ) (xs ys : List Made) → Rises from xs between → Rises between ys to → Rises from (xs ++ ys) to
+rises_append : (from between to : Front) (xs ys : List Made) → Rises from xs between → Rises between ys to → Rises from (xs ++ ys) to
 rises_append from between to [] ys first later = rises_from from between to ys first later
-rises_append from between to (x ∷ xs) ys first later = (first.0, rises_append (front_of x) between to xs ys first.1 later)
+rises_append from between to (Shared x ∷ xs) ys first later = (first.0, rises_append (record { counts = x.front; time = from.time }) between to xs ys first.1 later)
+rises_append from between to (Entered object entry ∷ xs) ys first later = (first.0, rises_append (front_at entry) between to xs ys first.1 later)
 
 counts_append : (worker before : ℕ) (xs ys : List Made) → CountsOwn worker before xs → CountsOwn worker (before + length (shared_in xs)) ys → CountsOwn worker before (xs ++ ys)
 counts_append worker before [] ys first later = subst (λ (n : ℕ). CountsOwn worker n ys) (omega arith) later
@@ -49,7 +53,7 @@ counts_append worker before (Entered object entry ∷ xs) ys first later = (firs
 
 -- nothing is made
 pub stays : (desk : Desk) → Moves desk [] desk
-stays desk = record { worker = refl; owns = λ object. sym (append-nil (desk.owns object)); calls = sym (append-nil desk.calls); fronts = λ i. omega arith; counts = λ worker is. tt }
+stays desk = record { worker = refl; owns = λ object. sym (append-nil (desk.owns object)); calls = sym (append-nil desk.calls); fronts = (λ i. omega arith, omega arith); counts = λ worker is. tt }
 
 -- these items, and then those
 pub joined : (old between new : Desk) (xs ys : List Made) → Moves old xs between → Moves between ys new → Moves old (xs ++ ys) new

@@ -13,7 +13,7 @@ use Rattle.sync_model.specs.declared.item.SharedCall.TheVariants as calls
 use Rattle.sync_model.specs.declared.item.SharedReply.{SharedReply}
 use Rattle.sync_model.specs.declared.item.SharedReply.TheVariants as answers
 use Rattle.sync_model.specs.declared.item.SharedEntry.{SharedEntry}
-use Rattle.sync_model.specs.Front.{AtLeast}
+use Rattle.sync_model.specs.Front.{Front, AtLeast}
 use Rattle.sync_model.specs.Note.{Holding, IsCounted}
 use Rattle.sync_model.specs.Shared.{Called, items_of, state_of}
 use Rattle.sync_model.specs.SharedHistory.{Contents}
@@ -32,9 +32,9 @@ the_call call reply = (call, reply) ∷ []
 same_calls : (a x : SharedCall) (b y : SharedReply) → a ≡ x → b ≡ y → the_call a b ≡ the_call x y
 same_calls a x b y first second = ap (λ (l : SharedCall). the_call l b) first ∙ ap (λ (r : SharedReply). the_call x r) second
 
-module _ {O N : Type 0} (start : Contents) (call : SharedCall) (reply : SharedReply) (cost : ℕ) (owner : N → Option Holding) (front : N → List ℕ) (seen : N → List SharedEntry) (old new : N) (owns : ℕ → List ObjectEntry) (part : Part O) (answer : CallAnswer O) where
+module _ {O N : Type 0} (start : Contents) (call : SharedCall) (reply : SharedReply) (cost : ℕ) (owner : N → Option Holding) (front : N → Front) (seen : N → List SharedEntry) (old new : N) (owns : ℕ → List ObjectEntry) (part : Part O) (answer : CallAnswer O) where
   -- one call is one item, which enters nothing in any journal
-  pub called_works : ((items : List Made) → Places ((call, reply) ∷ []) items → part items answer) → IsCounted (owner old) (front old) → Called start call reply cost (state_of owner front seen old) (state_of owner front seen new)
+  pub called_works : ((items : List Made) → Places ((call, reply) ∷ []) items → part items answer) → IsCounted (owner old) (front old).counts → Called start call reply cost (state_of owner front seen old) (state_of owner front seen new)
       → Works part (desk_with owner front owns old) answer (desk_with owner front owns new)
   called_works spelt counted called = record {
     items = Shared called.item ∷ [];
@@ -42,8 +42,8 @@ module _ {O N : Type 0} (start : Contents) (call : SharedCall) (reply : SharedRe
       worker = ap number_in called.own_new ∙ ap (λ (n : ℕ). Some n) called.number ∙ sym (ap number_in called.own_old);
       owns = λ object. sym (append-nil (owns object));
       calls = ap items_of called.own_new ∙ called.items ∙ ap (λ (l : List Item). l ++ called.item ∷ []) (sym (ap items_of called.own_old));
-      fronts = (subst (λ (f : List ℕ). AtLeast f (front old)) (sym called.is_front) (λ i. omega arith), subst (λ (f : List ℕ). AtLeast (front new) f) (sym called.is_front) called.rises);
-      counts = λ worker is. (ap (λ (f : List ℕ). slice_index f worker) called.is_front ∙ counted_of (owner old) (front old) counted worker is, tt);
+      fronts = (subst (λ (f : List ℕ). AtLeast f (front old).counts) (sym called.is_front) (λ i. omega arith), (subst (λ (f : List ℕ). AtLeast (front new).counts f) (sym called.is_front) called.rises, omega (arith, called.time)));
+      counts = λ worker is. (ap (λ (f : List ℕ). slice_index f worker) called.is_front ∙ counted_of (owner old) (front old).counts counted worker is, tt);
     };
     spelt = spelt (Shared called.item ∷ []) (called.item ∷ [], refl, same_calls called.item.call call called.item.reply reply called.is_call called.is_reply);
   }

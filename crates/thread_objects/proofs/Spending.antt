@@ -6,6 +6,7 @@ use Rattle.std.proofs.lemmas.Option.{same_Some}
 use Rattle.sync_model.specs.declared.item.SharedCall.{SharedCall}
 use Rattle.sync_model.specs.declared.item.SharedReply.{SharedReply}
 use Rattle.sync_model.specs.declared.item.SharedEntry.{SharedEntry}
+use Rattle.sync_model.specs.Front.{Front}
 use Rattle.sync_model.specs.Note.{Holding}
 use Rattle.sync_model.specs.Shared.{Called, state_of}
 use Rattle.sync_model.specs.SharedHistory.{Contents}
@@ -22,7 +23,7 @@ module _ {N : Type 0} (own : N → Option Holding) where
       let held = holding_of (own old) some in
       record { was = held.0; becomes = held.0; own_old = held.1; own_new = kept ∙ held.1; number = refl; spare = omega arith }
 
-  pub called_spends : (front : N → List ℕ) (seen : N → List SharedEntry) (start : Contents) (call : SharedCall) (reply : SharedReply) (cost : ℕ) (old new : N) → Called start call reply cost (state_of own front seen old) (state_of own front seen new) → Spends own cost old new
+  pub called_spends : (front : N → Front) (seen : N → List SharedEntry) (start : Contents) (call : SharedCall) (reply : SharedReply) (cost : ℕ) (old new : N) → Called start call reply cost (state_of own front seen old) (state_of own front seen new) → Spends own cost old new
   called_spends front seen start call reply cost old new called = record { was = called.was; becomes = called.becomes; own_old = called.own_old; own_new = called.own_new; number = called.number; spare = omega (arith, called.spare) }
 
   -- one after the other

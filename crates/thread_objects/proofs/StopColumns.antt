@@ -6,6 +6,7 @@ use Rattle.std.proofs.lemmas.Option.{slice_get_cases}
 use Rattle.sync_model.specs.declared.journal.Deed.TheVariants.{Halt}
 use Rattle.sync_model.specs.declared.journal.Entry.{Entry}
 use Rattle.sync_types.specs.declared.misuse.Misuse.{Misuse}
+use Rattle.sync_model.specs.Front.{Front}
 use Rattle.sync_model.specs.Journal.{by}
 use Rattle.ruled_object.specs.declared.object.Object.{Object}
 use Rattle.ruled_object.specs.declared.pass.Pass.{Pass}
@@ -35,8 +36,8 @@ abbrev IsHalted : ObjectEntry → Type 0
 IsHalted entry = (misuse : Misuse) × (entry.deed ≡ Halt misuse)
 
 -- one halt more
-pub halts_more : (misuse : Misuse) (front : List ℕ) (old new : List ObjectEntry) → IsStops old → Halts misuse front old new → IsStops new
-halts_more misuse front old new stops halts = All-same IsHalted new (old ++ halts.entry ∷ []) halts.own (All-push IsHalted old halts.entry stops (misuse, halts.deed))
+pub halts_more : (misuse : Misuse) (from to : Front) (old new : List ObjectEntry) → IsStops old → Halts misuse from to old new → IsStops new
+halts_more misuse from to old new stops halts = All-same IsHalted new (old ++ halts.entry ∷ []) halts.own (All-push IsHalted old halts.entry stops (misuse, halts.deed))
 
 module _ {N H : Type 0} (at : H → N → Type 0) (home : H) (workers worker : ℕ) (o : Object StopCore N (Unit {0}) NoEvent NoEvent H) where
   abbrev Seat : Pass (Unit {0}) N NoEvent NoEvent → Type 0
@@ -78,4 +79,4 @@ module _ {N : Type 0} where
 
   -- and so its journal is one of Stop
   pub stops_told : (pass_as : Pass (Unit {0}) N NoEvent NoEvent → AnyPass N) → ((pass : Pass (Unit {0}) N NoEvent NoEvent) → own_of (pass_as pass) ≡ own_as no_event no_reply pass) → (ps : List (Pass (Unit {0}) N NoEvent NoEvent)) (first : Option Misuse) {is : List ObjectEntry → Type 0} → AreHalting ps → IsTold is first (map pass_as ps) → IsTold IsStops first (map pass_as ps)
-  stops_told pass_as same ps first all told = record { journal = told.journal; of = stops_of pass_as same ps told.journal all told.parts; halted = told.halted; parts = told.parts }
+  stops_told pass_as same ps first all told = record { journal = told.journal; of = stops_of pass_as same ps told.journal all told.parts; times = told.times; halted = told.halted; parts = told.parts }

@@ -1,10 +1,11 @@
 -- The journals of the objects so far.
 use Rattle.std.proofs.Common.{◌≡◌, ◌⊎◌, inl, inr, ℕ, ◌+◌, ◌<◌, ◌≤◌, List, [], ◌∷◌, ◌++◌, length, get_or, Option, Some, None, slice_get, refl, sym, ap, ◌∙◌, subst, arith, length-append}
+use Rattle.std.proofs.lemmas.Bool.{cases_lt}
 use Rattle.std.proofs.lemmas.List.{get_or_append_left}
 use Rattle.std.proofs.Math.Seq.{get_or-append_seam}
-use Rattle.std.proofs.lemmas.Option.{slice_get_cases, slice_get_past, slice_get_within}
+use Rattle.std.proofs.lemmas.Option.{none-some, slice_get_cases, slice_get_past, slice_get_within}
 use Rattle.sync_types.specs.declared.misuse.Misuse.{Misuse}
-use Rattle.sync_model.specs.Journal.{by, halt_of}
+use Rattle.sync_model.specs.Journal.{by, halt_of, TimesRise}
 use Rattle.workload.specs.declared.object.ObjectKind.TheVariants as kinds
 use Rattle.workload.specs.declared.object.ObjectLine.{ObjectLine}
 use Rattle.workload.specs.Plan.{Plan}
@@ -29,9 +30,17 @@ module _ {N H : Type 0} (objects : List (AnyObject N H)) (all : List (AnyColumn 
     pub stops : stopped ≡ halt_of (get_or journals stop [])
     pub each : (n : ℕ) (object : AnyObject N H) (column : AnyColumn N) → n < i → slice_get objects n ≡ Some object → slice_get all n ≡ Some column
         → IsJournalAt object (get_or journals n []) × AreParts (get_or journals n []) (passes_in column)
+    pub times : (n : ℕ) → TimesRise (get_or journals n [])
 
   abbrev Told : ℕ → List ObjectEntry → Type 0
   Told n journal = (object : AnyObject N H) (column : AnyColumn N) → slice_get objects n ≡ Some object → slice_get all n ≡ Some column → IsJournalAt object journal × AreParts journal (passes_in column)
+
+  -- the numbers of the journal's entries rise
+  abbrev Times : List ObjectEntry → Type 0
+  Times journal = TimesRise journal
+
+  no_times : Times []
+  no_times i j x y before first second = absurd (none-some x first)
 
   told_by : (n : ℕ) (known : AnyObject N H) (those : AnyColumn N) (journal : List ObjectEntry) → slice_get objects n ≡ Some known → slice_get all n ≡ Some those → IsJournalAt known journal → AreParts journal (passes_in those) → Told n journal
   told_by n known those journal at_object at_column is parts object column here there =
@@ -44,10 +53,14 @@ module _ {N H : Type 0} (objects : List (AnyObject N H)) (all : List (AnyColumn 
     journals = history.journal ∷ [];
     count = refl;
     stops = history.halted;
+    times = λ n. by_case n (slice_get_cases (history.journal ∷ []) n).1;
     each = λ n object column before here there. let e : n ≡ 0 = omega (arith, before) in
         subst (λ (k : ℕ). IsJournalAt object (get_or (history.journal ∷ []) k []) × AreParts (get_or (history.journal ∷ []) k []) (passes_in column)) (sym e)
         (told_by 0 known those history.journal at_object at_column history.of history.parts object column (subst (λ (k : ℕ). slice_get objects k ≡ Some object) e here) (subst (λ (k : ℕ). slice_get all k ≡ Some column) e there));
-  }
+  } where
+    by_case : (n : ℕ) → ((x : List ObjectEntry) × (n < 1) × (slice_get (history.journal ∷ []) n ≡ Some x) × (get_or (history.journal ∷ []) n x ≡ x)) ⊎ ((1 ≤ n) × (slice_get (history.journal ∷ []) n ≡ None)) → Times (get_or (history.journal ∷ []) n [])
+    by_case n (inl (x, within, at, is)) = let e : n ≡ 0 = omega (arith, within) in subst (λ (k : ℕ). Times (get_or (history.journal ∷ []) k [])) (sym e) history.times
+    by_case n (inr (past, none)) = subst Times (sym (got_none (history.journal ∷ []) n [] none)) no_times
 
   module _ (stopped result : Option Misuse) (i : ℕ) (known : AnyObject N H) (those : AnyColumn N) (some : 0 < i) (told : ToldTo stopped i) (at_object : slice_get objects i ≡ Some known) (at_column : slice_get all i ≡ Some those) (history : IsTold (IsJournalAt known) result (passes_in those)) where
     abbrev more : List (List ObjectEntry)
@@ -70,12 +83,20 @@ module _ {N H : Type 0} (objects : List (AnyObject N H)) (all : List (AnyColumn 
         subst (λ (k : ℕ). At object column (get_or more k [])) (sym e) (subst (At object column) (sym last)
         (told_by i known those history.journal at_object at_column history.of history.parts object column (subst (λ (k : ℕ). slice_get objects k ≡ Some object) e here) (subst (λ (k : ℕ). slice_get all k ≡ Some column) e there)))
 
+    times_more : (n : ℕ) → ((x : List ObjectEntry) × (n < length told.journals) × (slice_get told.journals n ≡ Some x) × (get_or told.journals n x ≡ x)) ⊎ ((length told.journals ≤ n) × (slice_get told.journals n ≡ None)) → Times (get_or more n [])
+    times_more n (inl (x, within, at, is)) = subst Times (sym (stays n within)) (told.times n)
+    times_more n (inr (past, none)) = elim (cases_lt i n) [
+      | inl beyond ↦ subst Times (sym (got_none more n [] (slice_get_past more n (omega (arith, beyond, told.count, length-append told.journals (history.journal ∷ [])))))) no_times
+      | inr low ↦ let e : n ≡ i = omega (arith, past, told.count, low) in subst (λ (k : ℕ). Times (get_or more k [])) (sym e) (subst Times (sym last) history.times)
+    ]
+
     -- and of one more
     pub told_more : ToldTo stopped (i + 1)
     told_more = record {
       journals = more;
       count = length-append told.journals (history.journal ∷ []) ∙ ap (λ n. n + 1) told.count;
       stops = told.stops ∙ ap (λ (j : List ObjectEntry). halt_of j) (sym (stays 0 (omega (arith, some, told.count))));
+      times = λ n. times_more n (slice_get_cases told.journals n).1;
       each = λ n object column before here there. by_case n object column here there (slice_get_cases told.journals n).1 before;
     }
 
@@ -84,6 +105,7 @@ module _ {N H : Type 0} (objects : List (AnyObject N H)) (all : List (AnyColumn 
     pub are_journals : ((place part : ℕ) (line : ObjectLine) → slice_get plan.objects place ≡ Some line → line.kind ≡ kinds.Pool → part < plan.workers → first_part plan place + part < object_count plan) → AreJournals plan told.journals
     are_journals rooms = record {
       count = told.count ∙ declared.count;
+      times = told.times;
       stops =
           let within : stop < length objects = omega (arith, declared.count) in
           let object = there_is objects stop within in

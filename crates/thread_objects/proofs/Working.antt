@@ -1,5 +1,6 @@
 -- Parts of calls, and what they add to what their worker has done.
 use Rattle.std.proofs.Common.{◌≡◌, ℕ, List, [], ◌++◌, refl, sym, subst, Option}
+use Rattle.sync_model.specs.Front.{Front}
 use Rattle.sync_model.specs.Note.{Holding}
 use Rattle.protocols.specs.Spelling.{CallAnswer}
 use Rattle.run_record.specs.Parts.{Part, read_as, with_outcome, and_then, GoesOn}
@@ -16,7 +17,7 @@ module _ {O P G : Type 0} (f : O → P) (part_of : G → Part O) (stage due : G)
   pub reads_from : stage ≡ due → answer ≡ with_outcome f given → Works (part_of stage) old given new → Works (read_as f (part_of due)) old answer new
   reads_from same is works = record { items = works.items; moves = works.moves; spelt = (given, subst (λ (g : G). part_of g works.items given) same works.spelt, is) }
 
-module _ {N O : Type 0} (part : Part O) (owner : N → Option Holding) (front : N → List ℕ) (number : ℕ) (was own new : List ObjectEntry) (old note : N) (answer : CallAnswer O) where
+module _ {N O : Type 0} (part : Part O) (owner : N → Option Holding) (front : N → Front) (number : ℕ) (was own new : List ObjectEntry) (old note : N) (answer : CallAnswer O) where
   -- where the entries are the same list
   pub same_own : was ≡ own → Works part (desk_at owner front number own old) answer (desk_at owner front number new note) → Works part (desk_at owner front number was old) answer (desk_at owner front number new note)
   same_own is works = subst (λ (l : List ObjectEntry). Works part (desk_at owner front number l old) answer (desk_at owner front number new note)) (sym is) works

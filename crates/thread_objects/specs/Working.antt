@@ -1,26 +1,28 @@
 -- What a part of a call adds to what its worker has done.
 use Rattle.std.specs.Prelude.{◌≡◌, ℕ, ◌+◌, ◌==◌, cond, List, [], ◌∷◌, ◌++◌, length, Option, Some, None, slice_index}
 use Rattle.sync_model.specs.declared.item.Item.{Item}
-use Rattle.sync_model.specs.Front.{AtLeast}
+use Rattle.sync_model.specs.Front.{Front, AtLeast, NoLess, Later}
+use Rattle.sync_model.specs.Journal.{front_at}
 use Rattle.sync_model.specs.Note.{Holding}
 use Rattle.sync_model.specs.Shared.{items_of}
 use Rattle.protocols.specs.Spelling.{CallAnswer}
 use Rattle.run_record.specs.declared.made.Made.{Made}
 use Rattle.run_record.specs.declared.made.Made.TheVariants.{Shared, Entered}
 use Rattle.run_record.specs.Parts.{Part}
-use Rattle.run_record.specs.Record.{ObjectEntry, shared_in, entries_in, front_of}
+use Rattle.run_record.specs.Record.{ObjectEntry, shared_in, entries_in}
 
 -- what a worker has done, and knows
 pub record Desk : Type 0 where
   pub owns : ℕ → List ObjectEntry  -- its entries in each object's journal, by the object's number
   pub calls : List Item  -- its calls on maps and atomics
-  pub front : List ℕ
+  pub front : Front
   pub worker : Option ℕ  -- its number, by its note
 
--- no front falls along the items, from one front to another
-abbrev pub Rises : List ℕ → List Made → List ℕ → Type 0
-Rises from [] to = AtLeast to from
-Rises from (x ∷ xs) to = AtLeast (front_of x) from × Rises (front_of x) xs to
+-- nothing that is known gets less along the items, from one front to another, and each entry has a number past those before it. A call on a map or an atomic is no event of an object, and has none
+abbrev pub Rises : Front → List Made → Front → Type 0
+Rises from [] to = NoLess to from
+Rises from (Shared x ∷ xs) to = AtLeast x.front from.counts × Rises (record { counts = x.front; time = from.time }) xs to
+Rises from (Entered object entry ∷ xs) to = Later (front_at entry) from × Rises (front_at entry) xs to
 
 -- the front at each item counts all of its worker's own calls before it, where so many were made before these items
 abbrev pub CountsOwn : (worker before : ℕ) → List Made → Type 0
@@ -52,9 +54,9 @@ number_in None = None
 number_in (Some holding) = Some holding.number
 
 -- what a worker has done, as its note tells of the maps and atomics, and these lists of each object
-abbrev pub desk_with : {N : Type 0} → (N → Option Holding) → (N → List ℕ) → (ℕ → List ObjectEntry) → N → Desk
+abbrev pub desk_with : {N : Type 0} → (N → Option Holding) → (N → Front) → (ℕ → List ObjectEntry) → N → Desk
 desk_with owner front owns note = record { owns = owns; calls = items_of (owner note); front = front note; worker = number_in (owner note) }
 
 -- the same, on one object alone
-abbrev pub desk_at : {N : Type 0} → (N → Option Holding) → (N → List ℕ) → ℕ → List ObjectEntry → N → Desk
+abbrev pub desk_at : {N : Type 0} → (N → Option Holding) → (N → Front) → ℕ → List ObjectEntry → N → Desk
 desk_at owner front number own note = desk_with owner front (alone number own) note

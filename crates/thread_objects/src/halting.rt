@@ -1,4 +1,5 @@
 //! Halting an object of a run by a misuse.
+ghost use Rattle.ruled_object.specs.Growth.{KeepsNote};
 ghost use Rattle.thread_objects.specs.ByKind.{own_of};
 ghost use Rattle.thread_objects.specs.Halting.{AreHalted};
 ghost use Rattle.thread_objects.specs.Passes.{IsSeatAt};
@@ -18,12 +19,13 @@ pub fn halt_any<N: Note, C: Clock, R: Wait>(
     worker: &Worker<N, C>,
     object: &AnyObject<N>,
     pass: &mut AnyPass<N>,
-    note: &N,
+    note: &mut N,
     misuse: Misuse,
 )
     requires seat { IsSeatAt N.at worker.now.at.home.now worker.now.workers worker.now.number object.now pass.old }
     ensures seat { IsSeatAt N.at worker.now.at.home.now worker.now.workers worker.now.number object.now pass.new }
-    ensures halted { AreHalted object.now misuse (N.front note.now) (own_of pass.old) (own_of pass.new) }
+    ensures note { KeepsNote N.at N.own N.front note.old note.new }
+    ensures halted { AreHalted object.now misuse (N.front note.old) (N.front note.new) (own_of pass.old) (own_of pass.new) }
 {
     by_kind!(
         object,

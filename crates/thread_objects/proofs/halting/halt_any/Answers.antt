@@ -9,4 +9,4 @@ returns-in-Stop-pass-clause-seat g c =
     let worker = c.args.worker.now.number in
     let object = c.in-Stop.object in
     let was = seat_from g.N.Note.at home workers worker object c.args.object.now c.args.pass.now c.in-Stop-pass.pass c.in-Stop.is c.in-Stop-pass.is c.requires.seat in
-    seat_to g.N.Note.at home workers worker object c.args.object.now c.halt_one.new.pass c.in-Stop.is (c.halt_one.ensures.seat, halts_more _ _ _ _ was.1 (c.halt_one.ensures.halted no_event no_reply))
+    seat_to g.N.Note.at home workers worker object c.args.object.now c.halt_one.new.pass c.in-Stop.is (c.halt_one.ensures.seat, halts_more _ _ _ _ _ was.1 (c.halt_one.ensures.halted no_event no_reply))

@@ -1,4 +1,4 @@
-use Rattle.thread_objects.proofs.Knowing.{counted_at, risen_between, risen_to}
+use Rattle.thread_objects.proofs.Knowing.{counted_at, risen_between, risen_to, times_between}
 use Rattle.thread_objects.proofs.parts.laws.a_worker_knows_its_own_calls.Goals as goal
 
 pub returns-clause-own : goal.returns-clause-own
@@ -9,3 +9,6 @@ returns-clause-rises c old new items i j earlier later moves before first second
 
 pub returns-clause-ends : goal.returns-clause-ends
 returns-clause-ends c old new items i made moves at = risen_to old.front new.front items i made moves.fronts at
+
+pub returns-clause-times : goal.returns-clause-times
+returns-clause-times c old new items i j object other earlier later moves before first second = times_between old.front new.front items i j object other earlier later moves.fronts before first second
