@@ -314,11 +314,11 @@ module _ {G O E R : Type 0} (event : E → ObjectEvent) (reply : R → ObjectRep
     part stage = entries_part object stage
 
     abbrev as_own : ObjectEntry → Deed E R → Entry E R
-    as_own entry own = record { caller = entry.caller; deed = own; front = entry.front; knew = entry.knew }
+    as_own entry own = record { caller = entry.caller; deed = own; front = entry.front; knew = entry.knew; time = entry.time }
 
     own_item : (other : ℕ) (entry : ObjectEntry) (own : Deed E R) → other ≡ object → entry.deed ≡ lifted_deed event reply own → Entered other entry ≡ item (as_own entry own)
     own_item other entry own same e =
-        ap (λ (n : ℕ). Entered n entry) same ∙ ap (λ (d : Deed ObjectEvent ObjectReply). let x : ObjectEntry = record { caller = entry.caller; deed = d; front = entry.front; knew = entry.knew } in Entered object x) e
+        ap (λ (n : ℕ). Entered n entry) same ∙ ap (λ (d : Deed ObjectEvent ObjectReply). let x : ObjectEntry = record { caller = entry.caller; deed = d; front = entry.front; knew = entry.knew; time = entry.time } in Entered object x) e
 
     -- the item is the first of a call
     one_more : (stage later : G) (m : Made) (x : Entry E R) → m ≡ item x → ((rest : List (Deed E R)) (answer : CallAnswer O) → Spelt later rest answer → Spelt stage (x.deed ∷ rest) answer)
@@ -386,7 +386,7 @@ module _ {G O E R : Type 0} (event : E → ObjectEvent) (reply : R → ObjectRep
         by no_call nothing from = absurd nothing
 
     abbrev refused : G → Entry E R
-    refused stage = record { caller = 0; deed = (are.halts stage).0; front = []; knew = 0 }
+    refused stage = record { caller = 0; deed = (are.halts stage).0; front = []; knew = 0; time = 0 }
 
     halts_of : (list : List Made) (stage : G) → cut stage list ≡ within → (later : List Made) × part stage (list ++ later) (Halted UnlockOfUnlockedMutex)
     halts_of [] stage e = (item (refused stage) ∷ [], (refused stage ∷ [], refl, (are.halts stage).1))

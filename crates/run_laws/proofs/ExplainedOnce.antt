@@ -52,7 +52,7 @@ abbrev made_first : List Made
 made_first = Entered 2 (runs 0 none_known) ∷ Shared addition ∷ Entered 2 (ends 0 (pos 3) first_known) ∷ []
 
 abbrev own_entry : ℕ → OnceEvent ℤ → OnceReply ℤ → List ℕ → Entry (OnceEvent ℤ) (OnceReply ℤ)
-own_entry worker e r front = record { caller = worker; deed = Event e r; front = front; knew = 0 }
+own_entry worker e r front = record { caller = worker; deed = Event e r; front = front; knew = 0; time = 0 }
 
 abbrev own_run : Entry (OnceEvent ℤ) (OnceReply ℤ)
 own_run = own_entry 0 Begin once_reply.Run none_known

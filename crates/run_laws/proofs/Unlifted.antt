@@ -11,10 +11,10 @@ use Rattle.run_record.specs.Record.{ObjectEntry}
 
 module _ {E R : Type 0} (event : E → ObjectEvent) (reply : R → ObjectReply) (back : Deed ObjectEvent ObjectReply → Deed E R) (is_back : (d : Deed E R) → back (lifted_deed event reply d) ≡ d) where
   abbrev pub unlifted : ObjectEntry → Entry E R
-  unlifted x = record { caller = x.caller; deed = back x.deed; front = x.front; knew = x.knew }
+  unlifted x = record { caller = x.caller; deed = back x.deed; front = x.front; knew = x.knew; time = x.time }
 
   one_back : (x : Entry E R) → unlifted (lifted event reply x) ≡ x
-  one_back x = ap (λ (d : Deed E R). let e : Entry E R = record { caller = x.caller; deed = d; front = x.front; knew = x.knew } in e) (is_back x.deed)
+  one_back x = ap (λ (d : Deed E R). let e : Entry E R = record { caller = x.caller; deed = d; front = x.front; knew = x.knew; time = x.time } in e) (is_back x.deed)
 
   all_back : (own : List (Entry E R)) → map unlifted (map (lifted event reply) own) ≡ own
   all_back [] = refl

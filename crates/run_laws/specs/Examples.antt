@@ -35,7 +35,7 @@ none_known = 0 ∷ 0 ∷ []
 
 -- an entry: the worker made the event, which was answered so
 abbrev pub entry : {E R : Type 0} → ℕ → E → R → Entry E R
-entry worker event reply = record { caller = worker; deed = Event event reply; front = none_known; knew = 0 }
+entry worker event reply = record { caller = worker; deed = Event event reply; front = none_known; knew = 0; time = 0 }
 
 -- the record of a run, by the journals of the objects behind Stop and by what each worker made
 abbrev pub record_of : List (List ObjectEntry) → List Made → List Made → Record

@@ -60,7 +60,7 @@ both_known = 1 ∷ 1 ∷ []
 
 -- an entry of the once's journal, with what its worker knew then
 abbrev pub once_entry : ℕ → ObjectEvent → ObjectReply → List ℕ → ObjectEntry
-once_entry worker e r front = record { caller = worker; deed = Event e r; front = front; knew = 0 }
+once_entry worker e r front = record { caller = worker; deed = Event e r; front = front; knew = 0; time = 0 }
 
 -- a worker is to run the function; it ends it, with a sum; it is told that somebody did
 abbrev pub runs : ℕ → List ℕ → ObjectEntry

@@ -134,7 +134,7 @@ module _ (law : RwStands) (plan : Plan) (place worker moment : ℕ) where
   arrives q (rw_reply.Arrived rw_arrival.Queued) is waits = λ later answer left.
       let w = waits refl in
       let l = subst (λ (o : Option RwMutexStage). rw_left (object_number place) rw_calls.Lock o later answer) w.2 left in
-      let arrival : Entry RwEvent RwReply = record { caller = worker; deed = Event (event.WriteArrive moment) (rw_reply.Arrived rw_arrival.Queued); front = []; knew = 0 } in
+      let arrival : Entry RwEvent RwReply = record { caller = worker; deed = Event (event.WriteArrive moment) (rw_reply.Arrived rw_arrival.Queued); front = []; knew = 0; time = 0 } in
       (l.0, (arrival ∷ l.1.0, ap (λ (made : List Made). made_of rw_stage.Lock (rw_reply.Arrived rw_arrival.Queued) ∷ made) l.1.1, queued_first moment w.0 (map (λ entry. entry.deed) l.1.0) l.0 w.1 l.1.2), l.2)
   arrives q r is waits = no is
 

@@ -27,10 +27,10 @@ module _ {G O E R : Type 0} (event : E → ObjectEvent) (answer : R → ObjectRe
 
   -- an event of the worker, in a record
   abbrev pub event_made : E → R → Made
-  event_made e r = Entered object (record { caller = worker; deed = Event (event e) (answer r); front = []; knew = 0 })
+  event_made e r = Entered object (record { caller = worker; deed = Event (event e) (answer r); front = []; knew = 0; time = 0 })
 
   abbrev own : E → R → Entry E R
-  own e r = record { caller = worker; deed = Event e r; front = []; knew = 0 }
+  own e r = record { caller = worker; deed = Event e r; front = []; knew = 0; time = 0 }
 
   -- what the event spells, by what its answer means
   abbrev pub Says : G → Made → Step G O → Type 0
@@ -61,8 +61,8 @@ module _ {G O E R : Type 0} (event : E → ObjectEvent) (answer : R → ObjectRe
   -- what any part of stages may be: refused by a halt
   pub refused : (stage : G) → (rest : List Made) × from stage rest (Halted UnlockOfUnlockedMutex)
   refused stage =
-      let e : Entry E R = record { caller = worker; deed = Refused (event_of stage 0) UnlockOfUnlockedMutex; front = []; knew = 0 } in
-      (Entered object (record { caller = worker; deed = Refused (event (event_of stage 0)) UnlockOfUnlockedMutex; front = []; knew = 0 }) ∷ [], (e ∷ [], refl, ((0, refl), refl, refl)))
+      let e : Entry E R = record { caller = worker; deed = Refused (event_of stage 0) UnlockOfUnlockedMutex; front = []; knew = 0; time = 0 } in
+      (Entered object (record { caller = worker; deed = Refused (event (event_of stage 0)) UnlockOfUnlockedMutex; front = []; knew = 0; time = 0 }) ∷ [], (e ∷ [], refl, ((0, refl), refl, refl)))
 
   module _ (plan : Plan) (f : O → Reply (List ℕ)) (reply : O → Reply ℕ) (reads : (outcome : O) → recorded_reply plan (f outcome) ≡ reply outcome) where
     -- what is left behind the stage is what its later stage spells

@@ -45,7 +45,7 @@ module _ (plan : Plan) where
 
   -- an event of a caller on the object with a number
   abbrev pub made_on : ℕ → ℕ → ObjectEvent → ObjectReply → Made
-  made_on object caller event answer = Entered object (record { caller = caller; deed = Event event answer; front = []; knew = 0 })
+  made_on object caller event answer = Entered object (record { caller = caller; deed = Event event answer; front = []; knew = 0; time = 0 })
 
   -- An event of a pool is one on the part that it is about, and a sweep one on each part. The pool answers it as the part does: `pool_core::part_laws::a_pool_is_its_parts`
   abbrev pub recorded_pool_event : ℕ → ℕ → PoolEvent ℕ → ObjectReply → List Made
