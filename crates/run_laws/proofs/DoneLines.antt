@@ -48,13 +48,19 @@ module _ (plan : Plan) (r : Record) (left : Report) (explains : Explains plan (D
   pub script_at : (worker : ℕ) (line : Line) → slice_get explains.lines worker ≡ Some line → script_of line ≡ calls_in line.spelt
   script_at worker line at = ap (λ (l : List Call). calls_in line.spelt ++ l) (ended worker line at).0 ∙ append-nil (calls_in line.spelt)
 
-  pub calls_at : (worker : ℕ) (line : Line) → slice_get explains.lines worker ≡ Some line → calls_of r worker ≡ shared_in (items_in line.spelt)
-  calls_at worker line at =
+  pub list_at : (worker : ℕ) (line : Line) → slice_get explains.lines worker ≡ Some line → list_of r worker ≡ items_in line.spelt
+  list_at worker line at =
       let list : list_of r worker ≡ items_of line = get_at r.lists worker (items_of line) (ap (λ (l : List (List Made)). slice_get l worker) (sym explains.are.lists) ∙ (slice_get-map items_of explains.lines worker ∙ ap (option_map items_of) at)) in
-      ap shared_in (list ∙ (ap (λ (l : List Made). items_in line.spelt ++ l) (ended worker line at).1 ∙ append-nil (items_in line.spelt)))
+      list ∙ (ap (λ (l : List Made). items_in line.spelt ++ l) (ended worker line at).1 ∙ append-nil (items_in line.spelt))
+
+  pub list_past : (worker : ℕ) → slice_get explains.lines worker ≡ None → list_of r worker ≡ []
+  list_past worker none = get_past r.lists worker (ap (λ (l : List (List Made)). slice_get l worker) (sym explains.are.lists) ∙ (slice_get-map items_of explains.lines worker ∙ ap (option_map items_of) none))
+
+  pub calls_at : (worker : ℕ) (line : Line) → slice_get explains.lines worker ≡ Some line → calls_of r worker ≡ shared_in (items_in line.spelt)
+  calls_at worker line at = ap shared_in (list_at worker line at)
 
   pub calls_past : (worker : ℕ) → slice_get explains.lines worker ≡ None → calls_of r worker ≡ []
-  calls_past worker none = ap shared_in (get_past r.lists worker (ap (λ (l : List (List Made)). slice_get l worker) (sym explains.are.lists) ∙ (slice_get-map items_of explains.lines worker ∙ ap (option_map items_of) none)))
+  calls_past worker none = ap shared_in (list_past worker none)
 
   -- who made a call has a line
   pub line_at : (worker i : ℕ) (x : Item) → slice_get (calls_of r worker) i ≡ Some x → (line : Line) × (slice_get explains.lines worker ≡ Some line)

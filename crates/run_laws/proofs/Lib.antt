@@ -5,10 +5,13 @@ mod AsMany
 mod Backs
 mod ByCaller
 mod CallsOneWay
+mod CircleOfWaits
+mod DoneBefore
 mod DoneLines
 mod EachOf
 mod EdgesByAnswer
 mod EndsShown
+mod ExplainedCircle
 mod ExplainedCond
 mod ExplainedMap
 mod ExplainedMutex
@@ -33,6 +36,7 @@ mod NamedKeys
 mod Numbered
 mod OneCallEach
 mod OneKey
+mod OneOrder
 mod OneOutcome
 mod OneWay
 mod Orderly

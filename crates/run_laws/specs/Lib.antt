@@ -1,6 +1,7 @@
 pub mod Adds
 pub mod DocumentedEdges
 pub mod Examples
+pub mod ExamplesCircle
 pub mod ExamplesCond
 pub mod ExamplesMap
 pub mod ExamplesMutex
@@ -14,4 +15,5 @@ pub mod Known
 pub mod Locks
 pub mod NoRanges
 pub mod OneSpelling
+pub mod Order
 pub mod Owners

@@ -9,6 +9,7 @@ pub mod ends;
 pub mod examples;
 pub mod fronts;
 pub mod locks;
+pub mod order;
 pub mod owners;
 pub mod replies;
 pub mod spelling;
