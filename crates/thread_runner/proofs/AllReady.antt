@@ -7,6 +7,7 @@ use Rattle.std.proofs.lemmas.Option.{none-some, same_Some, slice_get_within, get
 use Rattle.script_calls.specs.declared.call.Reply.{Reply}
 use Rattle.sync_model.specs.declared.caller.Caller.{Caller}
 use Rattle.sync_types.specs.BoundedSeq.{Bounded}
+use Rattle.sync_model.specs.Front.{Front}
 use Rattle.sync_model.specs.Note.{Holding}
 use Rattle.sync_model.specs.Shared.{AreAllCallers}
 use Rattle.workload.specs.Keys.{keys_in}
@@ -52,7 +53,7 @@ counted_at a (suc n) (suc k) x at = counted_at (a + 1) n k x at ∙ omega arith
 pub number_at_place : {J : Type 0} (number : J → ℕ) (jobs : List J) (n k : ℕ) (job : J) → map number jobs ≡ range_with_len 0 n → slice_get jobs k ≡ Some job → number job ≡ k
 number_at_place number jobs n k job are at = counted_at 0 n k (number job) (ap (λ (l : List ℕ). slice_get l k) (sym are) ∙ mapped_found number jobs k job at) ∙ omega arith
 
-module _ {N H : Type 0} (at : H → N → Type 0) (own : N → Option Holding) (front : N → List ℕ) (home : H) (plan : Plan) (objects : List (AnyObject N H)) (rows : List (List (AnyPass N))) (callers : List (Caller N)) where
+module _ {N H : Type 0} (at : H → N → Type 0) (own : N → Option Holding) (front : N → Front) (home : H) (plan : Plan) (objects : List (AnyObject N H)) (rows : List (List (AnyPass N))) (callers : List (Caller N)) where
   -- a worker with its row, its caller and its rooms may begin
   pub ready_at : AreRows at home plan.workers objects rows → AreAllCallers at own home callers plan.workers → HaveMadeNone own callers → HaveSpare own plan callers
       → (worker : ℕ) (row : List (AnyPass N)) (caller : Caller N) (replies : Bounded (Reply ℕ)) (pairs : List (Bounded (ℕ × ℕ))) → slice_get rows worker ≡ Some row → slice_get callers worker ≡ Some caller → length (get_or plan.scripts worker []) < 2 ^ 32

@@ -13,6 +13,7 @@ use Rattle.sync_model.specs.declared.item.Item.{Item}
 use Rattle.sync_model.specs.declared.item.SharedCall.TheVariants.{Atomic}
 use Rattle.sync_model.specs.declared.item.SharedReply.TheVariants as replies_to
 use Rattle.sync_model.specs.declared.item.SharedEntry.{SharedEntry}
+use Rattle.sync_model.specs.Front.{Front}
 use Rattle.sync_model.specs.Journal.{by}
 use Rattle.sync_model.specs.Note.{Holding}
 use Rattle.sync_model.specs.Shared.{AreAllCallers, IsHeldBy, SameCalls, Settled, calls_of, items_of}
@@ -48,11 +49,11 @@ module _ {N : Type 0} (own : N → Option Holding) where
   calls_past (x ∷ callers) zero past = absurd (omega (arith, past))
   calls_past (x ∷ callers) (suc c) past = calls_past callers c (omega (arith, past))
 
-module _ {N : Type 0} (own : N → Option Holding) (front : N → List ℕ) where
+module _ {N : Type 0} (own : N → Option Holding) (front : N → Front) where
   -- what the worker has done whose caller this is, and whose passes these are
   abbrev pub desk_of : Option (Caller N) → List (AnyPass N) → Desk
   desk_of (Some caller) row = desk_with own front (owns_of row) caller.note
-  desk_of None row = record { owns = λ object. []; calls = []; front = []; worker = None }
+  desk_of None row = record { owns = λ object. []; calls = []; front = record { counts = []; time = 0 }; worker = None }
 
 pub held_number : (own : Option Holding) (c : ℕ) → IsHeldBy c own → number_in own ≡ Some c
 held_number own c (holding, is, number) = ap number_in is ∙ ap (λ n. Some n) number
@@ -63,7 +64,7 @@ item_of {A} all i within = found (slice_get_cases all i).1 where
   found (inl (x, low, is, read)) = (x, is)
   found (inr (past, none)) = absurd (omega (arith, within, past))
 
-module _ {N H : Type 0} (at : H → N → Type 0) (own : N → Option Holding) (front : N → List ℕ) (home : H) (plan : Plan) (objects : List (AnyObject N H)) (rows now_rows : List (List (AnyPass N))) (callers now_callers : List (Caller N)) (replies : List (List (Reply ℕ)))
+module _ {N H : Type 0} (at : H → N → Type 0) (own : N → Option Holding) (front : N → Front) (home : H) (plan : Plan) (objects : List (AnyObject N H)) (rows now_rows : List (List (AnyPass N))) (callers now_callers : List (Caller N)) (replies : List (List (Reply ℕ)))
     (callers_are : AreAllCallers at own home callers plan.workers) (gone : HaveGone at own front home plan objects rows callers now_rows now_callers replies) where
   -- each worker's passes are its own still
   pub seats_of : (worker : ℕ) (row : List (AnyPass N)) → slice_get now_rows worker ≡ Some row → AreSeats at home plan.workers worker objects row
@@ -84,7 +85,7 @@ module _ {N H : Type 0} (at : H → N → Type 0) (own : N → Option Holding) (
         (it.is_at, it.held);
   }
 
-module _ {N H : Type 0} (at : H → N → Type 0) (own : N → Option Holding) (front : N → List ℕ) (seen : N → List SharedEntry) (home : H) (plan : Plan) (objects : List (AnyObject N H)) (rows now_rows : List (List (AnyPass N))) (callers now_callers settled_callers : List (Caller N)) (replies : List (List (Reply ℕ)))
+module _ {N H : Type 0} (at : H → N → Type 0) (own : N → Option Holding) (front : N → Front) (seen : N → List SharedEntry) (home : H) (plan : Plan) (objects : List (AnyObject N H)) (rows now_rows : List (List (AnyPass N))) (callers now_callers settled_callers : List (Caller N)) (replies : List (List (Reply ℕ)))
     (callers_are : AreAllCallers at own home callers plan.workers) (gone : HaveGone at own front home plan objects rows callers now_rows now_callers replies)
     (same : SameCalls own front seen now_callers settled_callers) (settled : Settled own front seen (contents_of plan) settled_callers) where
   -- all calls on maps and atomics are the workload's
@@ -105,7 +106,7 @@ module _ {N H : Type 0} (at : H → N → Type 0) (own : N → Option Holding) (
   none_gave_up few int64 worker (inl over) = let most = few worker over.shown all_of over.has in let many = over.many in omega (arith, most, many)
   none_gave_up few int64 worker (inr wrong) = let is = int64 worker wrong.i wrong.a wrong.amount wrong.x all_of wrong.at wrong.call in wrong.amiss is.0 is.1
 
-module _ {N H : Type 0} (at : H → N → Type 0) (own : N → Option Holding) (front : N → List ℕ) (seen : N → List SharedEntry) (home : H) (plan : Plan) (objects : List (AnyObject N H)) (rows now_rows : List (List (AnyPass N))) (callers now_callers settled_callers : List (Caller N)) (replies : List (List (Reply ℕ)))
+module _ {N H : Type 0} (at : H → N → Type 0) (own : N → Option Holding) (front : N → Front) (seen : N → List SharedEntry) (home : H) (plan : Plan) (objects : List (AnyObject N H)) (rows now_rows : List (List (AnyPass N))) (callers now_callers settled_callers : List (Caller N)) (replies : List (List (Reply ℕ)))
     (rows_are : AreRows at home plan.workers objects rows) (callers_are : AreAllCallers at own home callers plan.workers) (unmade : HaveMadeNone own callers)
     (gone : HaveGone at own front home plan objects rows callers now_rows now_callers replies)
     (same : SameCalls own front seen now_callers settled_callers) (settled : Settled own front seen (contents_of plan) settled_callers) (scripts : length plan.scripts ≡ plan.workers) (never : (worker : ℕ) → GaveUp plan (calls_of own settled_callers worker) → ⊥)
@@ -158,13 +159,13 @@ module _ {N H : Type 0} (at : H → N → Type 0) (own : N → Option Holding) (
       subst (λ (o : Option (Caller N)). IsFresh worker (desk_of own front o (get_or rows worker []))) (sym was.1)
       (record { owns = row.none; calls = unmade worker was.0 was.1; number = held_number (own was.0.note) worker (callers_are.each worker was.0 was.1).1 })
 
-  known : (worker other : ℕ) → worker < plan.workers → slice_index (desk worker).front other ≤ length (calls_of own settled_callers other)
+  known : (worker other : ℕ) → worker < plan.workers → slice_index (desk worker).front.counts other ≤ length (calls_of own settled_callers other)
   known worker other within =
       let now = caller_of now_callers worker (omega (arith, within, gone.callers_count)) in
       let last = caller_of settled_callers worker (omega (arith, within, gone.callers_count, same.count)) in
       let most = settled.fronts worker other last.0 last.1 in
-      let rises = same.rises worker now.0 last.0 now.1 last.1 other in
-      subst (λ (o : Option (Caller N)). slice_index (desk_of own front o (get_or now_rows worker [])).front other ≤ length (calls_of own settled_callers other)) (sym now.1) (omega (arith, most, rises))
+      let rises = (same.rises worker now.0 last.0 now.1 last.1).0 other in
+      subst (λ (o : Option (Caller N)). slice_index (desk_of own front o (get_or now_rows worker [])).front.counts other ≤ length (calls_of own settled_callers other)) (sym now.1) (omega (arith, most, rises))
 
   pub all_done : AllDone plan settled.history journals (calls_of own settled_callers) replies start desk all_lines.0
   all_done = record {

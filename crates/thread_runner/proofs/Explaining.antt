@@ -14,7 +14,7 @@ use Rattle.run_record.specs.Lines.{Line, whole, HaltsStop}
 use Rattle.run_record.specs.Record.{Record, ObjectEntry, stop, journal_of}
 use Rattle.thread_objects.specs.Working.{Desk}
 use Rattle.thread_runner.specs.Runs.{IsExplained, ends_after}
-use Rattle.thread_runner.proofs.Joining.{AllDone, Knowing, SameLists, is_record, are_lines, have_ended, halt_each, halt_stop, joined, joined_calls}
+use Rattle.thread_runner.proofs.Joining.{AllDone, Knowing, SameLists, is_record, are_lines, have_ended, halt_each, halt_stop, in_one_order, joined, joined_calls}
 
 -- where Stop isn't halted, each script is at its end
 abbrev pub StopSays : Type 0
@@ -42,6 +42,7 @@ module _ (plan : Plan) (history : List SharedEntry) (journals : List (List Objec
           agrees = (says plan it outcome lines are lawful (have_ended plan history journals calls replies start desk lines all knowing) (halt_stop plan history journals calls replies start desk lines all knowing) none, refl);
         };
         halts = halt_each plan history journals calls replies start desk lines all knowing;
+        order = in_one_order plan history journals calls replies start desk lines all knowing;
       }
 
   -- and the first halt of Stop is the misuse that another one comes to
@@ -59,4 +60,5 @@ module _ (plan : Plan) (history : List SharedEntry) (journals : List (List Objec
           agrees = (have_ended plan history journals calls replies start desk lines all knowing, ends, first);
         };
         halts = halt_each plan history journals calls replies start desk lines all knowing;
+        order = in_one_order plan history journals calls replies start desk lines all knowing;
       }

@@ -5,8 +5,7 @@ use Rattle.std.proofs.lemmas.List.{append-nil, take_all, take_more, length-take-
 use Rattle.std.proofs.lemmas.List.Elements.{All-from_recursion}
 use Rattle.std.proofs.lemmas.Option.{slice_get_within, get_or_from_slice_get}
 use Rattle.sync_model.specs.declared.answer.Answer.TheVariants.{Done}
-use Rattle.sync_model.specs.declared.journal.Deed.TheVariants.{Halt}
-use Rattle.sync_model.specs.Front.{AtLeast}
+use Rattle.sync_model.specs.Front.{Front, NoLess, Later}
 use Rattle.sync_model.specs.Note.{Holding, IsCounted}
 use Rattle.sync_model.specs.Shared.{items_of}
 use Rattle.sync_types.specs.declared.misuse.Misuse.{Misuse}
@@ -21,7 +20,7 @@ use Rattle.run_record.specs.Halts.{halted_at, halted_from, halted_with_stop, ent
 use Rattle.run_record.specs.Lines.{IsHalt}
 use Rattle.run_record.specs.Objects.{first_part, is_pool}
 use Rattle.run_record.specs.Record.{ObjectEntry, stop, object_number}
-use Rattle.thread_objects.specs.Working.{Desk, Works, desk_at}
+use Rattle.thread_objects.specs.Working.{Desk, Works, alone, desk_at, number_in}
 use Rattle.thread_objects.specs.declared.object.AnyObject.{AnyObject}
 use Rattle.thread_objects.specs.declared.object.AnyObject.TheVariants as objects
 use Rattle.thread_objects.specs.AsDeclared.{IsDeclared}
@@ -115,31 +114,41 @@ module _ {N H : Type 0} where
   halts_declared at home plan place kind objects.Shared apart is = search
   halts_declared at home plan place kind object apart is = search
 
-module _ {K : Type 0} (owner : K → Option Holding) (front : K → List ℕ) (note : K) (counted : IsCounted (owner note) (front note)) (number : ℕ) (misuse : Misuse) (old new : List ObjectEntry) where
-  abbrev at : List ObjectEntry → Desk
-  at own = desk_at owner front number own note
+module _ {K : Type 0} (owner : K → Option Holding) (front : K → Front) (was note : K) (counted : IsCounted (owner was) (front was).counts) (kept : owner note ≡ owner was) (number : ℕ) (misuse : Misuse) (old new : List ObjectEntry) where
+  -- what the caller has done on the object before, and after
+  abbrev start : Desk
+  start = desk_at owner front number old was
 
-  one_more : (halts : Halts misuse (front note) old new) (here : Bool) → cond here new [] ≡ cond here old [] ++ cond here (halts.entry ∷ []) []
+  abbrev desk : Desk
+  desk = desk_at owner front number new note
+
+  one_more : (halts : Halts misuse (front was) (front note) old new) (here : Bool) → cond here new [] ≡ cond here old [] ++ cond here (halts.entry ∷ []) []
   one_more halts true = halts.own
   one_more halts false = refl
 
-  halts_once : Counts → Halts misuse (front note) old new → Works (halting misuse (number ∷ [])) (at old) (Done (Ok tt)) (at new)
+  halts_once : Counts → Halts misuse (front was) (front note) old new → Works (halting misuse (number ∷ [])) start (Done (Ok tt)) desk
   halts_once counts halts = record {
     items = Entered number halts.entry ∷ [];
     moves = record {
-      worker = refl;
+      worker = ap number_in kept;
       owns = λ object. one_more halts (number == object);
-      calls = sym (append-nil (items_of (owner note)));
-      fronts = (subst (λ (f : List ℕ). AtLeast f (front note)) (sym halts.known) (λ i. omega arith), subst (λ (f : List ℕ). AtLeast (front note) f) (sym halts.known) (λ i. omega arith));
-      counts = λ worker is. (ap (λ (f : List ℕ). slice_index f worker) halts.known ∙ counts (owner note) (front note) worker counted is, tt);
+      calls = ap items_of kept ∙ sym (append-nil (items_of (owner was)));
+      fronts = (subst (λ (f : Front). Later f (front was)) (sym halts.known) halts.later, subst (λ (f : Front). NoLess (front note) f) (sym halts.known) (λ i. omega arith, omega arith));
+      counts = λ worker is. (ap (λ (f : Front). slice_index f.counts worker) halts.known ∙ ap (λ (l : List ℕ). slice_index l worker) halts.same ∙ counts (owner was) (front was).counts worker counted is, tt);
     };
     spelt = ((halts.deed, tt), refl, refl);
   }
 
-  leaves_it : Stays → new ≡ old → Works (halting misuse []) (at old) (Done (Ok tt)) (at new)
-  leaves_it stays same = subst (λ (l : List ObjectEntry). Works (halting misuse []) (at old) (Done (Ok tt)) (at l)) (sym same) (rests stays (halting misuse []) (at old) (Done (Ok tt)) (tt, refl, refl))
+  abbrev desk_from : Option Holding → Front → List ObjectEntry → Desk
+  desk_from own knows entries = record { owns = alone number entries; calls = items_of own; front = knows; worker = number_in own }
+
+  leaves_it : Stays → new ≡ old → front note ≡ front was → Works (halting misuse []) start (Done (Ok tt)) desk
+  leaves_it stays same knows =
+      subst (λ (own : Option Holding). Works (halting misuse []) start (Done (Ok tt)) (desk_from own (front note) new)) (sym kept)
+      (subst (λ (f : Front). Works (halting misuse []) start (Done (Ok tt)) (desk_from (owner was) f new)) (sym knows)
+      (subst (λ (l : List ObjectEntry). Works (halting misuse []) start (Done (Ok tt)) (desk_from (owner was) (front was) l)) (sym same) (rests stays (halting misuse []) start (Done (Ok tt)) (tt, refl, refl))))
 
   -- halting an object of whatever kind
-  pub halted_any : Stays → Counts → {N H : Type 0} (object : AnyObject N H) → AreHalted object misuse (front note) old new → Works (halting misuse (halted_one number object)) (at old) (Done (Ok tt)) (at new)
-  halted_any stays counts objects.Shared halted = leaves_it stays halted
+  pub halted_any : Stays → Counts → {N H : Type 0} (object : AnyObject N H) → AreHalted object misuse (front was) (front note) old new → Works (halting misuse (halted_one number object)) start (Done (Ok tt)) desk
+  halted_any stays counts objects.Shared halted = leaves_it stays halted.0 halted.1
   halted_any stays counts object halted = halts_once counts halted

@@ -13,7 +13,9 @@ use Rattle.sync_model.specs.SharedCalls.{Lawful}
 use Rattle.sync_model.specs.SharedHistory.{Contents}
 use Rattle.workload.specs.Plan.{Plan}
 use Rattle.run_record.specs.declared.made.Made.{Made}
+use Rattle.run_record.specs.declared.made.Made.TheVariants.{Entered}
 use Rattle.run_record.specs.Explains.{AreLines, IsRecordOf, HasEnded}
+use Rattle.run_record.specs.InOneOrder.{InOneOrder}
 use Rattle.run_record.specs.Lines.{Line, script_of, items_of, replies_of, HaltsStop, HaltsEach, halted_by}
 use Rattle.run_record.specs.Objects.{contents_of}
 use Rattle.run_record.specs.Record.{Record, ObjectEntry, stop, journal_of, list_of, shared_in, entries_in, calls_of, front_of}
@@ -26,7 +28,8 @@ use Rattle.thread_runner.proofs.ItemLists.{mapped_at, mapped_past, mapped_is}
 pub record Knowing : Type 0 where
   pub own : (old new : Desk) (items : List Made) (worker i : ℕ) (made : Made) → Moves old items new → old.worker ≡ Some worker → slice_get items i ≡ Some made → slice_index (front_of made) worker ≡ length old.calls + length (shared_in (take i items))
   pub rises : (old new : Desk) (items : List Made) (i j : ℕ) (earlier later : Made) → Moves old items new → i < j → slice_get items i ≡ Some earlier → slice_get items j ≡ Some later → AtLeast (front_of later) (front_of earlier)
-  pub ends : (old new : Desk) (items : List Made) (i : ℕ) (made : Made) → Moves old items new → slice_get items i ≡ Some made → AtLeast new.front (front_of made)
+  pub ends : (old new : Desk) (items : List Made) (i : ℕ) (made : Made) → Moves old items new → slice_get items i ≡ Some made → AtLeast new.front.counts (front_of made)
+  pub times : (old new : Desk) (items : List Made) (i j object other : ℕ) (earlier later : ObjectEntry) → Moves old items new → i < j → slice_get items i ≡ Some (Entered object earlier) → slice_get items j ≡ Some (Entered other later) → earlier.time < later.time
 
 -- a legal history's law depends on the callers' lists alone
 abbrev pub SameLists : Type 0
@@ -44,7 +47,7 @@ pub record AllDone (plan : Plan) (history : List SharedEntry) (journals : List (
   pub called : (worker : ℕ) → worker < length lines → (desk worker).calls ≡ calls worker
   pub uncalled : (worker : ℕ) → length lines ≤ worker → calls worker ≡ []
   pub lawful : Lawful (contents_of plan) history calls
-  pub known : (worker other : ℕ) → worker < length lines → slice_index (desk worker).front other ≤ length (calls other)
+  pub known : (worker other : ℕ) → worker < length lines → slice_index (desk worker).front.counts other ≤ length (calls other)
 
 module _ (plan : Plan) (history : List SharedEntry) (journals : List (List ObjectEntry)) (calls : ℕ → List Item) (replies : List (List (Reply ℕ))) (start desk : ℕ → Desk) (lines : List Line) (all : AllDone plan history journals calls replies start desk lines) (knowing : Knowing) where
   abbrev pub joined : Record
@@ -122,6 +125,18 @@ module _ (plan : Plan) (history : List SharedEntry) (journals : List (List Objec
         let known = all.known worker other within in
         subst (λ (l : List Item). slice_index (front_of x) other ≤ length l) (sym (joined_calls other)) (omega (arith, least, known))
     by_case (inr past) = absurd (nothing_past worker i x past at)
+
+  times : (worker i j object other : ℕ) (x y : ObjectEntry) → i < j → slice_get (list_of joined worker) i ≡ Some (Entered object x) → slice_get (list_of joined worker) j ≡ Some (Entered other y) → x.time < y.time
+  times worker i j object other x y before at_x at_y = by_case (case worker) where
+    by_case : Cases worker → x.time < y.time
+    by_case (inl (line, within, at)) =
+        let did = all.did worker line at in
+        knowing.times (start worker) (desk worker) (items_of line) i j object other x y did.moves before (within_line worker i (Entered object x) line at at_x) (within_line worker j (Entered other y) line at at_y)
+    by_case (inr past) = absurd (nothing_past worker i (Entered object x) past at_x)
+
+  -- all its events stand in one order
+  pub in_one_order : InOneOrder joined
+  in_one_order = record { journals = all.objects.times; lists = times }
 
   -- it is a record of the workload's objects
   pub is_record : SameLists → IsRecordOf plan joined

@@ -10,6 +10,7 @@ use Rattle.script_calls.specs.declared.call.Reply.{Reply}
 use Rattle.sync_model.specs.declared.caller.Caller.{Caller}
 use Rattle.sync_model.specs.declared.item.Item.{Item}
 use Rattle.sync_types.specs.BoundedSeq.{Bounded}
+use Rattle.sync_model.specs.Front.{Front}
 use Rattle.sync_model.specs.Note.{Holding}
 use Rattle.sync_model.specs.Shared.{IsCallerAt, IsHeldBy, items_of}
 use Rattle.workload.specs.Keys.{keys_in}
@@ -41,7 +42,7 @@ of_none o P is holds = subst (λ r. IfNone r P) is holds
 pub all_behind : (plan : Plan) (old new : List Item) → All (λ x. IsCallOf plan x.call) old → MakesOnly (IsCallOf plan) old new → All (λ x. IsCallOf plan x.call) new
 all_behind plan old new all made = subst (All (λ x. IsCallOf plan x.call)) (sym made.are) (All-append (λ x. IsCallOf plan x.call) old made.made all made.each)
 
-module _ {H N : Type 0} (at : H → N → Type 0) (own : N → Option Holding) (front : N → List ℕ) (home : H) (plan : Plan) (workers worker : ℕ) (objects : List (AnyObject N H)) (script : List Call) (room : ℕ) (start : Desk) (first : N) where
+module _ {H N : Type 0} (at : H → N → Type 0) (own : N → Option Holding) (front : N → Front) (home : H) (plan : Plan) (workers worker : ℕ) (objects : List (AnyObject N H)) (script : List Call) (room : ℕ) (start : Desk) (first : N) where
   -- so many calls are made, and the worker is about to make the next
   pub record AtCall (index : ℕ) (passes : List (AnyPass N)) (caller : Caller N) (replies : Bounded (Reply ℕ)) (rooms : List (Bounded (ℕ × ℕ))) : Type 0 where
     pub seats : AreSeats at home workers worker objects passes

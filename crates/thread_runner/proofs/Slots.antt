@@ -4,6 +4,7 @@ use Rattle.std.proofs.lemmas.Bool.{eq-eqb, eqb-true, false≢true}
 use Rattle.std.proofs.lemmas.List.{get_or-set_same, get_or-set_other, length-set}
 use Rattle.std.proofs.lemmas.Option.{get_or_from_slice_get, slice_get-get_or, slice_get_within, same_Some}
 use Rattle.std.specs.Prelude.{slice_set}
+use Rattle.sync_model.specs.Front.{Front}
 use Rattle.sync_model.specs.Note.{Holding}
 use Rattle.protocols.specs.Spelling.{CallAnswer}
 use Rattle.run_record.specs.Parts.{Part}
@@ -33,7 +34,7 @@ module _ {N : Type 0} (all : List (AnyPass N)) (number : ℕ) (d is : AnyPass N)
   same object other = ap (λ (p : AnyPass N). own_of p) (get_or-set_other all number object is passes.None (λ e. false≢true (sym other ∙ eq-eqb number object (sym e))))
 
   -- what is done with one pass is done with it among all
-  pub in_slot : {K O : Type 0} (part : Part O) (owner : K → Option Holding) (front : K → List ℕ) (old new : K) (answer : CallAnswer O)
+  pub in_slot : {K O : Type 0} (part : Part O) (owner : K → Option Holding) (front : K → Front) (old new : K) (answer : CallAnswer O)
       → Works part (desk_at owner front number (own_of was) old) answer (desk_at owner front number (own_of is) new)
       → Works part (desk_with owner front (owns_of all) old) answer (desk_with owner front (owns_of (slice_set all number is)) new)
   in_slot part owner front old new answer works = among part owner front number (own_of was) (own_of is) (owns_of all) (owns_of (slice_set all number is)) old new answer before after same works

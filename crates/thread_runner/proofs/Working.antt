@@ -1,10 +1,12 @@
 -- Parts of calls, and what they add to what their worker has done.
-use Rattle.std.proofs.Common.{◌≡◌, ℕ, Bool, true, false, ◌==◌, cond, List, [], ◌++◌, refl, sym, ap, ◌∙◌, subst, Option, Ok, Err}
+use Rattle.std.proofs.Common.{◌≡◌, ℕ, Bool, true, false, ◌==◌, cond, List, [], ◌++◌, refl, sym, ap, ◌∙◌, subst, arith, Option, Ok, Err}
 use Rattle.std.proofs.lemmas.Bool.{eqb-true}
 use Rattle.std.proofs.lemmas.List.{append-nil}
 use Rattle.sync_model.specs.declared.answer.Answer.TheVariants.{Done, Halted}
 use Rattle.sync_types.specs.declared.misuse.Misuse.{Misuse}
+use Rattle.sync_model.specs.Front.{Front}
 use Rattle.sync_model.specs.Note.{Holding}
+use Rattle.ruled_object.specs.Growth.{KeepsNote}
 use Rattle.protocols.specs.Spelling.{CallAnswer}
 use Rattle.run_record.specs.Parts.{Part, read_as, with_outcome, and_then, GoesOn}
 use Rattle.run_record.specs.Record.{ObjectEntry, entries_in}
@@ -16,7 +18,7 @@ use Rattle.thread_objects.specs.Replies.{gone_on}
 pub reads : {O P : Type 0} (f : O → P) (part : Part O) (old new : Desk) (given : CallAnswer O) (answer : CallAnswer P) → answer ≡ with_outcome f given → Works part old given new → Works (read_as f part) old answer new
 reads f part old new given answer is works = record { items = works.items; moves = works.moves; spelt = (given, works.spelt, is) }
 
-module _ {N O : Type 0} (part : Part O) (owner : N → Option Holding) (front : N → List ℕ) (number : ℕ) (was own new : List ObjectEntry) (old note : N) (answer : CallAnswer O) where
+module _ {N O : Type 0} (part : Part O) (owner : N → Option Holding) (front : N → Front) (number : ℕ) (was own new : List ObjectEntry) (old note : N) (answer : CallAnswer O) where
   -- where the entries are the same list
   pub same_own : was ≡ own → Works part (desk_at owner front number own old) answer (desk_at owner front number new note) → Works part (desk_at owner front number was old) answer (desk_at owner front number new note)
   same_own is works = subst (λ (l : List ObjectEntry). Works part (desk_at owner front number l old) answer (desk_at owner front number new note)) (sym is) works
@@ -38,11 +40,23 @@ module _ {O P : Type 0} (first : Part O) (next : O → Part P) where
     spelt = (a.items, b.items, given, refl, a.spelt, b.spelt);
   }
 
+module _ {N H : Type 0} (at : H → N → Type 0) (owner : N → Option Holding) (front : N → Front) where
+  -- a note that is as it was is kept, and one that is kept twice
+  pub keeps : (note : N) → KeepsNote at owner front note note
+  keeps note = record { home = λ home here. here; kept = refl; rises = (λ i. omega arith, omega arith) }
+
+  pub keeps_on : (old between new : N) → KeepsNote at owner front old between → KeepsNote at owner front between new → KeepsNote at owner front old new
+  keeps_on old between new first later = record {
+    home = λ home here. later.home home (first.home home here);
+    kept = later.kept ∙ first.kept;
+    rises = (λ i. omega (arith, first.rises.0 i, later.rises.0 i), omega (arith, first.rises.1, later.rises.1));
+  }
+
 -- nothing is made, and that is the part
 pub rests : Stays → {O : Type 0} (part : Part O) (desk : Desk) (answer : CallAnswer O) → part [] answer → Works part desk answer desk
 rests stays part desk answer spelt = record { items = []; moves = stays desk; spelt = spelt }
 
-module _ {N O : Type 0} (part : Part O) (owner : N → Option Holding) (front : N → List ℕ) (number : ℕ) (was is : List ObjectEntry) (owns others : ℕ → List ObjectEntry) (old new : N) (answer : CallAnswer O) where
+module _ {N O : Type 0} (part : Part O) (owner : N → Option Holding) (front : N → Front) (number : ℕ) (was is : List ObjectEntry) (owns others : ℕ → List ObjectEntry) (old new : N) (answer : CallAnswer O) where
   -- what is done on one object is done there among all objects, where nothing changes on the others
   pub among : owns number ≡ was → others number ≡ is → ((object : ℕ) → (number == object) ≡ false → others object ≡ owns object)
       → Works part (desk_at owner front number was old) answer (desk_at owner front number is new) → Works part (desk_with owner front owns old) answer (desk_with owner front others new)

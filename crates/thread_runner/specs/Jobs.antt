@@ -5,6 +5,7 @@ use Rattle.script_calls.specs.declared.call.Call.{Call}
 use Rattle.script_calls.specs.declared.call.Reply.{Reply}
 use Rattle.sync_model.specs.declared.caller.Caller.{Caller}
 use Rattle.sync_types.specs.BoundedSeq.{Bounded}
+use Rattle.sync_model.specs.Front.{Front}
 use Rattle.sync_model.specs.Note.{Holding}
 use Rattle.sync_model.specs.Shared.{IsHeldBy, items_of}
 use Rattle.workload.specs.Keys.{keys_in}
@@ -27,7 +28,7 @@ pub record HasRoom (keys : ℕ) (script : List Call) (replies : Bounded (Reply �
   pub roomy : AreRooms keys pairs
   pub enough : ranges_in_calls script ≤ length pairs
 
-module _ {N H : Type 0} (at : H → N → Type 0) (own : N → Option Holding) (front : N → List ℕ) (home : H) (plan : Plan) (objects : List (AnyObject N H)) (worker : ℕ) where
+module _ {N H : Type 0} (at : H → N → Type 0) (own : N → Option Holding) (front : N → Front) (home : H) (plan : Plan) (objects : List (AnyObject N H)) (worker : ℕ) where
   -- the worker with this number has its passes and is the caller with its number, has done nothing, and has room for what it is to do
   pub record IsReady (passes : List (AnyPass N)) (caller : Caller N) (replies : Bounded (Reply ℕ)) (pairs : List (Bounded (ℕ × ℕ))) : Type 0 where
     pub number : worker < plan.workers

@@ -3,6 +3,7 @@ ghost use Rattle.std.specs.Prelude.{◌≡◌, ◌+◌, ◌<◌, ◌≤◌, Ok, 
 ghost use Rattle.std.specs.List.{range_with_len};
 ghost use Rattle.sync_model.specs.declared.answer.Answer.TheVariants.{Done};
 ghost use Rattle.workload.specs.declared.object.ObjectLine.{ObjectLine};
+ghost use Rattle.ruled_object.specs.Growth.{KeepsNote};
 ghost use Rattle.run_record.specs.Halts.{halted_at};
 ghost use Rattle.run_record.specs.Objects.{first_part};
 ghost use Rattle.thread_objects.specs.Working.{Works, desk_with};
@@ -31,16 +32,17 @@ fn halt_at<N: Note, C: Clock, R: Wait>(
     worker: &Worker<N, C>,
     objects: &[AnyObject<N>],
     passes: &mut [AnyPass<N>],
-    note: &N,
+    note: &mut N,
     misuse: Misuse,
     number: usize,
 )
     requires there { number < length objects.now }
     requires seats { AreSeats N.at worker.now.at.home.now worker.now.workers worker.now.number objects.now passes.old }
-    requires note { N.at worker.now.at.home.now note.now }
+    requires note { N.at worker.now.at.home.now note.old }
     ensures seats { AreSeats N.at worker.now.at.home.now worker.now.workers worker.now.number objects.now passes.new }
+    ensures note { KeepsNote N.at N.own N.front note.old note.new }
     ensures halted { (object : AnyObject N N.Home) → slice_get objects.now number ≡ Some object
-        → Works (halting misuse (halted_one number object)) (desk_with N.own N.front (owns_of passes.old) note.now) (Done (Ok tt)) (desk_with N.own N.front (owns_of passes.new) note.now) }
+        → Works (halting misuse (halted_one number object)) (desk_with N.own N.front (owns_of passes.old) note.old) (Done (Ok tt)) (desk_with N.own N.front (owns_of passes.new) note.new) }
 {
     moves();
     a_note_counts_its_calls();
@@ -55,16 +57,17 @@ fn halt_parts<N: Note, C: Clock, R: Wait>(
     worker: &Worker<N, C>,
     objects: &[AnyObject<N>],
     passes: &mut [AnyPass<N>],
-    note: &N,
+    note: &mut N,
     misuse: Misuse,
     first: usize,
 )
     requires parts { ArePartsAt objects.now first worker.now.workers }
     requires room { first + worker.now.workers ≤ length objects.now }
     requires seats { AreSeats N.at worker.now.at.home.now worker.now.workers worker.now.number objects.now passes.old }
-    requires note { N.at worker.now.at.home.now note.now }
+    requires note { N.at worker.now.at.home.now note.old }
     ensures seats { AreSeats N.at worker.now.at.home.now worker.now.workers worker.now.number objects.now passes.new }
-    ensures halted { Works (halting misuse (range_with_len first worker.now.workers)) (desk_with N.own N.front (owns_of passes.old) note.now) (Done (Ok tt)) (desk_with N.own N.front (owns_of passes.new) note.now) }
+    ensures note { KeepsNote N.at N.own N.front note.old note.new }
+    ensures halted { Works (halting misuse (range_with_len first worker.now.workers)) (desk_with N.own N.front (owns_of passes.old) note.old) (Done (Ok tt)) (desk_with N.own N.front (owns_of passes.new) note.new) }
 {
     moves();
     let _count = objects.len();
@@ -82,7 +85,7 @@ fn halt_declared<N: Note, C: Clock, R: Wait>(
     workload: &Workload,
     objects: &[AnyObject<N>],
     passes: &mut [AnyPass<N>],
-    note: &N,
+    note: &mut N,
     misuse: Misuse,
     place: usize,
     first: usize,
@@ -92,11 +95,12 @@ fn halt_declared<N: Note, C: Clock, R: Wait>(
     requires declared { AreDeclared N.at worker.now.at.home.now workload.now objects.now }
     requires workers { workload.now.workers ≡ worker.now.workers }
     requires seats { AreSeats N.at worker.now.at.home.now worker.now.workers worker.now.number objects.now passes.old }
-    requires note { N.at worker.now.at.home.now note.now }
+    requires note { N.at worker.now.at.home.now note.old }
     ensures next { result ≡ first_part workload.now (place + 1) }
     ensures seats { AreSeats N.at worker.now.at.home.now worker.now.workers worker.now.number objects.now passes.new }
+    ensures note { KeepsNote N.at N.own N.front note.old note.new }
     ensures halted { (line : ObjectLine) → slice_get workload.now.objects place ≡ Some line
-        → Works (halting misuse (halted_at workload.now place line.kind)) (desk_with N.own N.front (owns_of passes.old) note.now) (Done (Ok tt)) (desk_with N.own N.front (owns_of passes.new) note.now) }
+        → Works (halting misuse (halted_at workload.now place line.kind)) (desk_with N.own N.front (owns_of passes.old) note.old) (Done (Ok tt)) (desk_with N.own N.front (owns_of passes.new) note.new) }
 {
     parts_have_numbers_of_their_own();
     objects_are_of_their_kinds::<N>();
@@ -124,15 +128,16 @@ pub(crate) fn halt_all<N: Note, C: Clock, R: Wait>(
     workload: &Workload,
     objects: &[AnyObject<N>],
     passes: &mut [AnyPass<N>],
-    note: &N,
+    note: &mut N,
     misuse: Misuse,
 )
     requires declared { AreDeclared N.at worker.now.at.home.now workload.now objects.now }
     requires workers { workload.now.workers ≡ worker.now.workers }
     requires seats { AreSeats N.at worker.now.at.home.now worker.now.workers worker.now.number objects.now passes.old }
-    requires note { N.at worker.now.at.home.now note.now }
+    requires note { N.at worker.now.at.home.now note.old }
     ensures seats { AreSeats N.at worker.now.at.home.now worker.now.workers worker.now.number objects.now passes.new }
-    ensures halted { HaltsAll workload.now misuse (desk_with N.own N.front (owns_of passes.old) note.now) (desk_with N.own N.front (owns_of passes.new) note.now) }
+    ensures note { KeepsNote N.at N.own N.front note.old note.new }
+    ensures halted { HaltsAll workload.now misuse (desk_with N.own N.front (owns_of passes.old) note.old) (desk_with N.own N.front (owns_of passes.new) note.new) }
 {
     moves();
     stop_is_the_first_object::<N>();

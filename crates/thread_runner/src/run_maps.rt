@@ -6,6 +6,7 @@ ghost use Rattle.sync_model.specs.Shared.{AreAllCallers, calls_of};
 ghost use Rattle.sync_model.specs.SharedCalls.{Lawful};
 ghost use Rattle.sync_model.specs.SharedHistory.{contents_after, first_contents};
 ghost use Rattle.run_record.specs.Explains.{Explains};
+ghost use Rattle.run_record.specs.InOneOrder.{InOneOrder};
 ghost use Rattle.run_record.specs.Record.{Record};
 ghost use Rattle.thread_runner.specs.Sites.{AreShared};
 ghost use Rattle.thread_runner.specs.EndsPlans.{HaveMadeNone, HaveSpare, IsEndsPlan};
@@ -73,7 +74,7 @@ pub(crate) fn finish<M: RunMaps + Drop>(
     requires room { M.has_room room workload.now.workers }
     requires plan { IsEndsPlan workload.now plan.places.atomics.items plan.places.maps.items plan.order.items plan.ends.items (vec_capacity plan.ends) }
     requires comes { HasRun M.Mark.at M.Mark.own M.Mark.front M.seen (M.home_of maps) workload.now outcome callers.items }
-    ensures { (r : Record) × Explains workload.now result r }
+    ensures { (r : Record) × Explains workload.now result r × InOneOrder r }
 {
     maps_end_with_the_workloads_keys();
     ends_are_in_name_order();

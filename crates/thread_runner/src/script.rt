@@ -72,7 +72,7 @@ pub(crate) fn run_script<S: Shared, C: Clock, G: Gate, R: Wait>(
                     site.catalog.workload,
                     site.objects,
                     passes,
-                    &caller.note,
+                    &mut caller.note,
                     misuse,
                 );
                 return;

@@ -2,6 +2,7 @@
 ghost use Rattle.std.specs.Prelude.{◌≡◌, ◌≤◌, ◌+◌, IfOk, IfErr, Err};
 ghost use Rattle.sync_outside.specs.Faults.{Rose, RoseBy};
 ghost use Rattle.run_record.specs.Explains.{Explains};
+ghost use Rattle.run_record.specs.InOneOrder.{InOneOrder};
 ghost use Rattle.run_record.specs.Record.{Record};
 ghost use Rattle.thread_runner.specs.declared.fault.RunFault.TheVariants as faults;
 
@@ -37,7 +38,7 @@ where
     M::Mark: Send,
     M::Cursor: Send,
     <M::Mark as Note>::Home: Sync,
-    ensures explained { IfOk result (λ outcome. (r : Record) × Explains workload.now outcome r) }
+    ensures explained { IfOk result (λ outcome. (r : Record) × Explains workload.now outcome r × InOneOrder r) }
     ensures refused { result ≡ Err faults.StartRefused → Rose (P.faults spawner.old) (P.faults spawner.new) }
     ensures stays { ¬ (result ≡ Err faults.StartRefused) → P.faults spawner.new ≡ P.faults spawner.old }
     ensures faults { P.faults spawner.old ≤ P.faults spawner.new }
@@ -57,7 +58,7 @@ where
 /// hash tries and its atomics words, in one table: loads, walks over a map and calls on atomics wait for nobody. Each call
 /// passes the gate before and after. All memory is taken before the first start.
 ///
-/// The outcome is explained by one record. A run that is misused tells the first misuse; none is told to be deadlocked.
+/// The outcome is explained by one record, all of whose events stand in one order. A run that is misused tells the first misuse; none is told to be deadlocked.
 ///
 /// # Errors
 ///
@@ -70,7 +71,7 @@ pub fn threaded<C: Clock + Sync, P: Spawner, G: Gate + Sync, R: Threads + Wait +
     spawner: &mut P,
     gate: &G,
 ) -> Result<Outcome, RunFault>
-    ensures explained { IfOk result (λ outcome. (r : Record) × Explains workload.now outcome r) }
+    ensures explained { IfOk result (λ outcome. (r : Record) × Explains workload.now outcome r × InOneOrder r) }
     ensures refused { result ≡ Err faults.StartRefused → Rose (P.faults spawner.old) (P.faults spawner.new) }
     ensures stays { ¬ (result ≡ Err faults.StartRefused) → P.faults spawner.new ≡ P.faults spawner.old }
     ensures faults { P.faults spawner.old ≤ P.faults spawner.new }

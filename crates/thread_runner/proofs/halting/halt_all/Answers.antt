@@ -4,6 +4,7 @@ use Rattle.workload.specs.declared.object.ObjectLine.{ObjectLine}
 use Rattle.run_record.specs.Halts.{halted_at, halted_with_stop}
 use Rattle.run_record.specs.Record.{stop}
 use Rattle.thread_runner.proofs.HaltLemmas.{all_halted, halted_more, halts_as, halts_on, halts_stop, line_at}
+use Rattle.thread_runner.proofs.Working.{keeps_on}
 use Rattle.thread_runner.proofs.halting.halt_all.Goals as goal
 
 pub halt_at-requires-clause-there : goal.halt_at-requires-clause-there
@@ -16,9 +17,13 @@ loop-place-init g c =
     let found = c.stop_is_the_first_object.ensures c.args.worker.now.at.home.now c.args.workload.now c.args.objects.now c.requires.declared in
     record {
       seats = c.halt_at.ensures.seats;
+      note = c.halt_at.ensures.note;
       next = omega (arith, ap (λ (l : List ObjectLine). length l) c.objects-lines.ensures.objects);
       halted = halts_as c.args.misuse _ (stop ∷ []) _ _ (halts_stop stop found.0 found.2) (c.halt_at.ensures.halted found.0 found.1);
     }
+
+pub halt_declared-first-requires-clause-note : goal.halt_declared-first-requires-clause-note
+halt_declared-first-requires-clause-note g c = c.loop-place.invariant.note.home _ c.requires.note
 
 pub loop-place-preserved : goal.loop-place-preserved
 loop-place-preserved g c =
@@ -27,6 +32,7 @@ loop-place-preserved g c =
     let found = line_at plan.objects place (omega (arith, c.loop-place-test.true, ap (λ (l : List ObjectLine). length l) c.objects-lines.ensures.objects)) in
     record {
       seats = c.halt_declared-first.ensures.seats;
+      note = keeps_on g.N.Note.at g.N.Note.own g.N.Note.front _ _ _ c.loop-place.invariant.note c.halt_declared-first.ensures.note;
       next = c.halt_declared-first.ensures.next;
       halted = halts_as c.args.misuse _ (halted_with_stop plan (take (place + 1) plan.objects)) _ _ (halted_more plan place found.0 found.1)
           (halts_on c.moves.ensures.joined c.args.misuse (halted_with_stop plan (take place plan.objects)) (halted_at plan place found.0.kind) _ _ _ c.loop-place.invariant.halted (c.halt_declared-first.ensures.halted found.0 found.1));

@@ -18,7 +18,8 @@ returns-clause-halted g c = λ object at.
     let all = c.args.objects.now in
     let number = c.args.number in
     let misuse = c.args.misuse in
-    let note = c.args.note.now in
+    let was = c.args.note.now in
+    let note = c.halt_any.new.note in
     let here = slice_get_read all (length all) number c.index-objects-number.result refl c.requires.there c.index-objects-number.is in
-    let done = halted_any g.N.Note.own g.N.Note.front note (g.met.N.Note.counted _ _ c.requires.note) number misuse _ _ c.moves.ensures.none c.a_note_counts_its_calls.ensures c.index-objects-number.result c.halt_any.ensures.halted in
-    halts_as misuse _ (halted_one number object) _ _ (ap (λ (o : AnyObject _ _). halted_one number o) (same_Some c.index-objects-number.result object (sym here ∙ at))) (in_slot c.args.passes.now number c.index-passes-number.result c.halt_any.new.pass (omega (arith, c.requires.there, c.requires.seats.count)) (halting misuse (halted_one number c.index-objects-number.result)) g.N.Note.own g.N.Note.front note note (Done (Ok tt)) done)
+    let done = halted_any g.N.Note.own g.N.Note.front was note (g.met.N.Note.counted _ _ c.requires.note) c.halt_any.ensures.note.kept number misuse _ _ c.moves.ensures.none c.a_note_counts_its_calls.ensures c.index-objects-number.result c.halt_any.ensures.halted in
+    halts_as misuse _ (halted_one number object) _ _ (ap (λ (o : AnyObject _ _). halted_one number o) (same_Some c.index-objects-number.result object (sym here ∙ at))) (in_slot c.args.passes.now number c.index-passes-number.result c.halt_any.new.pass (omega (arith, c.requires.there, c.requires.seats.count)) (halting misuse (halted_one number c.index-objects-number.result)) g.N.Note.own g.N.Note.front was note (Done (Ok tt)) done)

@@ -50,4 +50,4 @@ returns-in-Done g c =
     let outcome : with_ends (ends_after plan history) c.args.outcome ≡ Done (record { replies = left.replies; ends = c.from_vec.result }) =
     ap (λ (o : Outcome). with_ends (ends_after plan history) o) c.in-Done.is
     ∙ ap (λ (l : List End). Done (record { replies = left.replies; ends = l })) (sym list) in
-    (run, subst (λ (o : Outcome). Explains plan o run) outcome comes.explained.explains)
+    (run, subst (λ (o : Outcome). Explains plan o run) outcome comes.explained.explains, comes.explained.order)

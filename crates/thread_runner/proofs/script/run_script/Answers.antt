@@ -1,4 +1,4 @@
-use Rattle.std.proofs.Common.{◌≡◌, ℕ, ◌+◌, ◌<◌, ◌≤◌, [], ◌∷◌, ◌++◌, get_or, length, Some, Ok, Err, slice_get, refl, inl, inr, ◌∙◌, ap, arith, subst, sym, rules}
+use Rattle.std.proofs.Common.{◌≡◌, ℕ, ◌+◌, ◌<◌, ◌≤◌, [], ◌∷◌, ◌++◌, get_or, length, Option, Some, Ok, Err, slice_get, refl, inl, inr, ◌∙◌, ap, arith, subst, sym, rules}
 use Rattle.std.specs.Prelude.{All}
 use Rattle.std.proofs.lemmas.List.Elements.{All-nil}
 use Rattle.std.proofs.lemmas.List.{length_push}
@@ -6,7 +6,8 @@ use Rattle.std.proofs.lemmas.Option.{slice_get_read}
 use Rattle.script_calls.specs.declared.call.Reply.{Reply}
 use Rattle.sync_types.specs.BoundedSeq.{Bounded}
 use Rattle.sync_model.specs.declared.answer.Answer.TheVariants.{Done, Halted}
-use Rattle.sync_model.specs.Shared.{items_of}
+use Rattle.sync_model.specs.Note.{Holding}
+use Rattle.sync_model.specs.Shared.{IsHeldBy, items_of}
 use Rattle.protocols.specs.Spelling.{CallAnswer}
 use Rattle.run_record.specs.Calls.{SpellsCall}
 use Rattle.run_record.specs.Limits.{IsCallOf}
@@ -46,7 +47,7 @@ returns-in-Some-Done-Err-clause-line g c =
     let start = desk_with mark.own mark.front (owns_of c.args.passes.now) c.args.caller.now.note in
     let now = desk_with mark.own mark.front (owns_of c.loop-index.passes) c.loop-index.caller.note in
     let new = desk_with mark.own mark.front (owns_of c.make_call-answer.new.passes) c.make_call-answer.new.caller.note in
-    let last = desk_with mark.own mark.front (owns_of c.halt_all.new.passes) c.make_call-answer.new.caller.note in
+    let last = desk_with mark.own mark.front (owns_of c.halt_all.new.passes) c.halt_all.new.note in
     let within : c.loop-index.index < length script = search rules in
     let at : slice_get script c.loop-index.index ≡ Some c.index-script-index.result = slice_get_read script (length script) c.loop-index.index c.index-script-index.result refl within (c.index-script-index.is ∙ ap (λ calls. get_or calls c.loop-index.index c.index-script-index.result) c.script-script.ensures.script) in
     let Made : CallAnswer (Reply ℕ) → Type 0 = λ answer. Works (SpellsCall plan number (length (items_of (mark.own c.loop-index.caller.note))) c.index-script-index.result) now answer new in
@@ -110,7 +111,7 @@ returns-clause-line g c =
 
 pub returns-in-Some-Done-Err-clause-held : goal.returns-in-Some-Done-Err-clause-held
 returns-in-Some-Done-Err-clause-held g c number of =
-    held_behind g.S.Mark.Note.own (cost_of_call c.index-script-index.result) c.loop-index.caller.note c.make_call-answer.new.caller.note c.make_call-answer.ensures.spends number (c.loop-index.invariant.held number of)
+    subst (IsHeldBy number) (sym c.halt_all.ensures.note.kept) (held_behind g.S.Mark.Note.own (cost_of_call c.index-script-index.result) c.loop-index.caller.note c.make_call-answer.new.caller.note c.make_call-answer.ensures.spends number (c.loop-index.invariant.held number of))
 
 pub returns-in-Some-Halted-clause-held : goal.returns-in-Some-Halted-clause-held
 returns-in-Some-Halted-clause-held g c number of =
@@ -127,7 +128,9 @@ pub returns-in-None-clause-calls : goal.returns-in-None-clause-calls
 returns-in-None-clause-calls g c = all_behind c.args.site.now.catalog.workload.now _ _ c.loop-index.invariant.calls c.make_call-answer.ensures.calls
 
 pub returns-in-Some-Done-Err-clause-calls : goal.returns-in-Some-Done-Err-clause-calls
-returns-in-Some-Done-Err-clause-calls g c = all_behind c.args.site.now.catalog.workload.now _ _ c.loop-index.invariant.calls c.make_call-answer.ensures.calls
+returns-in-Some-Done-Err-clause-calls g c =
+    let plan = c.args.site.now.catalog.workload.now in
+    subst (λ (o : Option Holding). All (λ x. IsCallOf plan x.call) (items_of o)) (sym c.halt_all.ensures.note.kept) (all_behind plan _ _ c.loop-index.invariant.calls c.make_call-answer.ensures.calls)
 
 pub returns-in-Some-Halted-clause-calls : goal.returns-in-Some-Halted-clause-calls
 returns-in-Some-Halted-clause-calls g c = all_behind c.args.site.now.catalog.workload.now _ _ c.loop-index.invariant.calls c.make_call-answer.ensures.calls
