@@ -58,7 +58,8 @@ where
 /// hash tries and its atomics words, in one table: loads, walks over a map and calls on atomics wait for nobody. Each call
 /// passes the gate before and after. All memory is taken before the first start.
 ///
-/// The outcome is explained by one record, all of whose events stand in one order. A run that is misused tells the first misuse; none is told to be deadlocked.
+/// The outcome is explained by one record, whose events stand in one order. A run that is misused tells the first misuse; none
+/// is told to be deadlocked.
 ///
 /// # Errors
 ///
