@@ -1,4 +1,4 @@
-use Rattle.std.proofs.Common.{◌≡◌, ◌<◌, length, refl, sym, ◌∙◌, arith, le_refl}
+use Rattle.std.proofs.Common.{◌≡◌, ◌<◌, refl, sym, ◌∙◌, arith, le_refl}
 use Rattle.go_pool.proofs.FirstHalts.{halt_by, none_halted, halted_on, all_halted, later_so}
 use Rattle.go_pool.proofs.Seats.{seat_numbers}
 use Rattle.go_pool.proofs.pool.Pool.halt.Goals as goal
