@@ -8,6 +8,7 @@ use Rattle.script_calls.specs.declared.outcome.Report.{Report}
 use Rattle.workload.specs.Plan.{Plan}
 use Rattle.workload.specs.Reads.{Reads}
 use Rattle.run_record.specs.Explains.{Explains}
+use Rattle.run_record.specs.InOneOrder.{InOneOrder}
 use Rattle.run_record.specs.Record.{Record}
 use Rattle.gosync_call.specs.declared.status.Ending.{Ending}
 use Rattle.gosync_call.specs.declared.status.Ending.TheVariants as endings
@@ -129,24 +130,24 @@ module _ (plan : Plan) (old new : Option (List ℕ)) where
   fails_by_record ran ran_now faults.Memory fails = fails
 
   by_done : (outcome : Outcome) → RunsTo plan outcome → endings.Done ≡ ending_of outcome → Appends old new (report_text plan outcome)
-      → (left : Report) × (r : Record) × Explains plan (outcomes.Done left) r × Appends old new (report_text plan (outcomes.Done left))
-  by_done (outcomes.Done left) runs is appends = (left, runs.0, runs.1, appends)
+      → (left : Report) × (r : Record) × Explains plan (outcomes.Done left) r × InOneOrder r × Appends old new (report_text plan (outcomes.Done left))
+  by_done (outcomes.Done left) runs is appends = (left, runs.0, runs.1, runs.2, appends)
   by_done (outcomes.Misused left misuse) runs is appends = absurd (not_misused misuse is)
   by_done (outcomes.Deadlocked left) runs is appends = absurd (not_deadlocked is)
 
   -- how a run ended that a record explains
-  pub done_left : EndsWithReport RunsTo plan old new endings.Done → (left : Report) × (r : Record) × Explains plan (outcomes.Done left) r × Appends old new (report_text plan (outcomes.Done left))
+  pub done_left : EndsWithReport RunsTo plan old new endings.Done → (left : Report) × (r : Record) × Explains plan (outcomes.Done left) r × InOneOrder r × Appends old new (report_text plan (outcomes.Done left))
   done_left ends = by_done ends.0 ends.1 ends.2 ends.3
 
   by_misused : (misuse : Misuse) (outcome : Outcome) → RunsTo plan outcome → endings.Misused misuse ≡ ending_of outcome → Appends old new (report_text plan outcome)
-      → (left : Report) × (r : Record) × Explains plan (outcomes.Misused left misuse) r × Appends old new (report_text plan (outcomes.Misused left misuse))
+      → (left : Report) × (r : Record) × Explains plan (outcomes.Misused left misuse) r × InOneOrder r × Appends old new (report_text plan (outcomes.Misused left misuse))
   by_misused misuse (outcomes.Done left) runs is appends = absurd (misused_not_done misuse is)
   by_misused misuse (outcomes.Misused left other) runs is appends =
-      subst (λ (m : Misuse). (l : Report) × (r : Record) × Explains plan (outcomes.Misused l m) r × Appends old new (report_text plan (outcomes.Misused l m))) (sym (same_misuse misuse other is)) (left, runs.0, runs.1, appends)
+      subst (λ (m : Misuse). (l : Report) × (r : Record) × Explains plan (outcomes.Misused l m) r × InOneOrder r × Appends old new (report_text plan (outcomes.Misused l m))) (sym (same_misuse misuse other is)) (left, runs.0, runs.1, runs.2, appends)
   by_misused misuse (outcomes.Deadlocked left) runs is appends = absurd (misused_not_deadlocked misuse is)
 
   pub misused_left : (misuse : Misuse) → EndsWithReport RunsTo plan old new (endings.Misused misuse)
-      → (left : Report) × (r : Record) × Explains plan (outcomes.Misused left misuse) r × Appends old new (report_text plan (outcomes.Misused left misuse))
+      → (left : Report) × (r : Record) × Explains plan (outcomes.Misused left misuse) r × InOneOrder r × Appends old new (report_text plan (outcomes.Misused left misuse))
   misused_left misuse ends = by_misused misuse ends.0 ends.1 ends.2 ends.3
 
 -- what is said behind a run needs no file

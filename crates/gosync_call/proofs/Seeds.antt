@@ -5,6 +5,7 @@ use Rattle.std.specs.Prelude.{count_by, sum_by, length}
 use Rattle.made_workload.specs.Runs.{five_lines, is_key, number_in, value_in}
 use Rattle.made_workload.specs.TotalsOf.{totals_of}
 use Rattle.run_record.specs.Explains.{Explains}
+use Rattle.run_record.specs.InOneOrder.{InOneOrder}
 use Rattle.run_record.specs.Record.{Record}
 use Rattle.script_calls.specs.declared.outcome.Outcome.{Outcome}
 use Rattle.script_calls.specs.declared.outcome.Outcome.TheVariants as outcomes
@@ -38,7 +39,7 @@ Law = (seed : ℕ) (outcome : Outcome) (r : Record) → Explains (generated_plan
 abbrev pub IsSummed : ℕ → Outcome → Type 0
 IsSummed seed outcome = (left : Report) × (outcome ≡ outcomes.Done left) × (five_lines left ≡ summary_text (summary seed))
 
-pub summed : (seed : ℕ) (plan : Plan) (outcome : Outcome) → Law → plan ≡ generated_plan seed → ((r : Record) × Explains plan outcome r) → IsSummed seed outcome
+pub summed : (seed : ℕ) (plan : Plan) (outcome : Outcome) → Law → plan ≡ generated_plan seed → ((r : Record) × Explains plan outcome r × InOneOrder r) → IsSummed seed outcome
 summed seed plan outcome law is explained = law seed outcome explained.0 (subst (λ (p : Plan). Explains p outcome explained.0) is explained.1)
 
 same_left : (x y : Report) → outcomes.Done x ≡ outcomes.Done y → y ≡ x

@@ -1,4 +1,4 @@
--- The headline: what a run with a thread for each worker writes is explained by one legal history.
+-- The headline: what a run with a thread for each worker writes is explained by one legal history, and its events stand in one order.
 --
 -- For every workload and interleaving in which the run returns there is one record that explains what is written: one
 -- history of all maps and atomics, one journal of each other object, and one list of what each worker made (`Record`).
@@ -10,6 +10,9 @@
 -- * each other object's journal follows its machine, and an acquiring entry knows what each releasing entry before it knew (`IsJournalOf`);
 -- * the run is done where each script is at its end, and then the ends are what stands after the whole history; else it was
 --   misused, and the misuse is the first that halted it (`Agrees`).
+--
+-- And `InOneOrder` says that each event on an object other than a map or an atomic has a number, which rises along each journal and
+-- along each worker's list: so no circle of such events leads from one to the next by journals and lists.
 use Rattle.std.specs.Prelude.{◌≡◌, ℕ, List, Option, Some, slice_get}
 use Rattle.sync_outside.specs.Faults.{RoseBy}
 use Rattle.script_calls.specs.declared.outcome.Outcome.{Outcome}
@@ -17,13 +20,14 @@ use Rattle.sync_types.specs.declared.misuse.Misuse.{Misuse}
 use Rattle.workload.specs.Plan.{Plan}
 use Rattle.run_record.specs.Record.{Record}
 use Rattle.run_record.specs.Explains.{Explains}
+use Rattle.run_record.specs.InOneOrder.{InOneOrder}
 use Rattle.run_record.specs.Lines.{Line, misused}
 use Rattle.gosync_call.specs.declared.status.Status.{Status}
 use Rattle.gosync_call.specs.ComesTo.{ComesTo}
 
--- a run with threads comes to this outcome of a workload: one record explains it
+-- a run with threads comes to this outcome of a workload: one record explains it, and all its events stand in one order
 abbrev pub RunsTo : Plan → Outcome → Type 0
-RunsTo plan outcome = (r : Record) × Explains plan outcome r
+RunsTo plan outcome = (r : Record) × Explains plan outcome r × InOneOrder r
 
 -- the headline, of the bytes of a file, where they are told, of what was written before and after, and of the program's status
 abbrev pub Headline : Option (List ℕ) → Option (List ℕ) → Option (List ℕ) → Status → Type 0

@@ -17,6 +17,7 @@ ghost use Rattle.script_calls.specs.declared.outcome.Outcome.{Outcome};
 ghost use Rattle.script_calls.specs.declared.outcome.Outcome.TheVariants as outcomes;
 ghost use Rattle.sync_types.specs.declared.misuse.Misuse.{Misuse};
 ghost use Rattle.run_record.specs.Explains.{Explains};
+ghost use Rattle.run_record.specs.InOneOrder.{InOneOrder};
 ghost use Rattle.run_record.specs.Record.{Record};
 ghost use Rattle.gosync_call.specs.ComesTo.{ComesTo, EndsWithReport, IsReadFromFile};
 ghost use Rattle.gosync_call.specs.Headline.{Headline, HasMet, RunsTo};
@@ -47,18 +48,18 @@ pub fn a_run_by_schedule_is_computed()
 }
 
 /// What the headline says in short, where all is written. A run with threads that ends done answered each call of each script once.
-/// One that ends misused tells a misuse that some worker met. None is told to be deadlocked. Where the bytes are told, all
-/// this is so of the workload that they are read as.
+/// One that ends misused tells a misuse that some worker met. None is told to be deadlocked. The events of each stand in
+/// one order. Where the bytes are told, all this is so of the workload that they are read as.
 pub fn a_run_with_threads_is_explained()
     ensures done { (told old new : Option (List ℕ)) → Headline told old new (statuses.Ended endings.Done)
-        → (plan : Plan) × (left : Report) × (r : Record) × IsReadFromFile told plan × Explains plan (outcomes.Done left) r × (map length left.replies ≡ map length plan.scripts) × Appends old new (report_text plan (outcomes.Done left)) }
+        → (plan : Plan) × (left : Report) × (r : Record) × IsReadFromFile told plan × Explains plan (outcomes.Done left) r × InOneOrder r × (map length left.replies ≡ map length plan.scripts) × Appends old new (report_text plan (outcomes.Done left)) }
     ensures misused { (told old new : Option (List ℕ)) (misuse : Misuse) → Headline told old new (statuses.Ended (endings.Misused misuse))
-        → (plan : Plan) × (left : Report) × (r : Record) × IsReadFromFile told plan × HasMet plan (outcomes.Misused left misuse) r misuse × Appends old new (report_text plan (outcomes.Misused left misuse)) }
+        → (plan : Plan) × (left : Report) × (r : Record) × IsReadFromFile told plan × HasMet plan (outcomes.Misused left misuse) r misuse × InOneOrder r × Appends old new (report_text plan (outcomes.Misused left misuse)) }
     ensures never_deadlocked { (told old new : Option (List ℕ)) → Headline told old new (statuses.Ended endings.Deadlocked) → ⊥ }
     ensures told { (bytes : List ℕ) (plan : Plan) (old new : Option (List ℕ)) (ending : Ending) → Reads bytes plan → Headline (Some bytes) old new (statuses.Ended ending)
         → EndsWithReport RunsTo plan old new ending }
     ensures failed { (bytes : List ℕ) (plan : Plan) (old new : Option (List ℕ)) → Reads bytes plan → Headline (Some bytes) old new (statuses.Failed faults.CannotWrite)
-        → (outcome : Outcome) × (r : Record) × Explains plan outcome r × AppendsFront old new (report_text plan outcome) }
+        → (outcome : Outcome) × (r : Record) × Explains plan outcome r × InOneOrder r × AppendsFront old new (report_text plan outcome) }
 {
     a_run_is_done_unless_it_was_misused();
     a_run_that_is_done_answers_each_call();

@@ -3,6 +3,7 @@ use Rattle.sync_outside.specs.Bytes.{AppendsFront}
 use Rattle.script_calls.specs.declared.outcome.Outcome.{Outcome}
 use Rattle.workload.specs.Plan.{Plan}
 use Rattle.run_record.specs.Explains.{Explains}
+use Rattle.run_record.specs.InOneOrder.{InOneOrder}
 use Rattle.run_record.specs.Record.{Record}
 use Rattle.gosync_call.specs.ReportText.{report_text}
 use Rattle.gosync_call.specs.ComesTo.{EndsWithReport}
@@ -16,16 +17,16 @@ returns-clause-told c bytes plan old new ending reads comes = subst (λ (p : Pla
 pub returns-clause-done : goal.returns-clause-done
 returns-clause-done c told old new comes =
     let left = done_left comes.0 old new comes.2 in
-    (comes.0, left.0, left.1, comes.1, left.2, c.a_run_that_is_done_answers_each_call.ensures comes.0 left.1 left.0 left.2, left.3)
+    (comes.0, left.0, left.1, comes.1, left.2, left.3, c.a_run_that_is_done_answers_each_call.ensures comes.0 left.1 left.0 left.2, left.4)
 
 pub returns-clause-misused : goal.returns-clause-misused
 returns-clause-misused c told old new misuse comes =
     let left = misused_left comes.0 old new misuse comes.2 in
     let met = c.a_run_is_done_unless_it_was_misused.ensures.misused comes.0 left.1 left.0 misuse left.2 in
-    (comes.0, left.0, left.1, comes.1, (left.2, met.0, met.1, met.2, met.3), left.3)
+    (comes.0, left.0, left.1, comes.1, (left.2, met.0, met.1, met.2, met.3), left.3, left.4)
 
 pub returns-clause-failed : goal.returns-clause-failed
 returns-clause-failed c bytes plan old new reads comes =
     let failed = comes.2 in
-    subst (λ (p : Plan). (outcome : Outcome) × (r : Record) × Explains p outcome r × AppendsFront old new (report_text p outcome))
-    (plan_is bytes plan (Some bytes) c.one_reading.ensures comes.0 refl reads comes.1) (failed.0, failed.1.0, failed.1.1, failed.2)
+    subst (λ (p : Plan). (outcome : Outcome) × (r : Record) × Explains p outcome r × InOneOrder r × AppendsFront old new (report_text p outcome))
+    (plan_is bytes plan (Some bytes) c.one_reading.ensures comes.0 refl reads comes.1) (failed.0, failed.1.0, failed.1.1, failed.1.2, failed.2)
