@@ -18,7 +18,7 @@ pub fn new_cond(alloc: Global, threads: u32) -> Result<(Cond<NoNote>, CondPasses
     requires { (0 < threads) × (threads ≤ 64) }
     ensures { IfOk result (λ made. All (IsPassOf made.0) made.1.items) }
 {
-    let (cond, passes) = Cond::new(alloc, threads, MAX_CALLS, NoNote)?;
+    let (cond, passes) = Cond::new(alloc, threads, MAX_CALLS, NoNote::new())?;
     Ok((cond, passes))
 }
 

@@ -23,7 +23,7 @@ pub fn new_group(
     requires start { (pos 0 ≤ℤ start) × (start ≤ℤ pos 10000) }
     ensures { IfOk result (λ made. All (IsPassOf made.0) made.1.items) }
 {
-    let (group, passes) = WaitGroup::new(alloc, threads, MAX_CALLS, start, NoNote)?;
+    let (group, passes) = WaitGroup::new(alloc, threads, MAX_CALLS, start, NoNote::new())?;
     Ok((group, passes))
 }
 

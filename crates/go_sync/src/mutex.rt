@@ -19,7 +19,7 @@ pub fn new_mutex(alloc: Global, threads: u32) -> Result<(Mutex<NoNote>, MutexPas
     requires { (0 < threads) × (threads ≤ 64) }
     ensures { IfOk result (λ made. All (IsPassOfMutex made.0) made.1.items) }
 {
-    let (mutex, passes) = Mutex::new(alloc, threads, MAX_CALLS, NoNote)?;
+    let (mutex, passes) = Mutex::new(alloc, threads, MAX_CALLS, NoNote::new())?;
     Ok((mutex, passes))
 }
 

@@ -18,7 +18,7 @@ pub fn new_once(alloc: Global, threads: u32) -> Result<(Once<(), NoNote>, OncePa
     requires { (0 < threads) × (threads ≤ 64) }
     ensures { IfOk result (λ made. All (IsPassOf made.0) made.1.items) }
 {
-    let (once, passes) = Once::new(alloc, threads, MAX_CALLS, NoNote)?;
+    let (once, passes) = Once::new(alloc, threads, MAX_CALLS, NoNote::new())?;
     Ok((once, passes))
 }
 

@@ -18,7 +18,7 @@ pub fn new_rw_mutex(alloc: Global, threads: u32) -> Result<(RwMutex<NoNote>, RwP
     requires { (0 < threads) × (threads ≤ 64) }
     ensures { IfOk result (λ made. All (IsPassOfRwMutex made.0) made.1.items) }
 {
-    let (lock, passes) = RwMutex::new(alloc, threads, MAX_CALLS, NoNote)?;
+    let (lock, passes) = RwMutex::new(alloc, threads, MAX_CALLS, NoNote::new())?;
     Ok((lock, passes))
 }
 

@@ -37,7 +37,8 @@ impl<C: Clock> CondCaller<'_, C> {
             home: &(),
             clock: self.clock,
         };
-        self.cond.signal(rt, &at, &mut self.pass, &mut NoNote)
+        self.cond
+            .signal(rt, &at, &mut self.pass, &mut NoNote::new())
     }
 
     /// Go's `Broadcast`: wakes all threads that wait. The caller may hold the mutex, and needn't.
@@ -50,7 +51,8 @@ impl<C: Clock> CondCaller<'_, C> {
             home: &(),
             clock: self.clock,
         };
-        self.cond.broadcast(rt, &at, &mut self.pass, &mut NoNote)
+        self.cond
+            .broadcast(rt, &at, &mut self.pass, &mut NoNote::new())
     }
 
     /// Go's `Wait`: unlocks the mutex, sleeps until a signal or a broadcast wakes it, and locks the mutex again. The caller holds
@@ -73,7 +75,7 @@ impl<C: Clock> CondCaller<'_, C> {
             rt,
             &at,
             &mut self.pass,
-            &mut NoNote,
+            &mut NoNote::new(),
             mutex.mutex,
             &mut mutex.pass,
         )

@@ -36,7 +36,8 @@ impl<C: Clock> GroupCaller<'_, C> {
             home: &(),
             clock: self.clock,
         };
-        self.group.add(rt, &at, &mut self.pass, &mut NoNote, delta)
+        self.group
+            .add(rt, &at, &mut self.pass, &mut NoNote::new(), delta)
     }
 
     /// Go's `Done`: takes 1 from the counter.
@@ -56,6 +57,6 @@ impl<C: Clock> GroupCaller<'_, C> {
             home: &(),
             clock: self.clock,
         };
-        self.group.wait(rt, &at, &mut self.pass, &mut NoNote)
+        self.group.wait(rt, &at, &mut self.pass, &mut NoNote::new())
     }
 }

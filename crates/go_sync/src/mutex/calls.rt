@@ -36,7 +36,7 @@ impl<C: Clock> MutexCaller<'_, C> {
             home: &(),
             clock: self.clock,
         };
-        self.mutex.lock(rt, &at, &mut self.pass, &mut NoNote)
+        self.mutex.lock(rt, &at, &mut self.pass, &mut NoNote::new())
     }
 
     /// Go's `Lock`, by a try first: where the mutex is free no clock is read.
@@ -59,7 +59,8 @@ impl<C: Clock> MutexCaller<'_, C> {
             home: &(),
             clock: self.clock,
         };
-        self.mutex.try_lock(rt, &at, &mut self.pass, &mut NoNote)
+        self.mutex
+            .try_lock(rt, &at, &mut self.pass, &mut NoNote::new())
     }
 
     /// Go's `Unlock`. Of a mutex that isn't locked it is a misuse, which it answers, and nothing changes.
@@ -72,6 +73,7 @@ impl<C: Clock> MutexCaller<'_, C> {
             home: &(),
             clock: self.clock,
         };
-        self.mutex.unlock(rt, &at, &mut self.pass, &mut NoNote)
+        self.mutex
+            .unlock(rt, &at, &mut self.pass, &mut NoNote::new())
     }
 }

@@ -42,6 +42,6 @@ impl<C: Clock> OnceCaller<'_, C> {
             clock: self.clock,
         };
         self.once
-            .do_once(rt, &at, &mut self.pass, &mut NoNote, function)
+            .do_once(rt, &at, &mut self.pass, &mut NoNote::new(), function)
     }
 }

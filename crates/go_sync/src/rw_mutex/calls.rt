@@ -37,7 +37,8 @@ impl<C: Clock> RwCaller<'_, C> {
             home: &(),
             clock: self.clock,
         };
-        self.lock.r_lock(rt, &at, &mut self.pass, &mut NoNote)
+        self.lock
+            .r_lock(rt, &at, &mut self.pass, &mut NoNote::new())
     }
 
     /// Go's `TryRLock`: whether the caller holds the lock, beside other readers. It does where no writer holds it or waits.
@@ -50,7 +51,8 @@ impl<C: Clock> RwCaller<'_, C> {
             home: &(),
             clock: self.clock,
         };
-        self.lock.try_r_lock(rt, &at, &mut self.pass, &mut NoNote)
+        self.lock
+            .try_r_lock(rt, &at, &mut self.pass, &mut NoNote::new())
     }
 
     /// Go's `RUnlock`. Of a lock that no reader holds it is a misuse, which it answers, and nothing changes.
@@ -63,7 +65,8 @@ impl<C: Clock> RwCaller<'_, C> {
             home: &(),
             clock: self.clock,
         };
-        self.lock.r_unlock(rt, &at, &mut self.pass, &mut NoNote)
+        self.lock
+            .r_unlock(rt, &at, &mut self.pass, &mut NoNote::new())
     }
 
     /// Go's `Lock`: waits until the caller holds the lock, with nobody beside it.
@@ -76,7 +79,7 @@ impl<C: Clock> RwCaller<'_, C> {
             home: &(),
             clock: self.clock,
         };
-        self.lock.lock(rt, &at, &mut self.pass, &mut NoNote)
+        self.lock.lock(rt, &at, &mut self.pass, &mut NoNote::new())
     }
 
     /// Go's `TryLock`: whether the caller holds the lock, with nobody beside it. It does where nobody else does or waits to write.
@@ -89,7 +92,8 @@ impl<C: Clock> RwCaller<'_, C> {
             home: &(),
             clock: self.clock,
         };
-        self.lock.try_lock(rt, &at, &mut self.pass, &mut NoNote)
+        self.lock
+            .try_lock(rt, &at, &mut self.pass, &mut NoNote::new())
     }
 
     /// Go's `Unlock`. Of a lock that no writer holds it is a misuse, which it answers, and nothing changes.
@@ -102,6 +106,7 @@ impl<C: Clock> RwCaller<'_, C> {
             home: &(),
             clock: self.clock,
         };
-        self.lock.unlock(rt, &at, &mut self.pass, &mut NoNote)
+        self.lock
+            .unlock(rt, &at, &mut self.pass, &mut NoNote::new())
     }
 }
