@@ -37,7 +37,12 @@ fn the_first_halt_is_kept(rt: HostRuntime) -> Result<(), Fail> {
     let (object, mut first, mut second) = duo::<Fragile>(rt.alloc(), 0)?;
     let mut note = knows(0);
     object.call(&rt, &(), &mut first, &mut note, 3);
-    object.halt(&rt, &mut second, &mut note, Misuse::NegativeWaitGroupCounter);
+    object.halt(
+        &rt,
+        &mut second,
+        &mut note,
+        Misuse::NegativeWaitGroupCounter,
+    );
     object.halt(&rt, &mut first, &mut note, Misuse::WaitGroupReused);
     let answer = object.call(&rt, &(), &mut first, &mut note, 4);
     assert!(rt; answer == Answer::Halted(Misuse::NegativeWaitGroupCounter));
