@@ -1,4 +1,7 @@
 //! The calls that a script makes, by kind of object.
+ghost use Rattle.std.specs.Prelude.{◌≡◌, ◌<◌, ◌^◌, false};
+ghost use Rattle.script_calls.specs.Runs.{passed_over, is_test};
+
 use sync_types::atomic_object::{AtomicCall, AtomicReply};
 use sync_types::lock_call::{LockReply, MutexCall, RwMutexCall};
 use sync_types::map_object::{MapCall, MapReply};
@@ -64,4 +67,14 @@ pub enum Reply<K> {
     OnceValue(u64),
     /// The reply of a pool.
     Pool(PoolCallReply),
+}
+
+impl Call {
+    /// How many of the next calls are passed over behind this one with this reply.
+    pub fn passed_over<K>(&self, _reply: &Reply<K>) -> usize
+        ensures passes { result ≡ passed_over self.now _reply.now }
+        ensures few { result < 2 ^ 32 }
+    {
+        0
+    }
 }
