@@ -13,10 +13,11 @@ use crate::line::Line;
 use crate::object::{Declared, ObjectLine, ObjectWord};
 use crate::turn::Turn;
 use crate::workload::Workload;
+use name_table::NameTable;
 use script_calls::{Call, Operation};
 use std::alloc::{AllocError, Global};
 use std::marker::Model;
-use sync_types::{ByName, Name, Seq};
+use sync_types::{Name, Seq};
 
 /// The workload that the lines so far say, the worker whose calls follow, and tables of the names
 /// and keys, so that no look-up scans a list.
@@ -27,8 +28,8 @@ pub struct Draft {
     scripts: Seq<Seq<Call>>,
     schedule: Seq<Turn>,
     current: Option<u32>,
-    names: ByName<Declared>,
-    keys: ByName<()>,
+    names: NameTable<Declared>,
+    keys: NameTable<()>,
     calls: usize,
     ranges: usize,
 }
@@ -93,7 +94,7 @@ fn limit(word: ObjectWord) -> usize
 }
 
 /// Adds a key, unless it is there.
-fn insert_key(alloc: Global, keys: &mut ByName<()>, key: &[u8]) -> Result<(), AllocError>
+fn insert_key(alloc: Global, keys: &mut NameTable<()>, key: &[u8]) -> Result<(), AllocError>
     requires { is_name key.now ≡ true }
     ensures { OnOk result (keys.new ≡ insert keys.old key.now tt) }
 {
@@ -104,7 +105,7 @@ fn insert_key(alloc: Global, keys: &mut ByName<()>, key: &[u8]) -> Result<(), Al
 }
 
 /// Adds the key of a call, if it has one.
-fn insert_keys(alloc: Global, keys: &mut ByName<()>, call: &Call) -> Result<(), AllocError>
+fn insert_keys(alloc: Global, keys: &mut NameTable<()>, call: &Call) -> Result<(), AllocError>
     ensures { OnOk result (keys.new ≡ with_keys keys.old (keys_of call.now)) }
 {
     match call_key(call) {
@@ -146,8 +147,8 @@ impl Draft {
             scripts: empty_scripts(alloc, workers)?,
             schedule: Seq::new(alloc),
             current: None,
-            names: ByName::new(alloc),
-            keys: ByName::new(alloc),
+            names: NameTable::new(alloc)?,
+            keys: NameTable::new(alloc)?,
             calls: 0,
             ranges: 0,
         })

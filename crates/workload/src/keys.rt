@@ -6,16 +6,17 @@ ghost use Rattle.workload.specs.Keys.{with_name, with_names, keys_in, number_in,
 ghost use Rattle.workload.specs.declared.limits.TheConstants.{MAX_KEYS};
 
 use crate::draft::call_key;
+use name_table::NameTable;
 use script_calls::Call;
 use std::alloc::{AllocError, Global};
 use std::marker::Model;
-use sync_types::{ByName, Name, Seq};
+use sync_types::{Name, Seq};
 
 /// Names, each with a number: its place among them, from 0. No two of them are the same.
 #[derive(Drop)]
 pub struct Keys {
     names: Seq<Name>,
-    numbers: ByName<u32>,
+    numbers: NameTable<u32>,
 }
 
 impl Model for Keys {
@@ -31,14 +32,14 @@ impl Model for Keys {
 }
 
 impl Keys {
-    /// No names, which takes no memory.
-    fn new(alloc: Global) -> Self
-        ensures { result ≡ [] }
+    /// No names.
+    fn new(alloc: Global) -> Result<Self, AllocError>
+        ensures { IfOk result (λ keys. keys ≡ []) }
     {
-        Keys {
+        Ok(Keys {
             names: Seq::new(alloc),
-            numbers: ByName::new(alloc),
-        }
+            numbers: NameTable::new(alloc)?,
+        })
     }
 
     /// Adds a name at the end, unless it is there.
@@ -87,7 +88,7 @@ impl Keys {
         requires { distinct_count (all_keys scripts.now) ≤ MAX_KEYS }
         ensures { IfOk result (λ keys. keys ≡ keys_in scripts.now) }
     {
-        let mut keys = Keys::new(alloc);
+        let mut keys = Keys::new(alloc)?;
         for script in scripts {
             keys = keys.insert_script(alloc, script.as_slice())?;
         }

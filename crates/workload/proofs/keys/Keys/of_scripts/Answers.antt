@@ -7,4 +7,4 @@ insert_script-requires c =
     rw c.as_slice.ensures (few_keys c.loop-script.keys c.args.scripts.now c.loop-script.script-index _ c.script-item.result c.loop-script-test.true c.script-item.is c.loop-script.invariant c.requires)
 
 pub loop-script-preserved : goal.loop-script-preserved
-loop-script-preserved c = rw (c.in_ok-keys.ensures, c.as_slice.ensures, add-one c.loop-script.script-index) (sym (with_script c.loop-script.keys c.args.scripts.now c.loop-script.script-index c.script-item.result c.loop-script-test.true c.script-item.is) ∙ c.loop-script.invariant)
+loop-script-preserved c = rw (c.in_ok-keys-2.ensures, c.as_slice.ensures, add-one c.loop-script.script-index) (sym (with_script c.loop-script.keys c.args.scripts.now c.loop-script.script-index c.script-item.result c.loop-script-test.true c.script-item.is) ∙ c.loop-script.invariant)
