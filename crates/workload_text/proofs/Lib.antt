@@ -4,3 +4,4 @@ mod Digits
 mod LineLemmas
 mod ReadLemmas
 pub mod CallWords
+mod ChainLemmas

@@ -7,7 +7,7 @@ ghost use Rattle.workload.specs.Reads.{Continues, IsRead, ReadsOn, Reads, IsFirs
 ghost use Rattle.workload.specs.declared.limits.TheConstants.{MAX_INPUT};
 
 use crate::reading::{read_line, read_workers};
-use crate::text::{is_clean, is_short, is_significant, split_line, words_of};
+use crate::text::{is_clean, is_short, is_significant, split_line, split_words};
 use std::alloc::Global;
 use workload::draft::Draft;
 use workload::fault::{LineFault, ParseFault};
@@ -49,12 +49,17 @@ fn check_line(line: &[u8]) -> Result<bool, LineFault>
     Ok(is_significant(line))
 }
 
-/// The draft behind a significant line.
-fn take_line(alloc: Global, before: Option<Draft>, line: &[u8]) -> Result<Option<Draft>, LineFault>
+/// The draft behind a significant line. Its words are cut into the list.
+fn take_line<'a>(
+    alloc: Global,
+    words: &mut Vec<&'a [u8]>,
+    before: Option<Draft>,
+    line: &'a [u8],
+) -> Result<Option<Draft>, LineFault>
     requires { IsSound line.now true }
     ensures { MatchResult result (IsRead before line.now) (IsFault (checks_of before line.now)) }
 {
-    let words = words_of(alloc, line)?;
+    split_words(words, line)?;
     let Some((word, arguments)) = words.split_first() else {
         return Ok(before);
     };
@@ -76,6 +81,7 @@ fn read_lines(alloc: Global, bytes: &[u8]) -> Result<Draft, ParseFault>
     requires { length bytes.now ≤ MAX_INPUT }
     ensures { MatchResult result (λ draft. ReadsOn (lines_of bytes.now) None draft.plan) (IsFirstFault (lines_of bytes.now)) }
 {
+    let mut words = Vec::new(alloc);
     let mut draft = None;
     let mut next: u32 = 1;
     let mut rest = bytes;
@@ -84,7 +90,7 @@ fn read_lines(alloc: Global, bytes: &[u8]) -> Result<Draft, ParseFault>
         match check_line(line) {
             Err(unsound) => return Err(at_line(next, unsound)),
             Ok(false) => {}
-            Ok(true) => match take_line(alloc, draft, line) {
+            Ok(true) => match take_line(alloc, &mut words, draft, line) {
                 Ok(after) => draft = after,
                 Err(fault) => return Err(at_line(next, fault)),
             },

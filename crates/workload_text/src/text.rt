@@ -1,8 +1,9 @@
 //! The lines of a text and the words of a line.
-ghost use Rattle.std.specs.Prelude.{◌≡◌, ◌≢◌, ℕ, ◌+◌, ◌<◌, ◌≤◌, ◌∷◌, map, length, slice_index, IfOk};
+ghost use Rattle.std.specs.Prelude.{◌≡◌, ◌≢◌, ℕ, ◌+◌, ◌<◌, ◌≤◌, ◌∷◌, map, length, slice_index, OnOk};
 ghost use Rattle.workload.specs.Lines.{lines_of, is_short, is_clean, words_of, is_significant};
 
-use std::alloc::{AllocError, Global};
+use memchr::memchr;
+use std::alloc::AllocError;
 use workload::limits::MAX_LINE;
 
 /// The index of the first line feed, or the text's length.
@@ -11,12 +12,7 @@ fn line_end(text: &[u8]) -> usize
     ensures before { (k : ℕ) → k < result → slice_index text.now k ≢ 10 }
     ensures found { result < length text.now → slice_index text.now result ≡ 10 }
 {
-    for (index, byte) in text.iter().enumerate() {
-        if *byte == b'\n' {
-            return index;
-        }
-    }
-    text.len()
+    memchr(b'\n', text).unwrap_or(text.len())
 }
 
 /// The first line of a text that isn't empty, and the text behind its line feed.
@@ -40,25 +36,26 @@ pub fn is_short(line: &[u8]) -> bool
     line.len() <= MAX_LINE
 }
 
-/// Whether each byte is a space to a tilde.
+/// Whether each byte is a space to a tilde. It looks at all of them, many at once.
 pub fn is_clean(line: &[u8]) -> bool
     ensures { result ≡ is_clean line.now }
 {
+    let mut clean = true;
     for byte in line {
-        if !(b' ' <= *byte && *byte <= b'~') {
-            return false;
-        }
+        clean = clean & (b' ' <= *byte) & (*byte <= b'~');
     }
-    true
+    clean
 }
 
-/// The runs of bytes other than space.
-pub fn words_of(alloc: Global, line: &[u8]) -> Result<Vec<&[u8]>, AllocError>
-    ensures { IfOk result (λ words. map (λ word. word.now) words.items ≡ words_of line.now) }
+/// Sets a list to the runs of bytes other than space, in the room that it has, where that suffices.
+pub fn split_words<'a>(words: &mut Vec<&'a [u8]>, line: &'a [u8]) -> Result<(), AllocError>
+    ensures { OnOk result (map (λ word. word.now) words.new.items ≡ words_of line.now) }
 {
-    line.split(|byte| *byte == b' ')
-        .filter(|word| !word.is_empty())
-        .collect(alloc)
+    words.clear();
+    words.extend(
+        line.split(|byte| *byte == b' ')
+            .filter(|word| !word.is_empty()),
+    )
 }
 
 /// Whether a line is significant: it has words, and the first doesn't begin with `#`.
