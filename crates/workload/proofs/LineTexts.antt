@@ -43,7 +43,7 @@ use Rattle.workload.specs.declared.line.Line.TheVariants as lines
 use Rattle.workload.specs.declared.turn.Turn.{Turn}
 use Rattle.workload.specs.declared.turn.Turn.TheVariants as turns
 use Rattle.workload.specs.KeywordWords.{object_word, verb_word}
-use Rattle.workload.specs.NumberWords.{number_word, is_passes}
+use Rattle.workload.specs.NumberWords.{number_word}
 use Rattle.workload.specs.CallWords.{group_operands, pool_operands, composed_operands, verb_of, operands_of, map_values, map_operands, atomic_operands}
 use Rattle.workload.specs.Words.{spelled, first_spelled, kind_parameters, turn_word}
 use Rattle.workload.specs.Plan.{word_of, is_amount, has_call}
