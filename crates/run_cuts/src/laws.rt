@@ -57,8 +57,9 @@ pub fn a_call_is_cut_as_it_is_spelt()
     ensures { (plan : Plan) (worker before : ℕ) (call : Call) → is_told call.operation ≡ true → Cuts (SpellsCall plan worker before call) (call_cut plan worker call) }
 {}
 
-/// Where each call of a script is cut as it is spelt, a list and the script are cut into one line: the calls that returned, and what
-/// stands behind them. What they are cut into is a line of them, and a line of them that has ended is what they are cut into. So it is of
+/// Where each call of a script is cut as it is spelt, a list and the script are cut into one line: the calls that returned, along a run
+/// of the script, and what stands behind them. What they are cut into is a line of them, and a line of them that has ended is what they
+/// are cut into. So it is of
 /// the list of each worker whose script has no `range`. A worker that hasn't ended may have made all the items of its last call, and not
 /// have returned from it. Its list is the same as if it had, so the list doesn't tell, and the function takes the call as done.
 pub fn a_list_is_cut_into_one_line()
