@@ -44,7 +44,7 @@ use Rattle.run_laws.specs.Locks.{keeps_lock, KeepsItsLocks}
 use Rattle.run_laws.proofs.EachOf.{each_left, each_right}
 use Rattle.run_laws.proofs.Holders.{IsUse, AreUses, OnlyHolder, is_misuse, journal_uses}
 use Rattle.run_laws.proofs.LockLines.{entries_append, entries_here, of_kind, deeds, line_turns}
-use Rattle.run_laws.proofs.PlainCalls.{PlainCall, on_map, on_range, on_atomic, on_mutex, IsOfKind, list_all_at, plain_call}
+use Rattle.run_laws.proofs.PlainCalls.{PlainCall, on_map, on_range, on_atomic, on_test, on_mutex, IsOfKind, list_all_at, plain_call}
 
 -- whether an answer is a misuse
 abbrev is_err : {O : Type 0} → CallAnswer O → Bool
@@ -134,6 +134,7 @@ module _ (keeps_valid : (s : State) (c : ℕ) (e : MutexEvent) → IsValid s →
   no_call worker line at call items before behind m is (on_map op kind asks one) = false≢true (sym (ap (is_err {O = Reply ℕ}) one.answers))
   no_call worker line at call items before behind m is (on_range kind asks cursor) = false≢true (sym (ap (is_err {O = Reply ℕ}) cursor.answers))
   no_call worker line at call items before behind m is (on_atomic type op kind asks one) = false≢true (sym (ap (is_err {O = Reply ℕ}) one.answers))
+  no_call worker line at call items before behind m is (on_test type value passes kind asks one) = false≢true (sym (ap (is_err {O = Reply ℕ}) one.answers))
   no_call worker line at call items before behind m is (on_mutex op kind asks (given, (entries, are_items, spelt), gives)) =
       let object = object_number call.object in
       let listed : AreUses (entries_in object (before ++ (items ++ behind))) = subst (λ (l : List Made). AreUses (entries_in object l)) is (subst AreUses (sym (lawful.once worker object)) (uses_by worker (journal_of r object) (uses call.object kind))) in

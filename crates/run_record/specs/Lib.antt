@@ -22,5 +22,6 @@ pub mod Record
 pub mod Returns
 pub mod Runs
 pub mod RwMutexKind
+pub mod Tests
 pub mod WaitGroupKind
 pub mod Waits
