@@ -212,6 +212,37 @@ fn ends_are_atomics_and_then_maps_in_order_of_declaration(rt: HostRuntime) -> Re
     Ok(())
 }
 
+// Two calls are passed over; all that are left; none, at the ends of each type's range.
+const TESTS: [(&str, &str); 5] = [
+    (
+        "workers 1\nint64 a\nworker 0\nifeq a 1 2\nstore a 5\nstore a 6\nifeq a 0 9\nadd a 3\n",
+        " false true 3 / 0=3",
+    ),
+    (
+        "workers 2\nbool b\nworker 0\nifeq b true 1000\nstore b true\nworker 1\nload b\n",
+        " false / false / 0=false",
+    ),
+    (
+        "workers 1\nint32 a\nint64 b\nworker 0\nstore a -2147483648\nstore b 9223372036854775807\nifeq a -2147483648 1\nifeq b 9223372036854775807 1\nload a\n",
+        " ok ok true true -2147483648 / 0=-2147483648 1=9223372036854775807",
+    ),
+    (
+        "workers 1\nuint32 a\nuint64 b\nworker 0\nstore a 4294967295\nstore b 18446744073709551615\nifeq a 4294967295 1\nifeq b 18446744073709551615 1\nload a\n",
+        " ok ok true true 4294967295 / 0=4294967295 1=18446744073709551615",
+    ),
+    (
+        "workers 2\nint64 a\nworker 0\nifeq a 0 1\nifeq a 0 2\nstore a 9\nstore a 8\nworker 1\nstore a 7\nschedule 0 1 0\n",
+        " true false / ok / 0=7",
+    ),
+];
+
+#[test]
+fn a_test_passes_calls_over(rt: HostRuntime) -> Result<(), Fail> {
+    let other = first_other(rt.alloc(), &TESTS)?;
+    assert!(rt; other.is_none(), "{other:?}");
+    Ok(())
+}
+
 const ABSENT: &str = "";
 
 const NAMED: &str = "store t k 5\n";

@@ -1,6 +1,6 @@
 //! Runs by schedule: what each call of each kind of object answers, and what is left.
 
-use crate::program::rows::{STEP, TWO_CALLS, first_other};
+use crate::program::rows::{STEP, TESTS, TWO_CALLS, first_other};
 use std::test::Fail;
 
 const RUNS: [(&str, &str); 5] = [
@@ -26,6 +26,12 @@ const RUNS: [(&str, &str); 5] = [
 #[test]
 fn a_text_is_run_and_reported(rt: HostRuntime) -> Result<(), Fail> {
     assert!(rt; first_other(&rt, rt.alloc(), STEP.words, &RUNS)? == None);
+    Ok(())
+}
+
+#[test]
+fn calls_are_passed_over(rt: HostRuntime) -> Result<(), Fail> {
+    assert!(rt; first_other(&rt, rt.alloc(), STEP.words, &TESTS)? == None);
     Ok(())
 }
 

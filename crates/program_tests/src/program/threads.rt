@@ -2,7 +2,7 @@
 
 use crate::program::endings::MISUSES;
 use crate::program::rows::{
-    Row, STEP, TWO_CALLS, comes_out, first_other, matches_row, run_by, run_through,
+    Row, STEP, TESTS, TWO_CALLS, comes_out, first_other, matches_row, run_by, run_through,
 };
 use std::sync::atomic::{AtomicU64, Ordering};
 use std::test::Fail;
@@ -46,6 +46,7 @@ const RUNS: [(&str, &str); 6] = [
 #[test]
 fn a_text_is_run_by_threads_and_reported(rt: HostRuntime) -> Result<(), Fail> {
     assert!(rt; first_other(&rt, rt.alloc(), RUN.words, &RUNS)? == None);
+    assert!(rt; first_other(&rt, rt.alloc(), RUN.words, &TESTS)? == None);
     Ok(())
 }
 
