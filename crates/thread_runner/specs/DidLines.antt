@@ -6,12 +6,8 @@ use Rattle.script_calls.specs.declared.call.Reply.{Reply}
 use Rattle.script_calls.specs.Runs.{RunsAlong}
 use Rattle.workload.specs.Plan.{Plan}
 use Rattle.run_record.specs.Explains.{HasEnded}
-use Rattle.run_record.specs.Lines.{Line, SpeltCall, items_of, replies_of, HaltsEach, AreSpelt, IsLineOf}
+use Rattle.run_record.specs.Lines.{Line, SpeltCall, calls_made, items_of, replies_of, HaltsEach, AreSpelt, IsLineOf}
 use Rattle.thread_objects.specs.Working.{Desk, Moves}
-
--- the calls of a line that were completed, each with its reply
-abbrev pub calls_made : Line → List (Call × Reply ℕ)
-calls_made line = map (λ spelt. (spelt.call, spelt.reply)) line.spelt
 
 -- the line is what the worker did, who has ended: it is the record's line along the worker's script, the replies are those of the calls that were completed, a misuse has halted Stop and then each object in order, and its items are all that the worker made
 pub record DidLine (plan : Plan) (worker : ℕ) (script : List Call) (replies : List (Reply ℕ)) (old new : Desk) (line : Line) : Type 0 where

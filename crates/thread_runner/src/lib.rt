@@ -12,6 +12,7 @@ pub mod fault;
 mod gather;
 mod halting;
 mod hire;
+mod if_equal;
 mod job;
 mod key_order;
 mod numbering;
