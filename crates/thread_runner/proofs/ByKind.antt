@@ -20,7 +20,7 @@ use Rattle.workload.specs.Plan.{Plan, has_call, is_on}
 use Rattle.workload.specs.declared.object.ObjectLine.{ObjectLine}
 use Rattle.workload.specs.Keys.{keys_in}
 use Rattle.run_record.specs.AtomicKind.{atomic_call}
-use Rattle.run_record.specs.Hanging.{if_equal_call}
+use Rattle.run_record.specs.Tests.{if_equal_call}
 use Rattle.run_record.specs.MapKind.{map_call, range_call}
 use Rattle.run_record.specs.Objects.{map_number, atomic_number, first_part}
 use Rattle.run_record.specs.PoolKind.{pool_call}

@@ -3,7 +3,7 @@ ghost use Rattle.std.specs.Prelude.{◌≡◌, ℕ, List};
 ghost use Rattle.sync_types.specs.declared.atomic_object.AtomicKind.{AtomicKind};
 ghost use Rattle.sync_model.specs.Shared.{IsCallerAt};
 ghost use Rattle.workload.specs.declared.object.ObjectKind.TheVariants.{Atomic};
-ghost use Rattle.run_record.specs.Hanging.{holds, if_equal_call};
+ghost use Rattle.run_record.specs.Tests.{holds, if_equal_call};
 ghost use Rattle.run_record.specs.Objects.{atomic_number};
 ghost use Rattle.run_record.specs.Parts.{with_outcome};
 ghost use Rattle.run_record.specs.Record.{ObjectEntry};
