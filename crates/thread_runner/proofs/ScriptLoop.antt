@@ -1,10 +1,10 @@
 -- What holds between two calls of a script.
-use Rattle.std.proofs.Common.{◌≡◌, ℕ, ◌+◌, ◌≤◌, List, ◌∷◌, length, drop, Option, Some, sym, ap, ◌∙◌, subst, arith}
+use Rattle.std.proofs.Common.{◌≡◌, ℕ, ◌+◌, ◌<◌, ◌≤◌, List, ◌∷◌, length, drop, get_or, Option, Some, slice_get, refl, sym, ap, ◌∙◌, subst, arith}
 use Rattle.std.specs.Prelude.{All, IfSome, IfNone, None, sum_by}
 use Rattle.std.proofs.lemmas.List.Elements.{All-append}
 use Rattle.std.specs.Option.{ForSome}
 use Rattle.std.proofs.lemmas.List.Sums.{sum_by-cons, sum_by-take-drop}
-use Rattle.std.proofs.lemmas.Option.{same_Some}
+use Rattle.std.proofs.lemmas.Option.{same_Some, slice_get_read}
 use Rattle.script_calls.specs.declared.call.Call.{Call}
 use Rattle.script_calls.specs.declared.call.Reply.{Reply}
 use Rattle.sync_model.specs.declared.caller.Caller.{Caller}
@@ -37,6 +37,23 @@ of_some o P x is holds = subst (λ r. IfSome r P) is holds
 
 pub of_none : {X : Type 0} (o : Option X) (P : Type 0) → o ≡ None → IfNone o P → P
 of_none o P is holds = subst (λ r. IfNone r P) is holds
+
+-- where a call stands at a place, the script from there on is the call and what is behind it
+abbrev pub StandsAt : Type 0
+StandsAt = (script : List Call) (place : ℕ) (call : Call) → slice_get script place ≡ Some call → drop place script ≡ call ∷ drop (place + 1) script
+
+-- the call that is read at a place of the script
+pub call_read : StandsAt → (script read : List Call) (place : ℕ) (call : Call) → place < length script → call ≡ get_or read place call → read ≡ script → drop place script ≡ call ∷ drop (place + 1) script
+call_read stands script read place call within is same = stands script place call (slice_get_read script (length script) place call refl within (is ∙ ap (λ calls. get_or calls place call) same))
+
+-- what is left behind a place and the calls that are passed over is the script from a later place on
+abbrev pub PassesOver : Type 0
+PassesOver = (script : List Call) (place passes : ℕ) → drop passes (drop (place + 1) script) ≡ drop (place + 1 + passes) script
+
+pub over_all : PassesOver → (script : List Call) (place passes count : ℕ) → count ≡ passes → drop passes (drop (place + 1) script) ≡ drop (place + (1 + count)) script
+over_all over script place passes count is =
+    let later : place + 1 + passes ≡ place + (1 + count) = omega (arith, is) in
+    over script place passes ∙ ap (λ n. drop n script) later
 
 -- what holds of a caller's calls holds still, where it makes only such calls
 pub all_behind : (plan : Plan) (old new : List Item) → All (λ x. IsCallOf plan x.call) old → MakesOnly (IsCallOf plan) old new → All (λ x. IsCallOf plan x.call) new

@@ -2,7 +2,6 @@ use Rattle.std.proofs.Common.{◌≡◌, ℕ, ◌+◌, ◌<◌, ◌≤◌, [], �
 use Rattle.std.specs.Prelude.{All}
 use Rattle.std.proofs.lemmas.List.Elements.{All-nil}
 use Rattle.std.proofs.lemmas.List.{length_push}
-use Rattle.std.proofs.lemmas.Option.{slice_get_read}
 use Rattle.script_calls.specs.declared.call.Reply.{Reply}
 use Rattle.script_calls.specs.Runs.{passed_over}
 use Rattle.sync_types.specs.BoundedSeq.{Bounded}
@@ -16,7 +15,7 @@ use Rattle.thread_objects.specs.Passes.{owns_of}
 use Rattle.thread_runner.specs.Sites.{cost_of_call, ranges_in_call}
 use Rattle.thread_objects.specs.Working.{Works, desk_with}
 use Rattle.thread_runner.specs.DidLines.{Went}
-use Rattle.thread_runner.proofs.ScriptLoop.{after_call, all_behind, held_behind, of_some, of_none}
+use Rattle.thread_runner.proofs.ScriptLoop.{after_call, all_behind, call_read, over_all, held_behind, of_some, of_none}
 use Rattle.thread_runner.proofs.LineSteps.{begun, went_on, ends_misused, ends_halted, ends_whole}
 use Rattle.thread_runner.proofs.script.run_script.Goals as goal
 
@@ -49,9 +48,7 @@ returns-in-Some-Done-Err-clause-line g c =
     let now = desk_with mark.own mark.front (owns_of c.loop-place.passes) c.loop-place.caller.note in
     let new = desk_with mark.own mark.front (owns_of c.make_call-answer.new.passes) c.make_call-answer.new.caller.note in
     let last = desk_with mark.own mark.front (owns_of c.halt_all.new.passes) c.halt_all.new.note in
-    let within : c.loop-place.place < length script = search rules in
-    let found : slice_get script c.loop-place.place ≡ Some c.index-script-place.result = slice_get_read script (length script) c.loop-place.place c.index-script-place.result refl within (c.index-script-place.is ∙ ap (λ calls. get_or calls c.loop-place.place c.index-script-place.result) c.script-script.ensures.script) in
-    let at = c.a_run_goes_along_by_places.ensures.at script c.loop-place.place c.index-script-place.result found in
+    let at = call_read c.a_run_goes_along_by_places.ensures.at script _ c.loop-place.place c.index-script-place.result (search rules) c.index-script-place.is c.script-script.ensures.script in
     let Made : CallAnswer (Reply ℕ) → Type 0 = λ answer. Works (SpellsCall plan number (length (items_of (mark.own c.loop-place.caller.note))) c.index-script-place.result) now answer new in
     let works = of_some c.make_call-answer.result Made (Done (Err c.in-Some-Done-Err.misuse)) (c.in-Some-Done-Err.is ∙ ap Some (c.in-Some-Done-Err.field-0-is ∙ ap Done c.in-Some-Done-Err.field-0-0-is)) c.make_call-answer.ensures.works in
     let halted = c.halt_all.ensures.halted in
@@ -67,9 +64,7 @@ returns-in-Some-Halted-clause-line g c =
     let start = desk_with mark.own mark.front (owns_of c.args.passes.now) c.args.caller.now.note in
     let now = desk_with mark.own mark.front (owns_of c.loop-place.passes) c.loop-place.caller.note in
     let new = desk_with mark.own mark.front (owns_of c.make_call-answer.new.passes) c.make_call-answer.new.caller.note in
-    let within : c.loop-place.place < length script = search rules in
-    let found : slice_get script c.loop-place.place ≡ Some c.index-script-place.result = slice_get_read script (length script) c.loop-place.place c.index-script-place.result refl within (c.index-script-place.is ∙ ap (λ calls. get_or calls c.loop-place.place c.index-script-place.result) c.script-script.ensures.script) in
-    let at = c.a_run_goes_along_by_places.ensures.at script c.loop-place.place c.index-script-place.result found in
+    let at = call_read c.a_run_goes_along_by_places.ensures.at script _ c.loop-place.place c.index-script-place.result (search rules) c.index-script-place.is c.script-script.ensures.script in
     let Made : CallAnswer (Reply ℕ) → Type 0 = λ answer. Works (SpellsCall plan number (length (items_of (mark.own c.loop-place.caller.note))) c.index-script-place.result) now answer new in
     let works = of_some c.make_call-answer.result Made (Halted c.in-Some-Halted._misuse) (c.in-Some-Halted.is ∙ ap Some c.in-Some-Halted.field-0-is) c.make_call-answer.ensures.works in
     inl (ends_halted plan number script start c.requires.fresh.calls c.loop-place.place c.index-script-place.result at c.loop-place.replies.items now new c.moves.ensures.joined c.loop-place.invariant.went c.in-Some-Halted._misuse works)
@@ -83,15 +78,13 @@ loop-place-preserved g c =
     let start = desk_with mark.own mark.front (owns_of c.args.passes.now) c.args.caller.now.note in
     let now = desk_with mark.own mark.front (owns_of c.loop-place.passes) c.loop-place.caller.note in
     let new = desk_with mark.own mark.front (owns_of c.make_call-answer.new.passes) c.make_call-answer.new.caller.note in
-    let within : c.loop-place.place < length script = search rules in
-    let found : slice_get script c.loop-place.place ≡ Some c.index-script-place.result = slice_get_read script (length script) c.loop-place.place c.index-script-place.result refl within (c.index-script-place.is ∙ ap (λ calls. get_or calls c.loop-place.place c.index-script-place.result) c.script-script.ensures.script) in
-    let at = c.a_run_goes_along_by_places.ensures.at script c.loop-place.place c.index-script-place.result found in
+    let at = call_read c.a_run_goes_along_by_places.ensures.at script _ c.loop-place.place c.index-script-place.result (search rules) c.index-script-place.is c.script-script.ensures.script in
     let Made : CallAnswer (Reply ℕ) → Type 0 = λ answer. Works (SpellsCall plan number (length (items_of (mark.own c.loop-place.caller.note))) c.index-script-place.result) now answer new in
     let made = c.make_call-answer.ensures in
     let reply = c.in-Some-Done-Ok.reply in
     let passes = passed_over c.index-script-place.result reply in
-    let next = c.loop-place.place + 1 + passes in
-    let over : drop passes (drop (c.loop-place.place + 1) script) ≡ drop next script = c.a_run_goes_along_by_places.ensures.over script c.loop-place.place passes in
+    let next = c.loop-place.place + (1 + c.passed_over.result) in
+    let over = over_all c.a_run_goes_along_by_places.ensures.over script c.loop-place.place passes c.passed_over.result c.passed_over.ensures.passes in
     let left : length c.loop-place.rooms.items ≤ length c.make_call-answer.new.rooms.items + ranges_in_call c.index-script-place.result = search rules in
     let goes_on = after_call mark.at mark.own mark.front c.args.worker.now.at.home.now plan c.args.worker.now.workers number c.args.site.now.objects.now script c.args.replies.now.room start c.args.caller.now.note c.loop-place.place c.index-script-place.result at
     passes next over c.loop-place.passes c.make_call-answer.new.passes c.loop-place.caller c.make_call-answer.new.caller c.loop-place.replies c.push.new.self c.loop-place.rooms.items c.make_call-answer.new.rooms.items c.loop-place.invariant
