@@ -3,6 +3,7 @@
 #![tactic(auto)]
 
 mod by_number;
+mod composed;
 mod counts;
 mod deal;
 mod desk;
@@ -12,7 +13,6 @@ pub mod fault;
 mod gather;
 mod halting;
 mod hire;
-mod if_equal;
 mod job;
 mod key_order;
 mod numbering;
