@@ -5,6 +5,7 @@ pub mod Forms
 pub mod LeftToDo
 pub mod MadeCalls
 pub mod Outcomes
+pub mod Places
 pub mod RunItems
 pub mod Spelt
 pub mod State
