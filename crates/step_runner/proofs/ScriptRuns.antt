@@ -1,6 +1,6 @@
 -- What is left of a script behind replies.
 use Rattle.std.proofs.Common.{◌≡◌, ℕ, zero, suc, ◌+◌, ◌≤◌, Bool, true, false, ◌||◌, List, [], ◌∷◌, ◌++◌, drop, length, get_or, Some, None, refl, sym, ap, ◌∙◌, length-drop, arith}
-use Rattle.std.specs.Prelude.{slice_get, count_by}
+use Rattle.std.specs.Prelude.{slice_get, count_by, cond}
 use Rattle.std.specs.List.{list_any}
 use Rattle.std.proofs.lemmas.List.{drop-drop}
 use Rattle.std.proofs.lemmas.List.Sums.{sum_by-take-drop}
@@ -56,7 +56,7 @@ none_left (reply ∷ given) = refl
 
 -- there are no more of a sort behind some calls than before
 pub count_behind : (p : Call → Bool) (k : ℕ) (calls : List Call) → count_by p (drop k calls) ≤ count_by p calls
-count_behind p k calls = omega (arith, sum_by-take-drop _ calls k)
+count_behind p k calls = omega (arith, sum_by-take-drop (λ (call : Call). cond (p call) 1 0) calls k)
 
 -- ---- scripts none of whose calls passes others over
 
