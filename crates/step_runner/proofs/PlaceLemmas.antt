@@ -1,6 +1,6 @@
 -- The places that the code keeps lead to what is left of the scripts.
 use Rattle.std.proofs.Common.{◌≡◌, ◌≢◌, ℕ, zero, suc, ◌+◌, ◌<◌, ◌≤◌, Bool, true, false, eqb, List, [], ◌∷◌, ◌++◌, drop, length, get_or, set, replicate, Some, None, refl, sym, ap, ◌∙◌, subst, arith}
-use Rattle.std.specs.Prelude.{slice_get, sum_by}
+use Rattle.std.specs.Prelude.{◌^◌, slice_get}
 use Rattle.std.proofs.lemmas.Bool.{eqb-true, eqb-false}
 use Rattle.std.proofs.lemmas.List.{length-set, length-replicate, get_or-set_same, get_or-set_other, drop-drop}
 use Rattle.std.proofs.lemmas.List.Sums.{get_or-le-sum_by}
@@ -32,7 +32,7 @@ place_small plan worker place call readable below at =
     let there : worker < length plan.scripts = omega (arith, below, valid_scripts plan readable.valid) in
     omega (arith, within, get_or-le-sum_by length plan.scripts worker [] there, readable.call_room)
 
-none_yet : (n k : ℕ) → get_or (replicate n 0) k 0 ≡ 0
+none_yet : (n k : ℕ) → get_or (replicate {A = ℕ} n 0) k 0 ≡ 0
 none_yet zero k = refl
 none_yet (suc n) zero = refl
 none_yet (suc n) (suc k) = none_yet n k

@@ -1,5 +1,5 @@
 //! What a run knows between two turns.
-ghost use Rattle.std.specs.Prelude.{◌≡◌, ◌<◌, ◌+◌, ◌^◌, ◌×◌, [], length, get_or, set, replicate, IfOk, OnOk};
+ghost use Rattle.std.specs.Prelude.{◌≡◌, ◌<◌, ◌+◌, ◌^◌, [], length, get_or, set, replicate, IfOk, OnOk};
 ghost use Rattle.script_calls.specs.Runs.{passed_over};
 ghost use Rattle.workload.specs.Readable.{IsReadable};
 ghost use Rattle.step_runner.specs.Places.{IsKeptFor, places_behind};

@@ -1,5 +1,5 @@
-use Rattle.std.proofs.Common.{◌≡◌, ℕ, ◌<◌, List, Some, get_or, sym, ap, subst, ◌∙◌}
-use Rattle.std.specs.Prelude.{IfOk}
+use Rattle.std.proofs.Common.{◌≡◌, ℕ, ◌<◌, List, [], Some, get_or, sym, ap, subst, ◌∙◌}
+use Rattle.std.specs.Prelude.{◌^◌, slice_get, IfOk}
 use Rattle.std.specs.Vec.{with_items}
 use Rattle.std.proofs.lemmas.List.{with_items_is}
 use Rattle.std.proofs.lemmas.Result.{IfOk-weaker}
@@ -10,7 +10,7 @@ use Rattle.step_runner.specs.declared.step.Step.{Step}
 use Rattle.step_runner.specs.Places.{Kept, IsKeptFor, places_behind}
 use Rattle.step_runner.specs.State.{State, IsStateOf}
 use Rattle.step_runner.specs.Turns.{next_call, settled, turn_of}
-use Rattle.step_runner.proofs.PlaceLemmas.{place_small, kept_behind}
+use Rattle.step_runner.proofs.PlaceLemmas.{next_at, place_small, kept_behind}
 use Rattle.step_runner.proofs.ScriptRuns.{GoesFurther}
 use Rattle.step_runner.proofs.TurnLemmas.{moved, ready, turn_before}
 use Rattle.step_runner.proofs.turn.take_turn.Goals as goal
@@ -21,6 +21,14 @@ take_turn_at-requires-clause-ready c =
     subst (λ (workers : ℕ). IsReady workers c.args.worker c.in-Some.call.now c.deref_mut.result.now) (sym c.workers.ensures.workers)
     (subst (λ (list : List ObjectState). IsReady c.args.workload.now.workers c.args.worker c.in-Some.call.now list) (sym objects)
     (ready c.args.workload.now c.args.worker c.args.state.now.state c.in-Some.call.now c.requires.of.of (sym c.in-Some.ensures)))
+
+-- the worker stands before a call, so its place is small
+pub settle-requires-clause-room : goal.settle-requires-clause-room
+settle-requires-clause-room c =
+    let plan = c.args.workload.now in
+    let at : slice_get (get_or plan.scripts c.args.worker []) (get_or c.args.state.now.places c.args.worker 0) ≡ Some c.in-Some.call.now = next_at plan c.args.worker c.args.state.now c.requires.of ∙ sym c.in-Some.ensures in
+    subst (λ (kept : Kept). get_or kept.places c.args.worker 0 < 2 ^ 63) (sym c.state.view_is)
+    (place_small plan c.args.worker (get_or c.args.state.now.places c.args.worker 0) c.in-Some.call.now c.workers.ensures.readable c.requires.worker at)
 
 -- what its fields say that is kept
 abbrev seen : goal.After-settle → Kept
@@ -41,10 +49,6 @@ whole c =
     ∙ ap (λ (objects : List ObjectState). (objects, c.in_ok-answer-in-Some.answer)) (sym same) in
     ap (λ (kept : Kept). turn_of c.args.workload.now c.args.worker kept.state) (sym c.state.view_is)
     ∙ turn_before c.args.workload.now c.args.worker (seen c).state c.in-Some.call.now (left c) c.in_ok-answer-in-Some.answer (next_is c) turn
-
--- the worker stands before a call, so its place is small
-small : (c : goal.After-settle) → get_or (seen c).places c.args.worker 0 < 2 ^ 63
-small c = ?
 
 abbrev Settles : goal.After-settle → Step → Type 0
 Settles c step =
