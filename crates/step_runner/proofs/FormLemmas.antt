@@ -26,7 +26,7 @@ use Rattle.step_runner.specs.ReplyForm.{HasForm}
 use Rattle.step_runner.specs.Stands.{waits_at, IsOutAt, IsOutBut, waits_behind}
 use Rattle.step_runner.specs.TurnAtObjects.{turn_at}
 use Rattle.step_runner.specs.Computed.{whole_run, outcome_of, turns}
-use Rattle.step_runner.specs.Forms.{have_forms, all_have_forms, has_forms}
+use Rattle.workload.specs.Forms.{have_forms, all_have_forms, has_forms}
 use Rattle.step_runner.specs.State.{State, start, with_reply, IsStateOf}
 use Rattle.step_runner.specs.Turns.{next_call, turn_of, after_items}
 use Rattle.step_runner.proofs.Numbered.{NamesAside}

@@ -1,7 +1,6 @@
 pub mod CallTurns
 pub mod Computed
 pub mod Ends
-pub mod Forms
 pub mod LeftToDo
 pub mod MadeCalls
 pub mod Outcomes

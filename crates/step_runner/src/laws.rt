@@ -7,6 +7,7 @@ ghost use Rattle.std.specs.Cmp.Lexicographic.{slice_cmp};
 ghost use Rattle.std.specs.FinMap.{FinMap, contains_key};
 ghost use Rattle.sync_types.specs.declared.atomic_object.Number.{Number};
 ghost use Rattle.script_calls.specs.declared.call.Call.{Call};
+ghost use Rattle.script_calls.specs.declared.call.ComposedCall.{ComposedCall};
 ghost use Rattle.script_calls.specs.declared.call.Operation.TheVariants as operations;
 ghost use Rattle.sync_types.specs.declared.misuse.Misuse.{Misuse};
 ghost use Rattle.sync_types.specs.declared.pool_call.PoolCall.{PoolCall};
@@ -40,18 +41,18 @@ ghost use Rattle.step_runner.specs.Ends.{scheduled_ends};
 ghost use Rattle.step_runner.specs.LeftToDo.{left_to_do};
 ghost use Rattle.step_runner.specs.MadeCalls.{made_calls, calls_of};
 ghost use Rattle.step_runner.specs.Outcomes.{rounds, is_misused, StepsTo};
-ghost use Rattle.step_runner.specs.RunItems.{all_made, IsAnswered, LeadTo};
+ghost use Rattle.step_runner.specs.RunItems.{all_made, IsAnswered, IsTested, LeadTo};
 ghost use Rattle.step_runner.specs.Spelt.{lists_of, made_for, misuse_of, EndAs, Falls};
 ghost use Rattle.step_runner.specs.State.{State, IsStateOf, start, with_moment};
 ghost use Rattle.step_runner.specs.Turns.{next_call, turn_of, items_of, after_items, has_ended};
-ghost use Rattle.step_runner.specs.Forms.{all_have_forms, has_forms};
+ghost use Rattle.workload.specs.Forms.{all_have_forms, has_forms};
 ghost use Rattle.step_runner.specs.Computed.{rounds_of, all_rounds, turns};
 
 use crate::turns::laws::spelling::{
     calls_are_entered_whole, items_are_their_workers, turns_spell_their_calls,
 };
 use crate::turns::laws::{
-    a_placed_call_is_one_item, few_turns_are_left_of_a_call, items_lead_from_turn_to_turn,
+    a_placed_call_is_one_item, an_ifeq_is_one_load, few_turns_are_left_of_a_call, items_lead_from_turn_to_turn,
     maps_keep_to_the_keys_of_calls, numbers_stay_in_range, pools_have_room,
     some_calls_take_one_turn, turns_keep_kinds_and_machines, turns_use_something_up,
     workers_stand_in_their_calls,
@@ -194,6 +195,16 @@ pub fn placed_calls_are_answered_by_their_items()
 {
     validity();
     a_placed_call_is_one_item();
+}
+
+/// At every moment the next turn of a worker that stands before an `ifeq` makes one load of its atomic, of what the atomic holds, and
+/// answers true exactly where that is the value.
+pub fn an_ifeq_tells_what_its_load_found()
+    ensures { (plan : Plan) (items : List Turn) (worker : ℕ) (call : Call) (value : Number) (passes : ℕ) → is_valid plan ≡ true → next_call plan worker (after_items plan items (start plan)) ≡ Some call
+        → call.operation ≡ operations.Composed (ComposedCall.IfEqual value passes) → IsTested plan worker call value (after_items plan items (start plan)) }
+{
+    validity();
+    an_ifeq_is_one_load();
 }
 
 /// At every moment, behind any turns up to the first misuse, a worker's items fall into the calls of a run of its script, in order:

@@ -3,7 +3,7 @@ ghost use Rattle.std.specs.Prelude.{◌≡◌, true, IfOk};
 ghost use Rattle.script_calls.specs.Outcome.{shows_to};
 ghost use Rattle.workload.specs.declared.limits.TheConstants.{MAX_KEYS};
 ghost use Rattle.workload.specs.Plan.{is_turn};
-ghost use Rattle.step_runner.specs.Forms.{has_forms};
+ghost use Rattle.workload.specs.Forms.{has_forms};
 ghost use Rattle.step_runner.specs.Outcomes.{StepsTo};
 ghost use Rattle.step_runner.specs.Places.{IsKeptFor};
 ghost use Rattle.step_runner.specs.Turns.{item_of, items_of, round, has_ended};

@@ -1,7 +1,8 @@
 //! The turns of a worker that stands before a call of a map or of an atomic: the whole call.
-ghost use Rattle.std.specs.Prelude.{◌≡◌, true, IfOk};
-ghost use Rattle.sync_types.specs.SequentialAtomic.{is_atomic_call};
+ghost use Rattle.std.specs.Prelude.{◌≡◌, ℕ, true, IfOk};
+ghost use Rattle.sync_types.specs.SequentialAtomic.{is_of, is_atomic_call};
 ghost use Rattle.sync_types.specs.declared.atomic_object.AtomicKind.{AtomicKind};
+ghost use Rattle.script_calls.specs.declared.call.ComposedCall.{ComposedCall};
 ghost use Rattle.script_calls.specs.declared.call.Operation.TheVariants as operations;
 ghost use Rattle.workload.specs.declared.object.ObjectKind.TheVariants as kinds;
 ghost use Rattle.step_runner.specs.Objects.{kind_of};
@@ -12,7 +13,7 @@ use crate::turns::object_state::ObjectState;
 use crate::turns::stages::Taker;
 use script_calls::Reply;
 use std::alloc::{AllocError, Global};
-use sync_types::{AtomicCall, MapCall, Name, atomic_object, map_object};
+use sync_types::{AtomicCall, MapCall, Name, Number, atomic_object, map_object};
 
 /// Makes a call on a map, which is completed in this turn.
 pub(crate) fn take_map_turn(
@@ -60,6 +61,22 @@ pub(crate) fn take_atomic_turn(object: &mut ObjectState, call: AtomicCall, taker
     match object {
         ObjectState::Atomic(number) => {
             let reply = atomic_object::apply(number, call);
+            Answer::Completed(Reply::Atomic(reply))
+        }
+        _ => Answer::Still,
+    }
+}
+
+/// Tells whether an atomic holds a number, which is completed in this turn. A compare-and-swap on a copy of what it holds tells it.
+pub(crate) fn take_test_turn(object: &ObjectState, value: Number, taker: Taker) -> Answer
+    requires { (kind : AtomicKind) × (kind_of object.now ≡ kinds.Atomic kind) × (is_of kind value ≡ true) }
+    ensures { (passes : ℕ) → turn_on (operations.Composed (ComposedCall.IfEqual value passes)) taker.worker taker.moment object.now ≡ (object.now, result) }
+{
+    match object {
+        ObjectState::Atomic(number) => {
+            let mut held = *number;
+            let (old, new) = (value, value);
+            let reply = atomic_object::apply(&mut held, AtomicCall::CompareAndSwap { old, new });
             Answer::Completed(Reply::Atomic(reply))
         }
         _ => Answer::Still,

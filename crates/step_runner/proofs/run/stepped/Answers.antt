@@ -5,7 +5,7 @@ use Rattle.script_calls.specs.declared.outcome.Ending.{Ending}
 use Rattle.script_calls.specs.declared.outcome.Outcome.{Outcome}
 use Rattle.script_calls.specs.Outcome.{shows_to}
 use Rattle.workload.specs.declared.limits.TheConstants.{MAX_KEYS}
-use Rattle.step_runner.specs.Forms.{has_forms}
+use Rattle.workload.specs.Forms.{has_forms}
 use Rattle.step_runner.specs.Outcomes.{StepsTo}
 use Rattle.step_runner.specs.State.{State}
 use Rattle.step_runner.specs.Turns.{items_of}
