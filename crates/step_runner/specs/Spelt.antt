@@ -10,7 +10,7 @@ use Rattle.script_calls.specs.Runs.{left_of, RunsAlong}
 use Rattle.workload.specs.Plan.{Plan}
 use Rattle.workload.specs.declared.turn.Turn.{Turn}
 use Rattle.workload.specs.declared.turn.Turn.TheVariants as items
-use Rattle.run_record.specs.Lines.{SpeltCall, LineEnd, whole, misused, unfinished, Line, items_of, replies_of, IsLineOf}
+use Rattle.run_record.specs.Lines.{SpeltCall, LineEnd, whole, misused, unfinished, Line, calls_made, items_of, replies_of, IsLineOf}
 use Rattle.run_record.specs.Record.{shared_in}
 use Rattle.run_record.specs.declared.made.Made.{Made}
 use Rattle.step_runner.specs.Items.{Item}
@@ -21,10 +21,6 @@ use Rattle.step_runner.specs.CallTurns.{stands_before}
 use Rattle.step_runner.specs.RunItems.{made_by, unless_ended}
 use Rattle.step_runner.specs.State.{State, with_moment}
 use Rattle.step_runner.specs.Turns.{turn_of}
-
--- TEMPORARY
-abbrev pub calls_made : Line → List (Call × Reply ℕ)
-calls_made line = map (λ spelt. (spelt.call, spelt.reply)) line.spelt
 
 -- what one worker made, in its order
 abbrev pub by_worker : ℕ → List Item → List Item
