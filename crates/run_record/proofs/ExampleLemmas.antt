@@ -156,7 +156,7 @@ lawful = record {
   };
 }
 
-abbrev line : Line
+abbrev pub line : Line
 line = record {
   spelt = record { call = store_call; items = Shared store_item ∷ []; reply = done } ∷ record { call = load_call; items = Shared load_item ∷ []; reply = held 5 } ∷ [];
   last = [];

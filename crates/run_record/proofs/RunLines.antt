@@ -3,8 +3,8 @@ use Rattle.std.proofs.Common.{◌≡◌, ℕ, zero, suc, ◌+◌, ◌≤◌, ◌
 use Rattle.std.proofs.lemmas.Option.{none-some, same_Some}
 use Rattle.script_calls.specs.declared.call.Call.{Call}
 use Rattle.script_calls.specs.declared.call.Reply.{Reply}
-use Rattle.script_calls.specs.Runs.{passed_over, has_test, have_tests, made_of, left_of, places_from, RunsAlong}
-use Rattle.run_record.specs.Lines.{SpeltCall, Line, script_of, calls_made, replies_of}
+use Rattle.script_calls.specs.Runs.{passed_over, has_test, have_tests, places_from, RunsAlong}
+use Rattle.run_record.specs.Lines.{SpeltCall, Line, script_of, calls_made}
 use Rattle.run_record.proofs.Having.{Each}
 
 or_both : (a b : Bool) → (a || b) ≡ false → (a ≡ false) × (b ≡ false)
@@ -69,11 +69,11 @@ module _ (own : (made : List (Call × Reply ℕ)) (rest : List Call) → has_tes
 pub place_there : (base : ℕ) (script rest : List Call) (spelt : List SpeltCall) (i : ℕ) (s : SpeltCall) → RunsAlong script (made_in spelt) rest → slice_get spelt i ≡ Some s
     → (place : ℕ) × (slice_get (places_from base script (map (λ s. s.reply) spelt)) i ≡ Some place)
 place_there base script rest [] i s run at = absurd (none-some s at)
-place_there base script rest (t ∷ spelt) i s (behind, is, later) at =
-    subst (λ (l : List Call). (place : ℕ) × (slice_get (places_from base l (map (λ s. s.reply) (t ∷ spelt))) i ≡ Some place)) (sym is) (here i at) where
-  here : (i : ℕ) → slice_get (t ∷ spelt) i ≡ Some s → (place : ℕ) × (slice_get (places_from base (t.call ∷ behind) (map (λ s. s.reply) (t ∷ spelt))) i ≡ Some place)
-  here zero at = (base, refl)
-  here (suc i) at = place_there (base + 1 + passed_over t.call t.reply) (drop (passed_over t.call t.reply) behind) rest spelt i s later at
+place_there base script rest (t ∷ spelt) zero s (behind, is, later) at =
+    subst (λ (l : List Call). (place : ℕ) × (slice_get (places_from base l (map (λ s. s.reply) (t ∷ spelt))) 0 ≡ Some place)) (sym is) (base, refl)
+place_there base script rest (t ∷ spelt) (suc i) s (behind, is, later) at =
+    subst (λ (l : List Call). (place : ℕ) × (slice_get (places_from base l (map (λ s. s.reply) (t ∷ spelt))) (suc i) ≡ Some place)) (sym is)
+    (place_there (base + 1 + passed_over t.call t.reply) (drop (passed_over t.call t.reply) behind) rest spelt i s later at)
 
 module _ {K : Type 0} where
   place_past : (base : ℕ) (script : List Call) (given : List (Reply K)) (i place : ℕ) → slice_get (places_from base script given) i ≡ Some place → base ≤ place

@@ -1,9 +1,8 @@
-use Rattle.std.proofs.Common.{◌≡◌, ℕ, ◌+◌, ◌≤◌, ◌<◌, ◌⊎◌, inl, inr, List, [], ◌∷◌, map, get_or, Some, slice_get, refl, sym, ap, ◌∙◌, subst, arith}
+use Rattle.std.proofs.Common.{◌≡◌, ℕ, ◌+◌, ◌≤◌, ◌<◌, ◌⊎◌, inl, inr, List, [], ◌∷◌, get_or, Some, slice_get, refl, sym, ap, ◌∙◌, arith}
 use Rattle.std.specs.Prelude.{option_map}
 use Rattle.std.proofs.lemmas.Bool.{cases_lt}
 use Rattle.std.proofs.lemmas.Option.{same_Some, slice_get-map}
 use Rattle.script_calls.specs.declared.call.Call.{Call}
-use Rattle.script_calls.specs.declared.call.Reply.{Reply}
 use Rattle.script_calls.specs.Runs.{places_from}
 use Rattle.workload.specs.Plan.{Plan}
 use Rattle.run_record.specs.declared.made.Made.{Made}
@@ -28,10 +27,13 @@ returns-clause-last c plan r outcome lines worker line are at some = head_of pla
 pub returns-clause-place : goal.returns-clause-place
 returns-clause-place c plan r outcome lines worker line i spelt are at is =
     let script = get_or plan.scripts worker [] in
-    let found = place_there 0 script line.rest line.spelt i spelt (are.runs worker line at) is in
-    (found.0, found.1, c.calls_keep_their_places.ensures.place script (replies_of line) i found.0 found.1
-    ∙ (ap (λ (l : List Call). slice_get l i) (sym (c.replies_tell_which_calls_were_made.ensures.made plan r outcome lines worker line are at))
-    ∙ (slice_get-map (λ (s : SpeltCall). s.call) line.spelt i ∙ ap (option_map (λ (s : SpeltCall). s.call)) is)))
+    let found = place_there 0 script line.rest line.spelt i spelt (are.runs worker line at) is in (
+      found.0,
+      found.1,
+      c.calls_keep_their_places.ensures.place script (replies_of line) i found.0 found.1
+          ∙ (ap (λ (l : List Call). slice_get l i) (sym (c.replies_tell_which_calls_were_made.ensures.made plan r outcome lines worker line are at))
+          ∙ (slice_get-map (λ (s : SpeltCall). s.call) line.spelt i ∙ ap (option_map (λ (s : SpeltCall). s.call)) is)),
+    )
 
 pub returns-clause-next : goal.returns-clause-next
 returns-clause-next c plan r outcome lines worker line i place after spelt are at is here there =

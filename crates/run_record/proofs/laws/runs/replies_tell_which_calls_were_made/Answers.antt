@@ -1,4 +1,4 @@
-use Rattle.std.proofs.Common.{List, [], get_or, sym, ap, ◌∙◌}
+use Rattle.std.proofs.Common.{ℕ, List, [], get_or, sym, ap, ◌∙◌}
 use Rattle.script_calls.specs.declared.call.Reply.{Reply}
 use Rattle.script_calls.specs.Runs.{made_of, left_of}
 use Rattle.run_record.specs.Lines.{calls_made, replies_of}
