@@ -11,7 +11,7 @@ ghost use Rattle.workload.specs.Reads.{Reads};
 ghost use Rattle.step_runner.specs.Computed.{turns};
 ghost use Rattle.step_runner.specs.Outcomes.{StepsTo};
 ghost use Rattle.gosync_call.specs.Messages.{ending_of};
-ghost use Rattle.gosync_call.specs.ReportText.{report_text};
+ghost use Rattle.run_report.specs.ReportText.{report_text};
 ghost use Rattle.script_calls.specs.declared.outcome.Report.{Report};
 ghost use Rattle.script_calls.specs.declared.outcome.Outcome.{Outcome};
 ghost use Rattle.script_calls.specs.declared.outcome.Outcome.TheVariants as outcomes;

@@ -5,7 +5,7 @@ use Rattle.workload.specs.Plan.{Plan}
 use Rattle.run_record.specs.Explains.{Explains}
 use Rattle.run_record.specs.InOneOrder.{InOneOrder}
 use Rattle.run_record.specs.Record.{Record}
-use Rattle.gosync_call.specs.ReportText.{report_text}
+use Rattle.run_report.specs.ReportText.{report_text}
 use Rattle.gosync_call.specs.ComesTo.{EndsWithReport}
 use Rattle.gosync_call.specs.Headline.{RunsTo}
 use Rattle.gosync_call.proofs.Runs.{done_left, misused_left, plan_is}

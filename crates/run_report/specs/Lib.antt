@@ -1,0 +1,6 @@
+pub mod Forms
+pub mod NumberLines
+pub mod ReportText
+pub mod Shown
+pub mod Told
+pub mod Writes
