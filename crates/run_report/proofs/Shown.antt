@@ -1,5 +1,5 @@
 -- The lines of a report, one by one.
-use Rattle.std.proofs.Common.{◌≡◌, ◌∙◌, ℕ, zero, suc, ◌+◌, ◌≤◌, List, [], ◌∷◌, ◌++◌, length, take, get_or, map, sum_by, Some, refl, sym, ap, subst, arith, length-append}
+use Rattle.std.proofs.Common.{◌≡◌, ◌∙◌, ℕ, zero, suc, ◌+◌, List, [], ◌∷◌, ◌++◌, length, take, get_or, map, sum_by, Some, refl, sym, ap, subst, arith, length-append}
 use Rattle.std.specs.Prelude.{option_map, drop}
 use Rattle.std.specs.List.{flat_map, slice_get}
 use Rattle.std.proofs.lemmas.Grind.{flat_map-append}
@@ -14,7 +14,7 @@ use Rattle.sync_types.specs.declared.end.End.{End}
 use Rattle.workload.specs.Plan.{Plan}
 use Rattle.workload_text.specs.ReportLines.{completed_line, end_line}
 use Rattle.run_report.specs.ReportText.{calls_text, completed_in, completed_in_all, ends_text, workers_text}
-use Rattle.run_report.specs.Shown.{completed_before, AreReplies, IsCompleted, Shows}
+use Rattle.run_report.specs.Shown.{completed_before, AreReplies, Shows}
 
 slice_get_left : {X : Type 0} (xs ys : List X) (k : ℕ) (x : X) → slice_get xs k ≡ Some x → slice_get (xs ++ ys) k ≡ Some x
 slice_get_left [] ys k x is = cc
@@ -138,22 +138,30 @@ module _ (plan : Plan) where
       let same : replies ≡ completed = some_same has in
       let here = call_line first 0 script completed number reply (made_at (script ∷ scripts) (replies ∷ rest) zero completed made has) answered in
       let numbered : first ≡ first + 0 = omega arith in
-      let placed : number ≡ 0 + number = omega arith in
-      (here.place, here.call, here.at, here.made,
-      ap (slice_get (workers_lines first (script ∷ scripts) (replies ∷ rest))) (sym placed)
-      ∙ slice_get_left (calls_lines first 0 script replies) (workers_lines (first + 1) scripts rest) number (completed_line plan first here.place here.call reply)
-      (ap (λ (c : List (Reply ℕ)). slice_get (calls_lines first 0 script c) number) same ∙ here.line)
-      ∙ ap (λ (n : ℕ). Some (completed_line plan n here.place here.call reply)) numbered)
+      let placed : number ≡ 0 + number = omega arith in (
+        here.place,
+        here.call,
+        here.at,
+        here.made,
+        ap (slice_get (workers_lines first (script ∷ scripts) (replies ∷ rest))) (sym placed)
+            ∙ slice_get_left (calls_lines first 0 script replies) (workers_lines (first + 1) scripts rest) number (completed_line plan first here.place here.call reply)
+            (ap (λ (c : List (Reply ℕ)). slice_get (calls_lines first 0 script c) number) same ∙ here.line)
+            ∙ ap (λ (n : ℕ). Some (completed_line plan n here.place here.call reply)) numbered,
+      )
   worker_line first (script ∷ scripts) (replies ∷ rest) (suc worker) number completed reply made has answered =
       let later = worker_line (first + 1) scripts rest worker number completed reply (λ w. made (suc w)) has answered in
       let count : length (calls_lines first 0 script replies) ≡ length replies = calls_count first 0 script replies ∙ made 0 in
       let before = sum_by-cons (λ (r : List (Reply ℕ)). length r) replies (take worker rest) in
       let placed : sum_by length (replies ∷ take worker rest) + number ≡ length (calls_lines first 0 script replies) + (sum_by length (take worker rest) + number) = omega (arith, count, before) in
-      let numbered : first + 1 + worker ≡ first + suc worker = omega arith in
-      (later.0, later.1, later.2, later.3,
-      ap (slice_get (workers_lines first (script ∷ scripts) (replies ∷ rest))) placed
-      ∙ slice_get_right (calls_lines first 0 script replies) (workers_lines (first + 1) scripts rest) (sum_by length (take worker rest) + number)
-      ∙ later.4 ∙ ap (λ (n : ℕ). Some (completed_line plan n later.0 later.1 reply)) numbered)
+      let numbered : first + 1 + worker ≡ first + suc worker = omega arith in (
+        later.0,
+        later.1,
+        later.2,
+        later.3,
+        ap (slice_get (workers_lines first (script ∷ scripts) (replies ∷ rest))) placed
+            ∙ slice_get_right (calls_lines first 0 script replies) (workers_lines (first + 1) scripts rest) (sum_by length (take worker rest) + number)
+            ∙ later.4 ∙ ap (λ (n : ℕ). Some (completed_line plan n later.0 later.1 reply)) numbered,
+      )
 
   abbrev shown_lines : List (List (Reply ℕ)) → List End → List (List ℕ)
   shown_lines replies ends = workers_lines 0 plan.scripts replies ++ map (end_line plan) ends
@@ -171,11 +179,13 @@ module _ (plan : Plan) where
         count = length-append calls (map (end_line plan) ends) ∙ ap (λ (n : ℕ). n + length (map (end_line plan) ends)) count ∙ ap (λ (n : ℕ). sum_by length replies + n) (length-map ends (end_line plan));
         call_lines = λ worker number of reply has answered.
             let here = worker_line 0 plan.scripts replies worker number of reply made has answered in
-            let numbered : 0 + worker ≡ worker = omega arith in
-            (here.0, here.1,
-            record { at = here.2; is = keep (get_or plan.scripts worker []) of number here.0 here.2 ∙ here.3; answered = answered },
-            slice_get_left calls (map (end_line plan) ends) (completed_before worker replies + number) (completed_line plan worker here.0 here.1 reply)
-            (here.4 ∙ ap (λ (n : ℕ). Some (completed_line plan n here.0 here.1 reply)) numbered));
+            let numbered : 0 + worker ≡ worker = omega arith in (
+              here.0,
+              here.1,
+              record { at = here.2; is = keep (get_or plan.scripts worker []) of number here.0 here.2 ∙ here.3; answered = answered },
+              slice_get_left calls (map (end_line plan) ends) (completed_before worker replies + number) (completed_line plan worker here.0 here.1 reply)
+                  (here.4 ∙ ap (λ (n : ℕ). Some (completed_line plan n here.0 here.1 reply)) numbered),
+            );
         end_lines = λ place end is.
             ap (λ (n : ℕ). slice_get (shown_lines replies ends) (n + place)) (sym count)
             ∙ slice_get_right calls (map (end_line plan) ends) place

@@ -1,5 +1,5 @@
 -- Writes that are made one after the other.
-use Rattle.std.proofs.Common.{◌≡◌, ℕ, zero, suc, ◌+◌, ◌≤◌, ap, ◌∙◌, arith}
+use Rattle.std.proofs.Common.{◌≡◌, ℕ, zero, suc, ◌+◌, ap, ◌∙◌, arith}
 use Rattle.sync_outside.specs.Faults.{raised}
 use Rattle.run_report.specs.Writes.{raised_times, Wrote, WroteUpTo}
 

@@ -30,5 +30,5 @@ pub record Shows (plan : Plan) (replies : List (List (Reply ℕ))) (ends : List 
   pub count : length lines ≡ sum_by length replies + length ends
   pub call_lines : (worker number : ℕ) (completed : List (Reply ℕ)) (reply : Reply ℕ) → slice_get replies worker ≡ Some completed → slice_get completed number ≡ Some reply
       → (place : ℕ) × (call : Call) × IsCompleted (get_or plan.scripts worker []) completed number place call reply
-          × (slice_get lines (completed_before worker replies + number) ≡ Some (completed_line plan worker place call reply))
+      × (slice_get lines (completed_before worker replies + number) ≡ Some (completed_line plan worker place call reply))
   pub end_lines : (place : ℕ) (end : End) → slice_get ends place ≡ Some end → slice_get lines (sum_by length replies + place) ≡ Some (end_line plan end)

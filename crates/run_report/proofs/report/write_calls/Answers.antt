@@ -1,12 +1,9 @@
-use Rattle.std.proofs.Common.{◌+◌, length, refl, sym, ap, subst, ◌∙◌, arith}
-use Rattle.std.proofs.lemmas.Bool.{ltb-true}
+use Rattle.std.proofs.Common.{◌≡◌, ◌+◌, refl, sym, ap, subst, ◌∙◌, arith}
 use Rattle.sync_outside.specs.Bytes.{Appends, AppendsFront}
-use Rattle.workload.specs.declared.limits.TheConstants.{MAX_KEYS}
-use Rattle.script_calls.specs.Outcome.{has_pairs_to}
 use Rattle.script_calls.specs.Runs.{passed_over}
 use Rattle.run_report.specs.Writes.{WroteUpTo}
 use Rattle.run_report.specs.ReportText.{calls_text, completed_in}
-use Rattle.run_report.proofs.Lines.{all_at, calls_next, calls_one_line, completes}
+use Rattle.run_report.proofs.Lines.{calls_next, calls_one_line, completes}
 use Rattle.run_report.proofs.WriteCounts.{write_cut, write_on}
 use Rattle.run_report.proofs.Writing.{goes_on, goes_cut, on_err}
 use Rattle.run_report.proofs.report.write_calls.Goals as goal
