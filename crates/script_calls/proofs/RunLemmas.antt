@@ -1,7 +1,10 @@
 -- Runs of scripts, call by call.
-use Rattle.std.proofs.Common.{◌≡◌, ℕ, zero, suc, ◌+◌, ◌≤◌, Bool, true, false, List, [], ◌∷◌, ◌++◌, map, length, take, drop, Some, slice_get, refl, sym, ap, ◌∙◌, subst, arith}
+use Rattle.std.proofs.Common.{◌≡◌, ℕ, zero, suc, ◌+◌, ◌<◌, ◌≤◌, Bool, true, false, List, [], ◌∷◌, ◌++◌, map, length, take, drop, Some, slice_get, refl, sym, ap, ◌∙◌, subst, arith}
 use Rattle.std.specs.Prelude.{◌||◌, cond}
+use Rattle.sync_types.specs.declared.atomic_object.AtomicReply.TheVariants.{Compared}
+use Rattle.sync_types.specs.declared.atomic_object.Number.{Number}
 use Rattle.script_calls.specs.declared.call.Call.{Call}
+use Rattle.script_calls.specs.declared.call.ComposedCall.TheVariants.{IfEqual}
 use Rattle.script_calls.specs.declared.call.Operation.{Operation}
 use Rattle.script_calls.specs.declared.call.Operation.TheVariants as operations
 use Rattle.script_calls.specs.declared.call.Reply.{Reply}
@@ -62,10 +65,28 @@ either true is = is
 either false is = refl
 
 tests_alone : (operation : Operation) → is_test_operation operation ≡ false → passes_of operation ≡ 0
-tests_alone operations.Once h = refl
+tests_alone (operations.Composed (IfEqual value passes)) h = cc
 tests_alone operation h = cc
 
+-- the operation that passes some over
+some_test : (operation : Operation) → 0 < passes_of operation → (value : Number) × (passes : ℕ) × (operation ≡ operations.Composed (IfEqual value passes))
+some_test (operations.Composed (IfEqual value passes)) h = (value, passes, refl)
+some_test operation h = absurd (omega (arith, h))
+
+some_no : {K : Type 0} (reply : Reply K) (n : ℕ) → 0 < cond (says_no reply) n 0 → (reply ≡ replies.Atomic (Compared false)) × (0 < n)
+some_no (replies.Atomic (Compared false)) n h = (refl, h)
+some_no reply n h = absurd (omega (arith, h))
+
 module _ {K : Type 0} where
+  pub passes_so : (call : Call) (value : Number) (passes : ℕ) (reply : Reply K) → call.operation ≡ operations.Composed (IfEqual value passes) → reply ≡ replies.Atomic (Compared false) → passed_over call reply ≡ passes
+  passes_so call value passes reply is denied = ap (λ (r : Reply K). passed_over call r) denied ∙ ap passes_of is
+
+  pub passes_only : (call : Call) (reply : Reply K) → 0 < passed_over call reply
+      → ((value : Number) × (passes : ℕ) × (call.operation ≡ operations.Composed (IfEqual value passes))) × (reply ≡ replies.Atomic (Compared false))
+  passes_only call reply some =
+      let denied = some_no reply (passes_of call.operation) some in
+      (some_test call.operation denied.1, denied.0)
+
   passes_none : (call : Call) (reply : Reply K) → is_test call ≡ false → passed_over call reply ≡ 0
   passes_none call reply h = either (says_no reply) (tests_alone (call.operation) h)
 

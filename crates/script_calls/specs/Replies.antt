@@ -1,6 +1,7 @@
 -- Which replies each call may have, by the table of `sync` and `sync/atomic`.
 use Rattle.std.specs.Prelude.{Bool, true, false}
 use Rattle.sync_types.specs.Replies.{map_form, atomic_form, mutex_form, rw_mutex_form, pool_form}
+use Rattle.sync_types.specs.declared.atomic_object.AtomicReply.TheVariants.{Compared}
 use Rattle.script_calls.specs.declared.call.Operation.{Operation}
 use Rattle.script_calls.specs.declared.call.Operation.TheVariants as operations
 use Rattle.script_calls.specs.declared.call.Reply.{Reply}
@@ -19,4 +20,5 @@ is_reply_to operations.Once (replies.Once reply) = true
 is_reply_to operations.OnceFunc (replies.OnceFunc code) = true
 is_reply_to operations.OnceValue (replies.OnceValue value) = true
 is_reply_to (operations.Pool call) (replies.Pool reply) = pool_form call reply
+is_reply_to (operations.Composed call) (replies.Atomic (Compared equal)) = true
 is_reply_to operation reply = false

@@ -1,8 +1,9 @@
 -- A run of a script: which of its calls are made, by what those before them were answered.
-use Rattle.std.specs.Prelude.{◌≡◌, ℕ, ◌+◌, Bool, false, not, cond, List, [], ◌∷◌, drop}
+use Rattle.std.specs.Prelude.{◌≡◌, ℕ, ◌+◌, Bool, true, false, not, cond, List, [], ◌∷◌, drop}
 use Rattle.std.specs.List.{list_any}
 use Rattle.sync_types.specs.declared.atomic_object.AtomicReply.TheVariants.{Compared}
 use Rattle.script_calls.specs.declared.call.Call.{Call}
+use Rattle.script_calls.specs.declared.call.ComposedCall.TheVariants.{IfEqual}
 use Rattle.script_calls.specs.declared.call.Operation.{Operation}
 use Rattle.script_calls.specs.declared.call.Operation.TheVariants as operations
 use Rattle.script_calls.specs.declared.call.Reply.{Reply}
@@ -15,7 +16,7 @@ says_no reply = false
 
 -- how many of the next calls an operation passes over, where it is answered so
 abbrev pub passes_of : Operation → ℕ
-passes_of operations.Once = 0
+passes_of (operations.Composed (IfEqual value passes)) = passes
 passes_of operation = 0
 
 -- how many of the next calls are passed over behind a call with this reply
@@ -24,7 +25,7 @@ passed_over call reply = cond (says_no reply) (passes_of call.operation) 0
 
 -- whether an operation may pass calls over
 abbrev pub is_test_operation : Operation → Bool
-is_test_operation operations.Once = false
+is_test_operation (operations.Composed (IfEqual value passes)) = true
 is_test_operation operation = false
 
 -- whether a call may pass others over

@@ -2,7 +2,7 @@
 ghost use Rattle.std.specs.Prelude.{◌≡◌, ◌<◌, ◌^◌, false};
 ghost use Rattle.script_calls.specs.Runs.{passed_over, is_test};
 
-use sync_types::atomic_object::{AtomicCall, AtomicReply};
+use sync_types::atomic_object::{AtomicCall, AtomicReply, Number};
 use sync_types::lock_call::{LockReply, MutexCall, RwMutexCall};
 use sync_types::map_object::{MapCall, MapReply};
 use sync_types::name::Name;
@@ -44,6 +44,15 @@ pub enum Operation {
     OnceValue,
     /// A call on a pool.
     Pool(PoolCall),
+    /// A call that is made of other calls.
+    Composed(ComposedCall),
+}
+
+/// A call that is made of other calls.
+#[derive(Clone, Copy, Drop)]
+pub enum ComposedCall {
+    /// `ifeq`: loads an atomic. Where it doesn't hold the value, so many of the next calls of the script are passed over.
+    IfEqual { value: Number, passes: u32 },
 }
 
 /// What a call answers, where keys are of a type `K`: a name, or a number among the workload's keys.
@@ -71,10 +80,16 @@ pub enum Reply<K> {
 
 impl Call {
     /// How many of the next calls are passed over behind this one with this reply.
-    pub fn passed_over<K>(&self, _reply: &Reply<K>) -> usize
-        ensures passes { result ≡ passed_over self.now _reply.now }
+    pub fn passed_over<K>(&self, reply: &Reply<K>) -> usize
+        ensures passes { result ≡ passed_over self.now reply.now }
         ensures few { result < 2 ^ 32 }
     {
-        0
+        match (&self.operation, reply) {
+            (
+                Operation::Composed(ComposedCall::IfEqual { value: _, passes }),
+                Reply::Atomic(AtomicReply::Compared(false)),
+            ) => *passes as usize,
+            _ => 0,
+        }
     }
 }

@@ -1,5 +1,5 @@
 //! What replies say of their calls, and what a run of a script is. Each law is the contract of a function that does nothing.
-ghost use Rattle.std.specs.Prelude.{◌≡◌, ◌≤◌, ℕ, ◌+◌, true, false, List, [], ◌∷◌, ◌++◌, map, length, take, drop, Some, slice_get};
+ghost use Rattle.std.specs.Prelude.{◌≡◌, ◌<◌, ◌≤◌, ℕ, ◌+◌, true, false, List, [], ◌∷◌, ◌++◌, map, length, take, drop, Some, slice_get};
 ghost use Rattle.std.specs.declared.cmp.Ordering.{Ordering};
 ghost use Rattle.std.specs.FinMap.{FinMap};
 ghost use Rattle.script_calls.specs.Outcome.{with_keys_renamed};
@@ -10,8 +10,8 @@ ghost use Rattle.sync_types.specs.SequentialAtomic.{atomic_reply};
 ghost use Rattle.sync_types.specs.SequentialMap.{map_reply};
 ghost use Rattle.sync_types.specs.declared.atomic_object.Number.{Number};
 
-use crate::call::{Call, Operation, Reply};
-use sync_types::atomic_object::AtomicCall;
+use crate::call::{Call, ComposedCall, Operation, Reply};
+use sync_types::atomic_object::{AtomicCall, AtomicReply};
 use sync_types::map_object::MapCall;
 
 /// What a map and an atomic answer has the form of their call's replies, and other names for keys leave each reply its form.
@@ -19,6 +19,14 @@ pub fn replies_have_their_form<K, L>()
     ensures map { (R : K → K → Ordering) (call : MapCall K) (m : FinMap R ℕ) → map_form call (map_reply call m) ≡ true }
     ensures atomic { (call : AtomicCall) (held : Number) → atomic_form call (atomic_reply call held) ≡ true }
     ensures renamed { (rename : K → L) (operation : Operation) (reply : Reply K) → is_reply_to operation (with_keys_renamed rename reply) ≡ is_reply_to operation reply }
+{}
+
+/// Only an `ifeq` that is answered false passes calls over, and just so many as it says.
+pub fn only_an_ifeq_answered_false_passes_calls_over<K>()
+    ensures passes { (call : Call) (value : Number) (passes : ℕ) (reply : Reply K) → call.operation ≡ Operation.Composed (ComposedCall.IfEqual value passes)
+        → reply ≡ Reply.Atomic (AtomicReply.Compared false) → passed_over call reply ≡ passes }
+    ensures only { (call : Call) (reply : Reply K) → 0 < passed_over call reply
+        → ((value : Number) × (passes : ℕ) × (call.operation ≡ Operation.Composed (ComposedCall.IfEqual value passes))) × (reply ≡ Reply.Atomic (AtomicReply.Compared false)) }
 {}
 
 /// A script without a call that may pass others over is its own one run: its calls are made one after the other, and each has its

@@ -3,7 +3,7 @@ use std::alloc::Global;
 use std::test::Fail;
 use sync_types::AtomicKind;
 use workload::{ObjectKind, ParseFault, Reason, Turn, Workload};
-use workload_text::parse;
+use workload_text::{parse, print};
 
 // The fault of a text: its line and its reason, or None where it is read.
 fn fault_of(alloc: Global, text: &[u8]) -> Result<Option<(u32, Reason)>, Fail> {
@@ -14,7 +14,7 @@ fn fault_of(alloc: Global, text: &[u8]) -> Result<Option<(u32, Reason)>, Fail> {
     }
 }
 
-const REFUSED: [(&[u8], u32, Reason); 54] = [
+const REFUSED: [(&[u8], u32, Reason); 55] = [
     (b"", 1, Reason::NoWorkersLine),
     (b"\n", 1, Reason::NoWorkersLine),
     (b"# nothing\n\n  \n", 3, Reason::NoWorkersLine),
@@ -125,6 +125,11 @@ const REFUSED: [(&[u8], u32, Reason); 54] = [
         2,
         Reason::BadNumber,
     ),
+    (
+        b"workers 1\nint64 a\nifeq a 1 2\n",
+        3,
+        Reason::CallOutsideWorker,
+    ),
 ];
 
 #[test]
@@ -184,7 +189,7 @@ fn the_parts_of_a_workload(rt: HostRuntime) -> Result<(), Fail> {
     Ok(())
 }
 
-const PAST_THE_RANGE: [(&[u8], &[u8]); 20] = [
+const PAST_THE_RANGE: [(&[u8], &[u8]); 31] = [
     (b"int32", b"add a -2147483649"),
     (b"int32", b"add a 2147483648"),
     (b"int64", b"store a -9223372036854775809"),
@@ -205,6 +210,17 @@ const PAST_THE_RANGE: [(&[u8], &[u8]); 20] = [
     (b"map", b"los a k 9223372036854775808"),
     (b"map", b"cas a k 0 -1"),
     (b"map", b"cad a k 01"),
+    (b"int32", b"ifeq a 2147483648 1"),
+    (b"int64", b"ifeq a -9223372036854775809 1"),
+    (b"uint32", b"ifeq a -1 1"),
+    (b"uint64", b"ifeq a 18446744073709551616 1"),
+    (b"bool", b"ifeq a 1 2"),
+    (b"int32", b"ifeq a true 2"),
+    (b"int64", b"ifeq a 1 0"),
+    (b"int64", b"ifeq a 1 1001"),
+    (b"int64", b"ifeq a 1 -1"),
+    (b"int64", b"ifeq a 1 01"),
+    (b"bool", b"ifeq a true false"),
 ];
 
 #[test]
@@ -223,7 +239,7 @@ fn each_operand_is_refused_past_its_range(rt: HostRuntime) -> Result<(), Fail> {
     Ok(())
 }
 
-const CALLS: [(&[u8], &[u8], Option<Reason>); 64] = [
+const CALLS: [(&[u8], &[u8], Option<Reason>); 69] = [
     (b"map", b"load a k", None),
     (b"map", b"store a k 9223372036854775807", None),
     (b"map", b"los a k 0", None),
@@ -288,6 +304,11 @@ const CALLS: [(&[u8], &[u8], Option<Reason>); 64] = [
     (b"rwmutex", b"rlock a a", Some(Reason::WrongNumberOfWords)),
     (b"rwmutex", b"store a k", Some(Reason::WrongKind)),
     (b"rwmutex", b"range a", Some(Reason::WrongKind)),
+    (b"int64", b"ifeq a", Some(Reason::WrongNumberOfWords)),
+    (b"int64", b"ifeq a x", Some(Reason::WrongNumberOfWords)),
+    (b"int64", b"ifeq a x 0 1", Some(Reason::WrongNumberOfWords)),
+    (b"map", b"ifeq a 1 2", Some(Reason::WrongKind)),
+    (b"mutex", b"ifeq a", Some(Reason::WrongKind)),
 ];
 
 #[test]
@@ -366,7 +387,7 @@ fn each_object_line_has_its_words(rt: HostRuntime) -> Result<(), Fail> {
     Ok(())
 }
 
-const WAITING_CALLS: [(&[u8], Option<Reason>); 45] = [
+const WAITING_CALLS: [(&[u8], Option<Reason>); 49] = [
     (b"wait c", None),
     (b"signal c", None),
     (b"broadcast c", None),
@@ -412,6 +433,10 @@ const WAITING_CALLS: [(&[u8], Option<Reason>); 45] = [
     (b"wait n", Some(Reason::UnknownName)),
     (b"wait", Some(Reason::WrongNumberOfWords)),
     (b"get 9", Some(Reason::BadName)),
+    (b"ifeq g x 0", Some(Reason::WrongKind)),
+    (b"ifeq n 1 2", Some(Reason::UnknownName)),
+    (b"ifeq", Some(Reason::WrongNumberOfWords)),
+    (b"ifeq 9 1 2", Some(Reason::BadName)),
 ];
 
 #[test]
@@ -529,6 +554,34 @@ fn limits_on_objects_and_ranges(rt: HostRuntime) -> Result<(), Fail> {
         let text = text_of_many(rt.alloc(), kind, objects, ranges)?;
         let fault = fault_of(rt.alloc(), &text)?;
         assert!(rt; fault == line.map(|line| (line, Reason::LimitReached)));
+    }
+    Ok(())
+}
+
+const TESTS: [(&[u8], &[u8]); 10] = [
+    (b"int32", b"ifeq a -2147483648 1"),
+    (b"int32", b"ifeq a 2147483647 1000"),
+    (b"int64", b"ifeq a -9223372036854775808 1000"),
+    (b"int64", b"ifeq a 9223372036854775807 1"),
+    (b"uint32", b"ifeq a 0 1"),
+    (b"uint32", b"ifeq a 4294967295 999"),
+    (b"uint64", b"ifeq a 0 1000"),
+    (b"uint64", b"ifeq a 18446744073709551615 2"),
+    (b"bool", b"ifeq a true 1"),
+    (b"bool", b"ifeq a false 1000"),
+];
+
+#[test]
+fn an_ifeq_is_printed_as_it_is_read(rt: HostRuntime) -> Result<(), Fail> {
+    for &(kind, call) in &TESTS {
+        let mut text = Vec::new(rt.alloc());
+        text.extend_from_slice(b"workers 1\n")?;
+        text.extend_from_slice(kind)?;
+        text.extend_from_slice(b" a\nworker 0\n")?;
+        text.extend_from_slice(call)?;
+        text.push(b'\n')?;
+        let printed = print(rt.alloc(), &read(rt.alloc(), &text)?)?;
+        assert!(rt; printed == text, "at {text:?}");
     }
     Ok(())
 }

@@ -6,6 +6,8 @@ use Rattle.std.specs.Option.{option_to_list}
 use Rattle.std.specs.Fmt.{decimal}
 use Rattle.std.proofs.lemmas.Bool.{leb-true}
 use Rattle.sync_types.specs.Name.{is_name}
+use Rattle.script_calls.specs.declared.call.ComposedCall.{ComposedCall}
+use Rattle.script_calls.specs.declared.call.ComposedCall.TheVariants.{IfEqual}
 use Rattle.script_calls.specs.declared.call.Operation.{Operation}
 use Rattle.script_calls.specs.declared.call.Operation.TheVariants as operations
 use Rattle.sync_types.specs.declared.map_object.MapCall.{MapCall}
@@ -32,13 +34,13 @@ use Rattle.workload.specs.declared.object.ObjectKind.{ObjectKind}
 use Rattle.workload.specs.declared.object.ObjectKind.TheVariants as kinds
 use Rattle.workload.specs.Plan.{word_of, has_call}
 use Rattle.workload.specs.NumberWords.{number_word, is_number_to}
-use Rattle.workload.specs.CallWords.{map_verb, map_operands, atomic_verb, atomic_operands, mutex_verb, rw_mutex_verb, cond_verb, group_verb, group_operands, pool_verb, pool_operands, verb_of, operands_of}
-use Rattle.workload.specs.Draft.{operation_keys, is_operation, is_map_call, is_group_call, is_pool_call, is_value, is_range_operation}
+use Rattle.workload.specs.CallWords.{map_verb, map_operands, atomic_verb, atomic_operands, mutex_verb, rw_mutex_verb, cond_verb, group_verb, group_operands, pool_verb, pool_operands, composed_verb, composed_operands, verb_of, operands_of}
+use Rattle.workload.specs.Draft.{operation_keys, is_operation, is_map_call, is_group_call, is_pool_call, is_composed_call, is_value, is_range_operation}
 use Rattle.workload.specs.Checks.{map_form, atomic_form, bits_form, mutex_form, rw_mutex_form, cond_form, group_form, pool_form, form_of, ranges_in}
 use Rattle.workload.proofs.Passing.{both}
 use Rattle.workload.proofs.FirstFailing.{PassesWith}
 use Rattle.workload.proofs.Numbers.{is_number-decimal, number_of-decimal}
-use Rattle.workload.proofs.CallWords.{number_passes, amount_passes}
+use Rattle.workload.proofs.CallWords.{number_passes, amount_passes, passes_pass}
 
 pub value_passes : (n : ℕ) → nat_le n MAX_VALUE ≡ true → is_number_to MAX_VALUE (decimal n) ≡ true
 value_passes n le =
@@ -114,6 +116,9 @@ pool_passes (pool_calls.Put v) h = (refl, rw (value_passes v h) refl)
 pool_passes pool_calls.Get h = (refl, refl)
 pool_passes pool_calls.Sweep h = (refl, refl)
 
+composed_passes : (k : AtomicKind) (c : ComposedCall) → has_call (kinds.Atomic k) (operations.Composed c) ≡ true → is_composed_call c ≡ true → PassesWith (atomic_form k (composed_verb c)) (composed_operands c) []
+composed_passes k (IfEqual v n) on h = (refl, rw (number_passes k v on, passes_pass n h) refl)
+
 -- an operation that the kind of its object has
 pub call_form : (kind : ObjectKind) (o : Operation) → has_call kind o ≡ true → is_operation o ≡ true → PassesWith (form_of (verb_of o) (word_of kind)) (operands_of o) (operation_keys o)
 call_form kinds.Map (operations.Map c) on h = map_passes c h
@@ -127,6 +132,7 @@ call_form (kinds.Once a z) operations.Once on h = (refl, refl)
 call_form (kinds.OnceFunc n) operations.OnceFunc on h = (refl, refl)
 call_form (kinds.OnceValue n) operations.OnceValue on h = (refl, refl)
 call_form kinds.Pool (operations.Pool c) on h = pool_passes c h
+call_form (kinds.Atomic k) (operations.Composed c) on h = composed_passes k c on h
 call_form kind c on h = absurd cc
 
 -- the word of an operation says whether it is `range`
@@ -190,3 +196,4 @@ ranges_of (operations.Pool c) = no_range c
     no_range (pool_calls.Put v) = refl
     no_range pool_calls.Get = refl
     no_range pool_calls.Sweep = refl
+ranges_of (operations.Composed (IfEqual v n)) = refl

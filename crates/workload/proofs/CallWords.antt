@@ -20,14 +20,18 @@ use Rattle.sync_types.specs.declared.atomic_object.Number.TheVariants as numbers
 use Rattle.sync_types.specs.declared.atomic_object.AtomicCall.{AtomicCall}
 use Rattle.sync_types.specs.declared.atomic_object.AtomicCall.TheVariants as atomic_calls
 use Rattle.sync_types.specs.SequentialAtomic.{has_bits, is_signed, is_of, is_atomic_call}
+use Rattle.script_calls.specs.declared.call.ComposedCall.{ComposedCall}
+use Rattle.script_calls.specs.declared.call.ComposedCall.TheVariants.{IfEqual}
 use Rattle.workload.specs.declared.keyword.Verb.{Verb}
 use Rattle.workload.specs.declared.keyword.Verb.TheVariants as verbs
-use Rattle.workload.specs.declared.limits.TheConstants.{MAX_AMOUNT}
+use Rattle.workload.specs.declared.limits.TheConstants.{MAX_AMOUNT, MAX_PASSES}
 use Rattle.sync_types.specs.declared.value.TheConstants.{MAX_VALUE}
-use Rattle.workload.specs.Plan.{is_amount}
-use Rattle.workload.specs.NumberWords.{is_amount_word, number_word, number_of, is_number, is_number_to, is_signed_word, is_number_between, is_number_word}
-use Rattle.workload.specs.CallWords.{map_verb, map_operands, atomic_verb, atomic_operands, group_verb, group_operands, pool_verb, pool_operands}
-use Rattle.workload.specs.Draft.{is_map_call, is_group_call, is_pool_call, is_value}
+use Rattle.script_calls.specs.declared.call.Operation.TheVariants as operations
+use Rattle.workload.specs.declared.object.ObjectWord.TheVariants as words
+use Rattle.workload.specs.Plan.{is_amount, has_operation}
+use Rattle.workload.specs.NumberWords.{is_amount_word, is_passes, is_passes_word, number_word, number_of, is_number, is_number_to, is_signed_word, is_number_between, is_number_word}
+use Rattle.workload.specs.CallWords.{map_verb, map_operands, atomic_verb, atomic_operands, group_verb, group_operands, pool_verb, pool_operands, composed_verb, composed_operands}
+use Rattle.workload.specs.Draft.{is_map_call, is_group_call, is_pool_call, is_composed_call, is_value}
 use Rattle.workload.proofs.Passing.{both, pair}
 use Rattle.workload.proofs.Numbers.{decimal-number_of, number_of-decimal, is_number-decimal}
 
@@ -283,3 +287,29 @@ pub pool_call_spelled : (c : PoolCall) → is_pool_call c ≡ true → pool_call
 pool_call_spelled (pool_calls.Put v) h = ap (λ (n : ℕ). Some (pool_calls.Put n)) (value_back v h)
 pool_call_spelled pool_calls.Get h = refl
 pool_call_spelled pool_calls.Sweep h = refl
+
+-- ---- calls that are made of others
+
+-- a number of calls that may be passed over is spelled as one
+pub passes_pass : (n : ℕ) → is_passes n ≡ true → is_passes_word (decimal n) ≡ true
+passes_pass n h =
+    let most = leb-true n MAX_PASSES (both (nat_lt 0 n) (nat_le n MAX_PASSES) h).1 in
+    let small : n < 2 ^ 64 = omega arith in
+    rw (is_number-decimal n small, number_of-decimal n small) h
+
+-- a word that is one
+pub passes_said : (word : List ℕ) → is_passes_word word ≡ true → (is_passes (number_of word) ≡ true) × (decimal (number_of word) ≡ word)
+passes_said word h =
+    let parts = both (is_number word) (is_passes (number_of word)) h in
+    let most = leb-true (number_of word) MAX_PASSES (both (nat_lt 0 (number_of word)) (nat_le (number_of word) MAX_PASSES) parts.1).1 in
+    (parts.1, decimal-number_of word parts.0 (omega arith))
+
+-- the call of this word with these operands, on an atomic of this type
+abbrev pub composed_call_at : AtomicKind → Verb → List (List ℕ) → Option ComposedCall
+composed_call_at kind verbs.IfEqual (v ∷ n ∷ []) = Some (IfEqual (number_read kind v) (number_of n))
+composed_call_at kind verb others = None
+
+pub composed_call_spelled : (kind : AtomicKind) (c : ComposedCall) → has_operation (words.Atomic kind) (operations.Composed c) ≡ true → is_composed_call c ≡ true → composed_call_at kind (composed_verb c) (composed_operands c) ≡ Some c
+composed_call_spelled kind (IfEqual v n) on h =
+    let most = leb-true n MAX_PASSES (both (nat_lt 0 n) (nat_le n MAX_PASSES) h).1 in
+    ap (λ (x : Number). Some (IfEqual x (number_of (decimal n)))) (number_spelled kind v on) ∙ ap (λ (m : ℕ). Some (IfEqual v m)) (number_of-decimal n (omega arith))

@@ -10,6 +10,7 @@ use Rattle.std.proofs.lemmas.Slice.Eq.{bytes_eq-Decides}
 use Rattle.std.proofs.lemmas.List.{length-map}
 use Rattle.sync_types.specs.Name.{is_name}
 use Rattle.script_calls.specs.declared.call.Call.{Call}
+use Rattle.script_calls.specs.declared.call.ComposedCall.TheVariants.{IfEqual}
 use Rattle.script_calls.specs.declared.call.Operation.{Operation}
 use Rattle.script_calls.specs.declared.call.Operation.TheVariants as operations
 use Rattle.sync_types.specs.declared.map_object.MapCall.TheVariants as map_calls
@@ -47,7 +48,7 @@ use Rattle.workload.specs.declared.turn.Turn.TheVariants as turns
 use Rattle.workload.specs.Plan.{Plan, word_of, reference_of, is_target, is_amount, has_call}
 use Rattle.workload.specs.Lines.{lines_of, words_of, is_short, is_clean, is_significant}
 use Rattle.workload.specs.KeywordWords.{keyword_word, keyword_at, verb_word}
-use Rattle.workload.specs.NumberWords.{number_word, is_number, is_number_to, is_amount_word, number_of}
+use Rattle.workload.specs.NumberWords.{number_word, is_number, is_number_to, is_amount_word, is_passes, number_of}
 use Rattle.workload.specs.CallWords.{verb_of, operands_of}
 use Rattle.workload.specs.Words.{spelled, kind_parameters, turn_word}
 use Rattle.workload.specs.Draft.{Draft, started, with_line, declared, may_follow, names_object, names_reference, is_kind, is_operation, is_value, is_item, is_range, operation_keys, count_of, limit_of, range_count}
@@ -55,7 +56,7 @@ use Rattle.workload.specs.Checks.{Check, first_failing, form_words, parameter_wo
 use Rattle.workload.specs.Reads.{Continues, IsRead, ReadsOn, Reads, FirstFault, IsRefused}
 use Rattle.workload.proofs.Passing.{both, pair}
 use Rattle.workload.proofs.Keywords.{keyword_from}
-use Rattle.workload.proofs.CallWords.{number_read, number_said, signed_of, amount_said}
+use Rattle.workload.proofs.CallWords.{number_read, number_said, signed_of, amount_said, passes_said}
 use Rattle.workload.proofs.CallForms.{call_form, ranges_of}
 use Rattle.workload.proofs.FirstFailing.{PassesWith, form_passes}
 use Rattle.workload.proofs.Numbers.{decimal-number_of}
@@ -320,6 +321,17 @@ numbers_said kind (v ∷ w ∷ []) h =
     (number_read kind v, number_read kind w, first.0, second.0, ap (λ (x : List ℕ). x ∷ w ∷ []) (sym first.1) ∙ ap (λ (x : List ℕ). number_word (number_read kind v) ∷ x ∷ []) (sym second.1))
 numbers_said kind (v ∷ w ∷ other ∷ words) h = absurd (omega (arith, eqb-true (length (v ∷ w ∷ other ∷ words)) 2 (all_pass (form_words (Some (operands.Number kind ∷ operands.Number kind ∷ [])) (v ∷ w ∷ other ∷ words)) h).0))
 
+test_said : (kind : AtomicKind) (words : List (List ℕ)) → first_failing (form_words (Some (operands.Number kind ∷ operands.Passes ∷ [])) words) ≡ None
+    → (x : Number) × (n : ℕ) × (is_of kind x ≡ true) × (is_passes n ≡ true) × (words ≡ number_word x ∷ decimal n ∷ [])
+test_said kind [] h = absurd cc
+test_said kind (v ∷ []) h = absurd cc
+test_said kind (v ∷ w ∷ []) h =
+    let all = all_pass (form_words (Some (operands.Number kind ∷ operands.Passes ∷ [])) (v ∷ w ∷ [])) h in
+    let first = number_said kind v all.1.0 in
+    let second = passes_said w all.1.1.0 in
+    (number_read kind v, number_of w, first.0, second.0, ap (λ (x : List ℕ). x ∷ w ∷ []) (sym first.1) ∙ ap (λ (x : List ℕ). number_word (number_read kind v) ∷ x ∷ []) (sym second.1))
+test_said kind (v ∷ w ∷ other ∷ words) h = absurd (omega (arith, eqb-true (length (v ∷ w ∷ other ∷ words)) 2 (all_pass (form_words (Some (operands.Number kind ∷ operands.Passes ∷ [])) (v ∷ w ∷ other ∷ words)) h).0))
+
 bits_said : (kind : AtomicKind) (words : List (List ℕ)) → first_failing (form_words (bits_form kind) words) ≡ None → (x : Number) × ((has_bits kind && is_of kind x) ≡ true) × (words ≡ number_word x ∷ [])
 bits_said types.Int32 words h = number_alone_said types.Int32 words h
 bits_said types.Int64 words h = number_alone_said types.Int64 words h
@@ -359,6 +371,7 @@ atomic_spelled kind verbs.Add words h = let said = bits_said kind words h in (op
 atomic_spelled kind verbs.And words h = let said = bits_said kind words h in (operations.Atomic (atomic_calls.And said.0), refl, sym said.2, said.1, refl)
 atomic_spelled kind verbs.Or words h = let said = bits_said kind words h in (operations.Atomic (atomic_calls.Or said.0), refl, sym said.2, said.1, refl)
 atomic_spelled kind verbs.CompareAndSwap words h = let said = numbers_said kind words h in (operations.Atomic (atomic_calls.CompareAndSwap said.0 said.1), refl, sym said.4, pair (is_of kind said.0) (is_of kind said.1) said.2 said.3, refl)
+atomic_spelled kind verbs.IfEqual words h = let said = test_said kind words h in (operations.Composed (IfEqual said.0 said.1), refl, sym said.4, said.2, said.3)
 atomic_spelled kind verb words h = absurd cc
 
 mutex_spelled : (verb : Verb) (words : List (List ℕ)) → first_failing (form_words (mutex_form verb) words) ≡ None → Spelled kinds.Mutex verb words

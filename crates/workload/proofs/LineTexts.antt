@@ -1,6 +1,6 @@
 -- The text of a line, and the words that it is cut into again.
 use Rattle.std.proofs.Common.{◌≡◌, ℕ, suc, ◌+◌, ◌*◌, ◌^◌, ◌<◌, ◌≤◌, Bool, true, false, eqb, ◌&&◌, not, List, [], ◌∷◌, ◌++◌, map, length, ℤ, pos, negsuc, Option, Some, None, refl, ap, ◌∙◌, arith}
-use Rattle.std.specs.Prelude.{nat_le, codes}
+use Rattle.std.specs.Prelude.{nat_lt, nat_le, codes}
 use Rattle.std.specs.List.{filter, list_all, slice_split, onto_first, join_with_byte}
 use Rattle.std.specs.Str.{all_ascii_digits}
 use Rattle.std.specs.Fmt.{decimal, signed_decimal}
@@ -24,13 +24,15 @@ use Rattle.sync_types.specs.declared.wait_call.WaitGroupCall.TheVariants as grou
 use Rattle.sync_types.specs.declared.pool_call.PoolCall.{PoolCall}
 use Rattle.sync_types.specs.declared.pool_call.PoolCall.TheVariants as pool_calls
 use Rattle.script_calls.specs.declared.call.Call.{Call}
+use Rattle.script_calls.specs.declared.call.ComposedCall.{ComposedCall}
+use Rattle.script_calls.specs.declared.call.ComposedCall.TheVariants.{IfEqual}
 use Rattle.script_calls.specs.declared.call.Operation.{Operation}
 use Rattle.script_calls.specs.declared.call.Operation.TheVariants as operations
 use Rattle.sync_types.specs.declared.map_object.MapCall.{MapCall}
 use Rattle.sync_types.specs.declared.map_object.MapCall.TheVariants as map_calls
 use Rattle.workload.specs.declared.keyword.Verb.{Verb}
 use Rattle.workload.specs.declared.keyword.Verb.TheVariants as verbs
-use Rattle.workload.specs.declared.limits.TheConstants.{MAX_AMOUNT, MAX_CODE, MAX_LINE, MAX_WORKERS}
+use Rattle.workload.specs.declared.limits.TheConstants.{MAX_AMOUNT, MAX_CODE, MAX_LINE, MAX_PASSES, MAX_WORKERS}
 use Rattle.sync_types.specs.declared.value.TheConstants.{MAX_VALUE}
 use Rattle.workload.specs.declared.object.ObjectKind.{ObjectKind}
 use Rattle.workload.specs.declared.object.ObjectKind.TheVariants as kinds
@@ -42,12 +44,12 @@ use Rattle.workload.specs.declared.turn.Turn.{Turn}
 use Rattle.workload.specs.declared.turn.Turn.TheVariants as turns
 use Rattle.workload.specs.KeywordWords.{object_word, verb_word}
 use Rattle.workload.specs.NumberWords.{number_word}
-use Rattle.workload.specs.CallWords.{group_operands, pool_operands, verb_of, operands_of, map_values, map_operands, atomic_operands}
+use Rattle.workload.specs.CallWords.{group_operands, pool_operands, composed_operands, verb_of, operands_of, map_values, map_operands, atomic_operands}
 use Rattle.workload.specs.Words.{spelled, first_spelled, kind_parameters, turn_word}
 use Rattle.workload.specs.Plan.{word_of, is_amount, has_call}
 use Rattle.workload.specs.declared.object.Declared.{Declared}
 use Rattle.workload.proofs.CallWords.{narrow, amount_small}
-use Rattle.workload.specs.Draft.{Draft, declared, may_follow, names_object, is_call, is_operation, is_map_call, is_group_call, is_pool_call, is_kind, is_reference, names_reference, is_value, is_item}
+use Rattle.workload.specs.Draft.{Draft, declared, may_follow, names_object, is_call, is_operation, is_map_call, is_group_call, is_pool_call, is_composed_call, is_kind, is_reference, names_reference, is_value, is_item}
 use Rattle.workload.proofs.Follows.{object_follows, schedule_follows, call_follows}
 use Rattle.workload.proofs.Numbers.{numerals}
 use Rattle.workload.specs.Lines.{lines_of, words_of, is_clean, is_printable, is_filled}
@@ -295,6 +297,12 @@ pool_operands_fit (pool_calls.Put v) h = let one = one_decimal v MAX_VALUE h (om
 pool_operands_fit pool_calls.Get h = (refl, omega arith)
 pool_operands_fit pool_calls.Sweep h = (refl, omega arith)
 
+composed_operands_fit : (k : AtomicKind) (c : ComposedCall) → has_call (kinds.Atomic k) (operations.Composed c) ≡ true → is_composed_call c ≡ true → (list_all is_word (composed_operands c) ≡ true) × (widths (composed_operands c) ≤ 80)
+composed_operands_fit k (IfEqual v n) on h =
+    let first = number_is_word k v on in
+    let second = one_decimal n MAX_PASSES (both (nat_lt 0 n) (nat_le n MAX_PASSES) h).1 (omega arith) in
+    (pair (is_word (number_word v)) (list_all is_word (decimal n ∷ [])) first.0 second.0, omega (arith, first.1, second.1))
+
 parameters_fit : (k : ObjectKind) → is_kind k ≡ true → (list_all is_word (kind_parameters k) ≡ true) × (widths (kind_parameters k) ≤ 21)
 parameters_fit (kinds.WaitGroup n) h = one_decimal n MAX_AMOUNT h (omega arith)
 parameters_fit (kinds.Once a z) h = one_amount z h
@@ -324,7 +332,9 @@ operands_fit kind operations.Once on h = (refl, omega arith)
 operands_fit kind operations.OnceFunc on h = (refl, omega arith)
 operands_fit kind operations.OnceValue on h = (refl, omega arith)
 operands_fit kind (operations.Pool c) on h = pool_operands_fit c h
+operands_fit (kinds.Atomic k) (operations.Composed c) on h = composed_operands_fit k c on h
 operands_fit kind (operations.Atomic c) on h = absurd cc
+operands_fit kind (operations.Composed c) on h = absurd cc
 
 verb_fits : (v : Verb) → (is_word (verb_word v) ≡ true) × (length (verb_word v) ≤ 20)
 verb_fits verbs.Load = (refl, omega arith)
@@ -356,6 +366,7 @@ verb_fits verbs.Value = (refl, omega arith)
 verb_fits verbs.Put = (refl, omega arith)
 verb_fits verbs.Get = (refl, omega arith)
 verb_fits verbs.Sweep = (refl, omega arith)
+verb_fits verbs.IfEqual = (refl, omega arith)
 
 call_fits : (o : Option Declared) (name : List ℕ) (c : Call) → names_object o c ≡ true → is_name name ≡ true → is_call c ≡ true → FitsLine (verb_word (verb_of c.operation) ∷ name ∷ operands_of c.operation)
 call_fits None name c on named h = absurd cc

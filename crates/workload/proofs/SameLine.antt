@@ -7,12 +7,15 @@ use Rattle.std.specs.Option.{option_to_list}
 use Rattle.std.proofs.lemmas.Bool.{eqb-true, ltb-true, leb-true}
 use Rattle.std.proofs.lemmas.Fmt.{decimal_injective}
 use Rattle.script_calls.specs.declared.call.Call.{Call}
+use Rattle.script_calls.specs.declared.call.ComposedCall.{ComposedCall}
+use Rattle.script_calls.specs.declared.call.ComposedCall.TheVariants.{IfEqual}
 use Rattle.script_calls.specs.declared.call.Operation.{Operation}
 use Rattle.script_calls.specs.declared.call.Operation.TheVariants as operations
 use Rattle.sync_types.specs.declared.map_object.MapCall.{MapCall}
 use Rattle.sync_types.specs.declared.map_object.MapCall.TheVariants as map_calls
 use Rattle.sync_types.specs.declared.atomic_object.AtomicKind.{AtomicKind}
 use Rattle.sync_types.specs.declared.atomic_object.AtomicCall.{AtomicCall}
+use Rattle.sync_types.specs.declared.atomic_object.AtomicCall.TheVariants as atomic_calls
 use Rattle.sync_types.specs.declared.wait_call.CondCall.{CondCall}
 use Rattle.sync_types.specs.declared.wait_call.CondCall.TheVariants as cond_calls
 use Rattle.sync_types.specs.declared.wait_call.WaitGroupCall.{WaitGroupCall}
@@ -36,15 +39,15 @@ use Rattle.workload.specs.declared.turn.Turn.TheVariants as turns
 use Rattle.workload.specs.Plan.{word_of, is_amount, reference_of, has_call}
 use Rattle.workload.specs.KeywordWords.{keyword_word}
 use Rattle.workload.specs.NumberWords.{is_number}
-use Rattle.workload.specs.CallWords.{verb_of, map_verb, atomic_verb, mutex_verb, rw_mutex_verb, cond_verb, group_verb, pool_verb, operands_of, map_operands, atomic_operands, group_operands, pool_operands}
+use Rattle.workload.specs.CallWords.{verb_of, map_verb, atomic_verb, mutex_verb, rw_mutex_verb, cond_verb, group_verb, pool_verb, composed_verb, operands_of, map_operands, atomic_operands, group_operands, pool_operands, composed_operands}
 use Rattle.workload.specs.Words.{keyword_of, arguments_of, spelled, kind_parameters, turn_word}
-use Rattle.workload.specs.Draft.{Draft, declared, may_follow, names_object, is_call, is_operation, is_map_call, is_group_call, is_pool_call, is_kind, names_reference, is_item}
+use Rattle.workload.specs.Draft.{Draft, declared, may_follow, names_object, is_call, is_operation, is_map_call, is_group_call, is_pool_call, is_composed_call, is_kind, names_reference, is_item}
 use Rattle.workload.proofs.Passing.{both}
 use Rattle.workload.proofs.Follows.{object_follows, schedule_follows, call_follows}
 use Rattle.workload.proofs.References.{Refers, some_reference, no_reference}
 use Rattle.workload.proofs.Numbers.{is_number-decimal}
 use Rattle.workload.proofs.Keywords.{same_keyword}
-use Rattle.workload.proofs.CallWords.{map_call_at, map_call_spelled, atomic_call_at, atomic_call_spelled, signed_of, amount_spelled, group_call_at, group_call_spelled, pool_call_at, pool_call_spelled}
+use Rattle.workload.proofs.CallWords.{map_call_at, map_call_spelled, atomic_call_at, atomic_call_spelled, signed_of, amount_spelled, group_call_at, group_call_spelled, pool_call_at, pool_call_spelled, composed_call_at, composed_call_spelled}
 
 some_is : {X : Type 0} (x y : X) → Some x ≡ Some y → x ≡ y
 some_is x y e = cc
@@ -137,6 +140,21 @@ same_mutex_call c d v = some_is c d (sym (mutex_call_spelled c) ∙ ap mutex_cal
 same_rw_mutex_call : (c d : RwMutexCall) → rw_mutex_verb c ≡ rw_mutex_verb d → c ≡ d
 same_rw_mutex_call c d v = some_is c d (sym (rw_mutex_call_spelled c) ∙ ap rw_mutex_call_at v ∙ rw_mutex_call_spelled d)
 
+same_composed_call : (kind : AtomicKind) (c d : ComposedCall) → has_call (kinds.Atomic kind) (operations.Composed c) ≡ true → has_call (kinds.Atomic kind) (operations.Composed d) ≡ true → is_composed_call c ≡ true → is_composed_call d ≡ true
+    → composed_verb c ≡ composed_verb d → composed_operands c ≡ composed_operands d → c ≡ d
+same_composed_call kind c d on_c on_d p q v e =
+    some_is c d (sym (composed_call_spelled kind c on_c p) ∙ ap (λ (x : Verb). composed_call_at kind x (composed_operands c)) v ∙ ap (composed_call_at kind (composed_verb d)) e ∙ composed_call_spelled kind d on_d q)
+
+-- no call of an atomic's calls is spelled as `ifeq`
+no_test : (c : AtomicCall) (d : ComposedCall) → atomic_verb c ≡ composed_verb d → ⊥
+no_test atomic_calls.Load (IfEqual v n) e = cc
+no_test (atomic_calls.Store x) (IfEqual v n) e = cc
+no_test (atomic_calls.Swap x) (IfEqual v n) e = cc
+no_test (atomic_calls.Add x) (IfEqual v n) e = cc
+no_test (atomic_calls.And x) (IfEqual v n) e = cc
+no_test (atomic_calls.Or x) (IfEqual v n) e = cc
+no_test (atomic_calls.CompareAndSwap x y) (IfEqual v n) e = cc
+
 -- no call of a map's calls is spelled as `range`
 no_range : (c : MapCall (List ℕ)) → map_verb c ≡ verbs.Range → ⊥
 no_range (map_calls.Load k) e = cc
@@ -170,6 +188,9 @@ same_operation (kinds.Once a z) operations.Once operations.Once on_c on_d p q v 
 same_operation (kinds.OnceFunc n) operations.OnceFunc operations.OnceFunc on_c on_d p q v e = refl
 same_operation (kinds.OnceValue n) operations.OnceValue operations.OnceValue on_c on_d p q v e = refl
 same_operation kinds.Pool (operations.Pool c) (operations.Pool d) on_c on_d p q v e = ap (λ (x : PoolCall). operations.Pool x) (same_pool_call c d p q v e)
+same_operation (kinds.Atomic k) (operations.Composed c) (operations.Composed d) on_c on_d p q v e = ap (λ (x : ComposedCall). operations.Composed x) (same_composed_call k c d on_c on_d p q v e)
+same_operation (kinds.Atomic k) (operations.Atomic c) (operations.Composed d) on_c on_d p q v e = absurd (no_test c d v)
+same_operation (kinds.Atomic k) (operations.Composed c) (operations.Atomic d) on_c on_d p q v e = absurd (no_test d c (sym v))
 same_operation kind a b on_c on_d p q v e = absurd cc
 
 same_call : (o : Option Declared) (c d : Call) → names_object o c ≡ true → names_object o d ≡ true → is_call c ≡ true → is_call d ≡ true → verb_of c.operation ≡ verb_of d.operation → operands_of c.operation ≡ operands_of d.operation → c ≡ d

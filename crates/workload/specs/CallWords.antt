@@ -2,6 +2,8 @@
 use Rattle.std.specs.Prelude.{ℕ, List, [], ◌∷◌, ◌++◌, map}
 use Rattle.std.specs.Option.{option_to_list}
 use Rattle.std.specs.Fmt.{decimal, signed_decimal}
+use Rattle.script_calls.specs.declared.call.ComposedCall.{ComposedCall}
+use Rattle.script_calls.specs.declared.call.ComposedCall.TheVariants.{IfEqual}
 use Rattle.script_calls.specs.declared.call.Operation.{Operation}
 use Rattle.script_calls.specs.declared.call.Operation.TheVariants as operations
 use Rattle.sync_types.specs.declared.map_object.MapCall.{MapCall}
@@ -73,6 +75,9 @@ pool_verb (pool_calls.Put item) = verbs.Put
 pool_verb pool_calls.Get = verbs.Get
 pool_verb pool_calls.Sweep = verbs.Sweep
 
+abbrev pub composed_verb : ComposedCall → Verb
+composed_verb (IfEqual value passes) = verbs.IfEqual
+
 abbrev pub verb_of : Operation → Verb
 verb_of (operations.Map call) = map_verb call
 verb_of operations.Range = verbs.Range
@@ -85,6 +90,7 @@ verb_of operations.Once = verbs.Do
 verb_of operations.OnceFunc = verbs.Call
 verb_of operations.OnceValue = verbs.Value
 verb_of (operations.Pool call) = pool_verb call
+verb_of (operations.Composed call) = composed_verb call
 
 -- the values of a call of a map, in order
 abbrev pub map_values : {K : Type 0} → MapCall K → List ℕ
@@ -125,6 +131,9 @@ pool_operands (pool_calls.Put item) = decimal item ∷ []
 pool_operands pool_calls.Get = []
 pool_operands pool_calls.Sweep = []
 
+abbrev pub composed_operands : ComposedCall → List (List ℕ)
+composed_operands (IfEqual value passes) = number_word value ∷ decimal passes ∷ []
+
 abbrev pub operands_of : Operation → List (List ℕ)
 operands_of (operations.Map call) = map_operands call
 operands_of operations.Range = []
@@ -137,3 +146,4 @@ operands_of operations.Once = []
 operands_of operations.OnceFunc = []
 operands_of operations.OnceValue = []
 operands_of (operations.Pool call) = pool_operands call
+operands_of (operations.Composed call) = composed_operands call

@@ -27,7 +27,7 @@ use Rattle.workload.specs.declared.reason.Reason.TheVariants.{NoWorkersLine, Lin
 use Rattle.workload.specs.Lines.{is_short, is_clean, words_of, is_significant}
 use Rattle.workload.specs.KeywordWords.{keyword_word, keyword_at}
 use Rattle.workload.specs.Plan.{word_of}
-use Rattle.workload.specs.NumberWords.{is_number, is_number_to, is_amount_word, is_number_word, number_of}
+use Rattle.workload.specs.NumberWords.{is_number, is_number_to, is_amount_word, is_passes_word, is_number_word, number_of}
 use Rattle.workload.specs.Draft.{Draft, declared, limit_of, count_of, call_count, key_count, range_count}
 
 -- whether a check passes, and the reason that it fails for
@@ -66,6 +66,7 @@ atomic_form kind verbs.Add = bits_form kind
 atomic_form kind verbs.And = bits_form kind
 atomic_form kind verbs.Or = bits_form kind
 atomic_form kind verbs.CompareAndSwap = Some (operands.Number kind ∷ operands.Number kind ∷ [])
+atomic_form kind verbs.IfEqual = Some (operands.Number kind ∷ operands.Passes ∷ [])
 atomic_form kind verb = None
 
 -- a call of a mutex has no operands
@@ -137,6 +138,7 @@ operand_check operands.Key word = (is_name word, BadName)
 operand_check operands.Value word = (is_number_to MAX_VALUE word, BadNumber)
 operand_check (operands.Number kind) word = (is_number_word kind word, BadNumber)
 operand_check operands.Amount word = (is_amount_word word, BadNumber)
+operand_check operands.Passes word = (is_passes_word word, BadNumber)
 
 -- the operands from left to right
 abbrev pub operand_checks : List Operand → List (List ℕ) → List Check

@@ -5,6 +5,8 @@ use Rattle.std.specs.Option.{option_map_or, option_to_list}
 use Rattle.std.specs.Str.{bytes_eq}
 use Rattle.sync_types.specs.Name.{is_name}
 use Rattle.script_calls.specs.declared.call.Call.{Call}
+use Rattle.script_calls.specs.declared.call.ComposedCall.{ComposedCall}
+use Rattle.script_calls.specs.declared.call.ComposedCall.TheVariants.{IfEqual}
 use Rattle.script_calls.specs.declared.call.Operation.{Operation}
 use Rattle.script_calls.specs.declared.call.Operation.TheVariants as operations
 use Rattle.sync_types.specs.declared.map_object.MapCall.{MapCall}
@@ -27,6 +29,7 @@ use Rattle.workload.specs.declared.turn.Turn.{Turn}
 use Rattle.workload.specs.declared.turn.Turn.TheVariants as turns
 use Rattle.workload.specs.Plan.{Plan, word_of, reference_of, is_target, is_amount, has_call}
 use Rattle.workload.specs.CallWords.{map_values}
+use Rattle.workload.specs.NumberWords.{is_passes}
 
 -- the workload that the lines so far say, and the worker whose calls follow
 pub record Draft : Type 0 where
@@ -137,11 +140,16 @@ abbrev pub is_pool_call : PoolCall → Bool
 is_pool_call (pool_calls.Put item) = is_value item
 is_pool_call call = true
 
+-- whether the number of calls that a call passes over is in range
+abbrev pub is_composed_call : ComposedCall → Bool
+is_composed_call (IfEqual value passes) = is_passes passes
+
 -- the same of any operation; of an atomic's numbers the kind of the object says it
 abbrev pub is_operation : Operation → Bool
 is_operation (operations.Map call) = is_map_call call
 is_operation (operations.WaitGroup call) = is_group_call call
 is_operation (operations.Pool call) = is_pool_call call
+is_operation (operations.Composed call) = is_composed_call call
 is_operation operation = true
 
 abbrev pub is_call : Call → Bool

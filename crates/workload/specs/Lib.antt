@@ -2,6 +2,7 @@ pub mod CallWords
 pub mod Canonical
 pub mod Checks
 pub mod Draft
+pub mod Forms
 pub mod Index
 pub mod Keys
 pub mod KeywordWords

@@ -7,7 +7,7 @@ use Rattle.sync_types.specs.declared.atomic_object.AtomicKind.{AtomicKind}
 use Rattle.sync_types.specs.declared.atomic_object.AtomicKind.TheVariants as types
 use Rattle.sync_types.specs.declared.atomic_object.Number.{Number}
 use Rattle.sync_types.specs.declared.atomic_object.Number.TheVariants as numbers
-use Rattle.workload.specs.declared.limits.TheConstants.{MAX_AMOUNT}
+use Rattle.workload.specs.declared.limits.TheConstants.{MAX_AMOUNT, MAX_PASSES}
 
 -- whether a word is a number: digits, of which the first is 0 only where it is the only one
 abbrev pub is_number : List ℕ → Bool
@@ -34,6 +34,14 @@ is_signed_word bound word = is_number_between bound (bound - 1) word
 -- whether a word is a number from -10,000 to 10,000
 abbrev pub is_amount_word : List ℕ → Bool
 is_amount_word word = is_number_between MAX_AMOUNT MAX_AMOUNT word
+
+-- whether a call may pass over so many: 1 to 1,000
+abbrev pub is_passes : ℕ → Bool
+is_passes passes = nat_lt 0 passes && nat_le passes MAX_PASSES
+
+-- whether a word is such a number
+abbrev pub is_passes_word : List ℕ → Bool
+is_passes_word word = is_number word && is_passes (number_of word)
 
 -- whether a word is a number of an atomic of this type
 abbrev pub is_number_word : AtomicKind → List ℕ → Bool

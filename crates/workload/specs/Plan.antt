@@ -3,10 +3,11 @@ use Rattle.std.specs.Prelude.{ℕ, ℤ, pos, negsuc, Bool, true, false, ◌&&◌
 use Rattle.std.specs.Option.{option_map_or}
 use Rattle.std.specs.List.{list_all}
 use Rattle.script_calls.specs.declared.call.Call.{Call}
+use Rattle.script_calls.specs.declared.call.ComposedCall.TheVariants.{IfEqual}
 use Rattle.script_calls.specs.declared.call.Operation.{Operation}
 use Rattle.script_calls.specs.declared.call.Operation.TheVariants as operations
 use Rattle.sync_types.specs.declared.atomic_object.AtomicKind.TheVariants as types
-use Rattle.sync_types.specs.SequentialAtomic.{is_atomic_call}
+use Rattle.sync_types.specs.SequentialAtomic.{is_of, is_atomic_call}
 use Rattle.workload.specs.declared.limits.TheConstants.{MAX_AMOUNT}
 use Rattle.workload.specs.declared.object.ObjectKind.{ObjectKind}
 use Rattle.workload.specs.declared.object.ObjectKind.TheVariants as kinds
@@ -69,6 +70,7 @@ has_operation words.Once operations.Once = true
 has_operation words.OnceFunc operations.OnceFunc = true
 has_operation words.OnceValue operations.OnceValue = true
 has_operation words.Pool (operations.Pool call) = true
+has_operation (words.Atomic kind) (operations.Composed (IfEqual value passes)) = is_of kind value
 has_operation word operation = false
 
 -- whether an object of this kind has it

@@ -59,6 +59,8 @@ pub enum Verb {
     Put,
     Get,
     Sweep,
+    /// `ifeq`
+    IfEqual,
 }
 
 /// What a word of a call behind the object's name stands for.
@@ -72,6 +74,8 @@ pub enum Operand {
     Number(AtomicKind),
     /// An amount for a wait group, -10,000 to 10,000.
     Amount,
+    /// How many calls are passed over, 1 to 1,000.
+    Passes,
 }
 
 /// What a word of an object's line behind the object's name stands for.
@@ -143,6 +147,7 @@ impl Verb {
             Verb::Put => b"put",
             Verb::Get => b"get",
             Verb::Sweep => b"sweep",
+            Verb::IfEqual => b"ifeq",
         }
     }
 }
@@ -177,6 +182,7 @@ fn verbs_with(first: u8) -> &'static [Verb]
         ],
         b'd' => &[Verb::Delete, Verb::Done, Verb::Do],
         b'g' => &[Verb::Get],
+        b'i' => &[Verb::IfEqual],
         b'l' => &[
             Verb::Load,
             Verb::LoadOrStore,

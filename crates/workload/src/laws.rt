@@ -23,7 +23,7 @@ ghost use Rattle.workload.specs.Reads.{Reads, IsRefused};
 
 use crate::limits::{
     MAX_AMOUNT, MAX_ATOMICS, MAX_CALLS, MAX_CODE, MAX_INPUT, MAX_KEYS, MAX_LINE, MAX_MAPS,
-    MAX_OTHERS, MAX_RANGES, MAX_TURNS, MAX_WORKERS,
+    MAX_OTHERS, MAX_PASSES, MAX_RANGES, MAX_TURNS, MAX_WORKERS,
 };
 use sync_types::MAX_VALUE;
 
@@ -106,6 +106,7 @@ pub fn limits()
     ensures texts { (MAX_INPUT ≡ 8388608) × (MAX_LINE ≡ 200) × (MAX_NAME ≡ 32) }
     ensures workers { (MAX_WORKERS ≡ 32) × (MAX_CALLS ≡ 20000) × (MAX_RANGES ≡ 64) × (MAX_TURNS ≡ 100000) }
     ensures objects { (MAX_MAPS ≡ 16) × (MAX_ATOMICS ≡ 64) × (MAX_OTHERS ≡ 32) × (MAX_KEYS ≡ 4096) }
+    ensures passes { MAX_PASSES ≡ 1000 }
     ensures numbers { (MAX_AMOUNT ≡ 10000) × (MAX_CODE ≡ 1000) × (MAX_VALUE ≡ 2 ^ 63 - 1) }
 {}
 

@@ -28,6 +28,9 @@ pub const MAX_AMOUNT: u64 = 10_000;
 /// The greatest code with which the function of a `oncefunc` fails.
 pub const MAX_CODE: u64 = 1_000;
 
+/// The most calls that an `ifeq` passes over.
+pub const MAX_PASSES: u64 = 1_000;
+
 /// The most `range` calls, of all workers together.
 pub const MAX_RANGES: usize = 64;
 

@@ -1,8 +1,8 @@
 //! Which call an operation is.
 ghost use Rattle.std.specs.Prelude.{◌≡◌};
-ghost use Rattle.workload.specs.CallWords.{map_verb, atomic_verb, mutex_verb, rw_mutex_verb, cond_verb, group_verb, pool_verb, verb_of};
+ghost use Rattle.workload.specs.CallWords.{map_verb, atomic_verb, mutex_verb, rw_mutex_verb, cond_verb, group_verb, pool_verb, composed_verb, verb_of};
 
-use script_calls::Operation;
+use script_calls::{ComposedCall, Operation};
 use sync_types::{
     AtomicCall, CondCall, MapCall, MutexCall, Name, PoolCall, RwMutexCall, WaitGroupCall,
 };
@@ -98,6 +98,15 @@ pub fn pool_verb(call: PoolCall) -> Verb
     }
 }
 
+/// Which of the calls that are made of others it is.
+pub fn composed_verb(call: ComposedCall) -> Verb
+    ensures { result ≡ composed_verb call }
+{
+    match call {
+        ComposedCall::IfEqual { .. } => Verb::IfEqual,
+    }
+}
+
 /// Which call an operation is.
 pub fn verb(operation: &Operation) -> Verb
     ensures { result ≡ verb_of operation.now }
@@ -114,5 +123,6 @@ pub fn verb(operation: &Operation) -> Verb
         Operation::OnceFunc => Verb::Call,
         Operation::OnceValue => Verb::Value,
         Operation::Pool(call) => pool_verb(*call),
+        Operation::Composed(call) => composed_verb(*call),
     }
 }

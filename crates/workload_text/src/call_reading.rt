@@ -3,14 +3,16 @@ ghost use Rattle.std.specs.Prelude.{◌≡◌, ◌∷◌, [], ◌≤◌, true, m
 ghost use Rattle.std.specs.Fmt.{decimal, signed_decimal};
 ghost use Rattle.sync_types.specs.Name.{is_name};
 ghost use Rattle.sync_types.specs.SequentialAtomic.{has_bits, is_of};
-ghost use Rattle.workload.specs.NumberWords.{number_word};
+ghost use Rattle.workload.specs.NumberWords.{is_passes, number_word};
 ghost use Rattle.workload.specs.Plan.{is_amount};
 ghost use Rattle.workload.specs.Checks.{bits_form, first_failing, form_words};
 ghost use Rattle.sync_types.specs.declared.value.TheConstants.{MAX_VALUE};
 ghost use Rattle.workload_text.specs.LineResult.{IsFault, IsOperands, IsCall};
 
-use crate::word_reading::{read_amount, read_name, read_none, read_number, read_value};
-use script_calls::Operation;
+use crate::word_reading::{
+    read_amount, read_name, read_none, read_number, read_passes, read_value,
+};
+use script_calls::{ComposedCall, Operation};
 use std::alloc::Global;
 use sync_types::{
     AtomicCall, AtomicKind, CondCall, MAX_VALUE, MapCall, MutexCall, Name, Number, PoolCall,
@@ -135,6 +137,17 @@ fn read_two_numbers(kind: AtomicKind, words: &[&[u8]]) -> Result<(Number, Number
     Ok((read_number(kind, first)?, read_number(kind, second)?))
 }
 
+/// A number of an atomic of this type, and how many calls are passed over.
+fn read_test(kind: AtomicKind, words: &[&[u8]]) -> Result<(Number, u32), LineFault>
+    ensures { IsOperands (λ test. (is_of kind test.0 ≡ true) × (is_passes test.1 ≡ true) × (map (λ word. word.now) words.now ≡ number_word test.0 ∷ decimal test.1 ∷ [])) (Operand.Number kind ∷ Operand.Passes ∷ []) (map (λ word. word.now) words.now) result }
+{
+    checks_go_in_order();
+    let [value, passes] = words else {
+        return Err(LineFault::Refused(Reason::WrongNumberOfWords));
+    };
+    Ok((read_number(kind, value)?, read_passes(passes)?))
+}
+
 /// A number for `add`, `and` or `or`, which a bool hasn't.
 fn read_bits(kind: AtomicKind, words: &[&[u8]]) -> Result<Number, LineFault>
     ensures { MatchResult result (λ n. (has_bits kind ≡ true) × (is_of kind n ≡ true) × (map (λ word. word.now) words.now ≡ number_word n ∷ []) × (first_failing (form_words (bits_form kind) (map (λ word. word.now) words.now)) ≡ None)) (IsFault (form_words (bits_form kind) (map (λ word. word.now) words.now))) }
@@ -169,6 +182,10 @@ fn read_atomic_call(kind: AtomicKind, verb: Verb, words: &[&[u8]]) -> Result<Ope
         Verb::CompareAndSwap => {
             let (old, new) = read_two_numbers(kind, words)?;
             Ok(Operation::Atomic(AtomicCall::CompareAndSwap { old, new }))
+        }
+        Verb::IfEqual => {
+            let (value, passes) = read_test(kind, words)?;
+            Ok(Operation::Composed(ComposedCall::IfEqual { value, passes }))
         }
         _ => Err(LineFault::Refused(Reason::WrongKind)),
     }

@@ -3,21 +3,21 @@ ghost use Rattle.std.specs.Prelude.{◌≡◌, ◌++◌, map};
 ghost use Rattle.std.specs.Fmt.{decimal};
 ghost use Rattle.std.specs.Option.{option_to_list, option_copied};
 ghost use Rattle.workload.specs.NumberWords.{number_word};
-ghost use Rattle.workload.specs.CallWords.{map_values, atomic_numbers, group_operands, pool_operands, operands_of};
+ghost use Rattle.workload.specs.CallWords.{map_values, atomic_numbers, group_operands, pool_operands, composed_operands, operands_of};
 ghost use Rattle.workload_text.specs.Numbers.{numbers_in};
 
-use script_calls::Operation;
+use script_calls::{ComposedCall, Operation};
 use sync_types::{AtomicCall, MapCall, Name, Number, PoolCall, WaitGroupCall};
 
 /// The numbers of a call, in order. A value of a map and an item of a pool are of the type `Uint64` here,
-/// and an amount for a wait group is of `Int32`.
+/// an amount for a wait group is of `Int32`, and the number of calls that an `ifeq` passes over of `Uint32`.
 #[derive(Clone, Copy)]
 pub enum Numbers {
     /// The call has no number.
     Empty,
     /// It has one.
     One(Number),
-    /// It compares with an old one, and sets a new one.
+    /// It has two: the old one and the new one of a `cas`, or those of an `ifeq`.
     Two(Number, Number),
 }
 
@@ -74,6 +74,15 @@ fn pool_numbers(call: PoolCall) -> Numbers
     }
 }
 
+/// The value that an atomic is compared with, and how many calls are passed over.
+fn composed_numbers(call: ComposedCall) -> Numbers
+    ensures { map number_word (numbers_in result) ≡ composed_operands call }
+{
+    match call {
+        ComposedCall::IfEqual { value, passes } => Numbers::Two(value, Number::Uint32(passes)),
+    }
+}
+
 /// The operands of an operation: the key, and then the numbers.
 pub fn operands_of(operation: &Operation) -> (Option<&Name>, Numbers)
     ensures { option_to_list (option_copied result.0) ++ map number_word (numbers_in result.1) ≡ operands_of operation.now }
@@ -83,6 +92,7 @@ pub fn operands_of(operation: &Operation) -> (Option<&Name>, Numbers)
         Operation::Atomic(call) => (None, atomic_numbers(*call)),
         Operation::WaitGroup(call) => (None, group_numbers(*call)),
         Operation::Pool(call) => (None, pool_numbers(*call)),
+        Operation::Composed(call) => (None, composed_numbers(*call)),
         Operation::Range
         | Operation::Mutex(_)
         | Operation::RwMutex(_)
