@@ -11,6 +11,7 @@ use Rattle.sync_types.specs.declared.atomic_object.AtomicKind.TheVariants as typ
 use Rattle.script_calls.specs.declared.call.Call.{Call}
 use Rattle.script_calls.specs.declared.call.Operation.{Operation}
 use Rattle.script_calls.specs.declared.call.Operation.TheVariants as operations
+use Rattle.script_calls.specs.Runs.{has_test, have_tests}
 use Rattle.sync_types.specs.declared.map_object.MapCall.TheVariants.{Load, Store, Delete}
 use Rattle.sync_types.specs.SequentialMap.{map_key}
 use Rattle.workload.specs.declared.object.ObjectKind.{ObjectKind}
@@ -40,6 +41,17 @@ all_scripts p seed passes = ap (list_all p) (scripts_are seed) ∙ each (range_w
   each : (workers : List ℕ) → list_all p (map (script_of_worker seed) workers) ≡ true
   each [] = refl
   each (worker ∷ workers) = ap (λ (b : Bool). b && list_all p (map (script_of_worker seed) workers)) (passes worker (in_twos (drawn_for seed worker))) ∙ each workers
+
+-- no call may pass others over
+tests_none : (worker : ℕ) (words : List (ℕ × ℕ)) → has_test (flat_map (round worker) words) ≡ false
+tests_none worker [] = refl
+tests_none worker (pair ∷ words) = tests_none worker words
+
+pub no_tests : (seed : ℕ) → have_tests (generated_plan seed).scripts ≡ false
+no_tests seed = ap have_tests (scripts_are seed) ∙ each (range_with_len 0 8) where
+  each : (workers : List ℕ) → have_tests (map (script_of_worker seed) workers) ≡ false
+  each [] = refl
+  each (worker ∷ workers) = ap (λ (b : Bool). b || have_tests (map (script_of_worker seed) workers)) (tests_none worker (in_twos (drawn_for seed worker))) ∙ each workers
 
 keeps_lock_rounds : (worker : ℕ) (words : List (ℕ × ℕ)) → keeps_lock 0 false (flat_map (round worker) words) ≡ true
 keeps_lock_rounds worker [] = refl

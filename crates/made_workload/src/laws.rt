@@ -1,11 +1,12 @@
 //! Laws of the workload of a seed, and of what its calls come to.
-ghost use Rattle.std.specs.Prelude.{◌≡◌, ◌≢◌, ◌<◌, ◌≤◌, ◌+◌, ◌^◌, ◌%◌, ◌++◌, ◌∷◌, [], ℕ, List, Some, None, true, length, take, slice_get, sum_by, codes};
+ghost use Rattle.std.specs.Prelude.{◌≡◌, ◌≢◌, ◌<◌, ◌≤◌, ◌+◌, ◌^◌, ◌%◌, ◌++◌, ◌∷◌, [], ℕ, List, Some, None, true, false, length, take, slice_get, sum_by, codes};
 ghost use Rattle.std.specs.Fmt.{decimal};
 ghost use Rattle.std.specs.List.{flat_map, list_any, range_with_len};
 ghost use Rattle.std.specs.FinMap.{get};
 ghost use Rattle.std.specs.Str.{bytes_eq};
 ghost use Rattle.rand_pcg.specs.Lcg.{advance};
 ghost use Rattle.rand_pcg.specs.Pcg.{multiplier_64, pcg32};
+ghost use Rattle.script_calls.specs.Runs.{have_tests};
 ghost use Rattle.workload.specs.Canonical.{canonical};
 ghost use Rattle.workload.specs.Draft.{keys_of, call_count};
 ghost use Rattle.workload.specs.Readable.{IsReadable};
@@ -37,13 +38,14 @@ pub fn first_words_of_seeds()
     ensures high_half { take 2 (drawn (2 ^ 32 + 7)) ≡ 4065474018 ∷ 4658041 ∷ [] }
 {}
 
-/// Eight workers have 2,000 calls each, by the words that they draw, on three objects. The workload has a text.
+/// Eight workers have 2,000 calls each, by the words that they draw, on three objects. No call passes others over. The workload has a text.
 pub fn workload_of_a_seed()
     ensures workers { (seed : ℕ) → (generated_plan seed).workers ≡ 8 }
     ensures objects { (seed : ℕ) → (generated_plan seed).objects ≡ generated_objects }
     ensures scripts { (seed worker : ℕ) → worker < 8 → slice_get (generated_plan seed).scripts worker ≡ Some (script_by worker (drawn_for seed worker)) }
     ensures script { (seed worker : ℕ) → worker < 8 → length (script_by worker (drawn_for seed worker)) ≡ 2000 }
     ensures calls { (seed : ℕ) → call_count (generated_plan seed).scripts ≡ 16000 }
+    ensures no_tests { (seed : ℕ) → have_tests (generated_plan seed).scripts ≡ false }
     ensures readable { (seed : ℕ) → IsReadable (generated_plan seed) }
 {}
 

@@ -1,5 +1,5 @@
 -- That a list is cut into the line that it is.
-use Rattle.std.proofs.Common.{◌≡◌, ◌∙◌, ℕ, ◌+◌, Bool, true, false, cond, List, [], ◌∷◌, ◌++◌, map, length, Option, Some, None, refl, sym, ap, subst, append_assoc, arith}
+use Rattle.std.proofs.Common.{◌≡◌, ◌∙◌, ℕ, zero, suc, ◌+◌, Bool, true, false, cond, List, [], ◌∷◌, ◌++◌, map, drop, length, Option, Some, None, refl, sym, ap, subst, append_assoc, arith}
 use Rattle.std.specs.Prelude.{All, Ok, Err}
 use Rattle.std.specs.List.{flat_map, list_all}
 use Rattle.std.proofs.lemmas.Bool.{and_parts, and_from, cond-true}
@@ -9,6 +9,7 @@ use Rattle.sync_types.specs.declared.misuse.Misuse.{Misuse}
 use Rattle.sync_types.specs.declared.misuse.Misuse.TheVariants.{UnlockOfUnlockedMutex, RUnlockOfUnlockedRwMutex, UnlockOfUnlockedRwMutex, NegativeWaitGroupCounter, WaitGroupReused}
 use Rattle.script_calls.specs.declared.call.Call.{Call}
 use Rattle.script_calls.specs.declared.call.Reply.{Reply}
+use Rattle.script_calls.specs.Runs.{passed_over, RunsAlong}
 use Rattle.sync_model.specs.declared.answer.Answer.TheVariants.{Done, Halted}
 use Rattle.sync_model.specs.declared.item.Item.{Item}
 use Rattle.sync_model.specs.declared.journal.Deed.{Deed}
@@ -19,12 +20,12 @@ use Rattle.run_record.specs.declared.made.Made.TheVariants.{Shared, Entered}
 use Rattle.run_record.specs.declared.made.Made.{Made}
 use Rattle.run_record.specs.Calls.{SpellsCall}
 use Rattle.run_record.specs.Explains.{HasEnded}
-use Rattle.run_record.specs.Lines.{Line, SpeltCall, LineEnd, whole as at_end, misused, halted, unfinished, script_of, items_of, IsHalt, AreHalts, AreSpelt, EndsBy}
+use Rattle.run_record.specs.Lines.{Line, SpeltCall, LineEnd, whole as at_end, misused, halted, unfinished, calls_made, items_of, IsHalt, AreHalts, AreSpelt, EndsBy}
 use Rattle.run_record.specs.Record.{shared_in}
 use Rattle.workload.specs.Plan.{Plan}
 use Rattle.run_cuts.specs.Cuts.{Beginning, whole, within, wrong, Cutter, Cuts}
 use Rattle.run_cuts.specs.OneLine.{CutsLines}
-use Rattle.run_cuts.specs.LineCuts.{by_call, ends_in_call, halts_by, if_none_is_left, is_halt, line_cut, same_misuse, with_spelt}
+use Rattle.run_cuts.specs.LineCuts.{by_call, cut_from, ends_in_call, halts_by, if_none_is_left, is_halt, line_cut, same_misuse, with_spelt}
 
 some_line : {a b : Line} → Some a ≡ Some b → a ≡ b
 some_line e = cc
@@ -79,6 +80,26 @@ all_tells : (misuse : Misuse) (list : List Made) → All (IsHalt misuse) list �
 all_tells misuse [] h = refl
 all_tells misuse (m ∷ list) h = and_from (is_halt misuse m) (list_all (is_halt misuse) list) (is_halt_tells misuse m (All-head (IsHalt misuse) m list h)) (all_tells misuse list (All-tail (IsHalt misuse) m list h))
 
+nothing : (n : ℕ) → drop {A = Call} n [] ≡ []
+nothing zero = refl
+nothing (suc n) = refl
+
+-- what is passed over isn't cut
+skipped : (cut : ℕ → Call → Cutter (Reply ℕ)) (before passes : ℕ) (script : List Call) (list : List Made) → cut_from cut before passes script list ≡ cut_from cut before 0 (drop passes script) list
+skipped cut before zero script list = refl
+skipped cut before (suc passes) [] list = refl
+skipped cut before (suc passes) (call ∷ script) list = skipped cut before passes script list
+
+-- a test that each call of a script passes is passed by those that are left
+told_dropped : (told : Call → Bool) (n : ℕ) (calls : List Call) → list_all told calls ≡ true → list_all told (drop n calls) ≡ true
+told_dropped told zero calls h = h
+told_dropped told (suc n) [] h = refl
+told_dropped told (suc n) (call ∷ calls) h = told_dropped told n calls (and_parts (told call) (list_all told calls) h).1
+
+-- completed calls, each with its reply
+abbrev made_in : List SpeltCall → List (Call × Reply ℕ)
+made_in spelt = map (λ s. (s.call, s.reply)) spelt
+
 module _ (plan : Plan) (worker : ℕ) (told : Call → Bool) (cut : ℕ → Call → Cutter (Reply ℕ)) (cuts : (before : ℕ) (call : Call) → told call ≡ true → Cuts (SpellsCall plan worker before call) (cut before call)) where
   -- how many calls on maps and atomics a line's completed calls make, behind so many
   abbrev made_by : ℕ → List SpeltCall → ℕ
@@ -86,7 +107,7 @@ module _ (plan : Plan) (worker : ℕ) (told : Call → Bool) (cut : ℕ → Call
 
   -- the line is one of this script and list, from a number of calls on
   pub record IsLineFrom (before : ℕ) (script : List Call) (list : List Made) (line : Line) : Type 0 where
-    pub script_is : script_of line ≡ script
+    pub runs : RunsAlong script (calls_made line) line.rest
     pub list_is : items_of line ≡ list
     pub calls : AreSpelt plan worker before line.spelt
     pub ends : EndsBy plan worker (made_by before line.spelt) line.ending line.rest line.last
@@ -97,7 +118,7 @@ module _ (plan : Plan) (worker : ℕ) (told : Call → Bool) (cut : ℕ → Call
       → IsLineFrom before script (last ++ halts) line
   first_call before script last halts ending line e ends are =
       let n : before ≡ before + 0 = omega arith in
-      let own : IsLineFrom before script (last ++ halts) (ends_in_call script last halts ending) = record { script_is = refl; list_is = refl; calls = tt; ends = subst (λ (k : ℕ). EndsBy plan worker k ending script last) n ends; halts = are } in
+      let own : IsLineFrom before script (last ++ halts) (ends_in_call script last halts ending) = record { runs = refl; list_is = refl; calls = tt; ends = subst (λ (k : ℕ). EndsBy plan worker k ending script last) n ends; halts = are } in
       subst (λ (l : Line). IsLineFrom before script (last ++ halts) l) (some_line e) own
 
   -- the same, where no halt is behind it
@@ -105,28 +126,29 @@ module _ (plan : Plan) (worker : ℕ) (told : Call → Bool) (cut : ℕ → Call
   last_call before script last ending line e ends none = subst (λ (l : List Made). IsLineFrom before script l line) (append-nil last) (first_call before script last [] ending line e ends none)
 
   -- one completed call more
-  one_call : (before : ℕ) (call : Call) (script : List Call) (items rest : List Made) (reply : Reply ℕ) (line : Line) → SpellsCall plan worker before call items (Done (Ok reply)) → IsLineFrom (before + length (shared_in items)) script rest line
+  one_call : (before : ℕ) (call : Call) (script : List Call) (items rest : List Made) (reply : Reply ℕ) (line : Line) → SpellsCall plan worker before call items (Done (Ok reply)) → IsLineFrom (before + length (shared_in items)) (drop (passed_over call reply) script) rest line
       → (let s : SpeltCall = record { call = call; items = items; reply = reply } in IsLineFrom before (call ∷ script) (items ++ rest) (record { spelt = s ∷ line.spelt; last = line.last; halts = line.halts; rest = line.rest; ending = line.ending }))
   one_call before call script items rest reply line spelt is =
       let flat : List Made = flat_map (λ s. s.items) line.spelt in
       let n : made_by (before + length (shared_in items)) line.spelt ≡ before + length (shared_in (items ++ flat)) = omega (arith, shared_more items flat) in record {
-        script_is = ap (λ (l : List Call). call ∷ l) is.script_is;
+        runs = (script, refl, is.runs);
         list_is = append_assoc items flat (line.last ++ line.halts) ∙ ap (λ (l : List Made). items ++ l) is.list_is;
         calls = (spelt, is.calls);
         ends = subst (λ (k : ℕ). EndsBy plan worker k line.ending line.rest line.last) n is.ends;
         halts = is.halts;
       }
 
-  pub line_sound : (script : List Call) → list_all told script ≡ true → (before : ℕ) (list : List Made) (line : Line) → line_cut cut before script list ≡ Some line → IsLineFrom before script list line
-  line_sound [] h before [] line e = last_call before [] [] at_end line e (refl, refl) refl
-  line_sound [] h before (m ∷ list) line e = absurd (none_some e)
-  line_sound (call ∷ script) h before list line e = by (cut before call list) refl e (λ n l x f. line_sound script (and_parts (told call) (list_all told script) h).1 n l x f)
+  pub line_sound : (script : List Call) → list_all told script ≡ true → (before passes : ℕ) (list : List Made) (line : Line) → cut_from cut before passes script list ≡ Some line → IsLineFrom before (drop passes script) list line
+  line_sound [] h before passes [] line e = subst (λ (l : List Call). IsLineFrom before l [] line) (sym (nothing passes)) (last_call before [] [] at_end line e (refl, refl) refl)
+  line_sound [] h before passes (m ∷ list) line e = absurd (none_some e)
+  line_sound (call ∷ script) h before (suc passes) list line e = line_sound script (and_parts (told call) (list_all told script) h).1 before passes list line e
+  line_sound (call ∷ script) h before zero list line e = by (cut before call list) refl e (λ n passes l x f. line_sound script (and_parts (told call) (list_all told script) h).1 n passes l x f)
     where
       here : told call ≡ true
       here = (and_parts (told call) (list_all told script) h).0
 
       with_one : (items rest : List Made) (reply : Reply ℕ) → cut before call list ≡ whole items (Done (Ok reply)) rest → (found : Option Line) → (let s : SpeltCall = record { call = call; items = items; reply = reply } in with_spelt s found ≡ Some line)
-          → ((l : Line) → found ≡ Some l → IsLineFrom (before + length (shared_in items)) script rest l) → IsLineFrom before (call ∷ script) list line
+          → ((l : Line) → found ≡ Some l → IsLineFrom (before + length (shared_in items)) (drop (passed_over call reply) script) rest l) → IsLineFrom before (call ∷ script) list line
       with_one items rest reply is None e on = absurd (none_some e)
       with_one items rest reply is (Some l) e on =
           let one = (cuts before call here).sound list items rest (Done (Ok reply)) is in
@@ -146,9 +168,9 @@ module _ (plan : Plan) (worker : ℕ) (told : Call → Bool) (cut : ℕ → Call
           subst (λ (x : List Made). IsLineFrom before (call ∷ script) x line) (sym (one.0 ∙ append-nil items)) (last_call before (call ∷ script) items (halted misuse) line e one.1 refl)
       halt_ends items (m ∷ rest) misuse is e = absurd (none_some e)
 
-      by : (found : Beginning (Reply ℕ)) → cut before call list ≡ found → by_call before call script list found (λ later rest. line_cut cut later script rest) ≡ Some line
-          → ((n : ℕ) (l : List Made) (x : Line) → line_cut cut n script l ≡ Some x → IsLineFrom n script l x) → IsLineFrom before (call ∷ script) list line
-      by (whole items (Done (Ok reply)) rest) is e on = with_one items rest reply is (line_cut cut (before + length (shared_in items)) script rest) e (λ l f. on (before + length (shared_in items)) rest l f)
+      by : (found : Beginning (Reply ℕ)) → cut before call list ≡ found → by_call before call script list found (λ later passes rest. cut_from cut later passes script rest) ≡ Some line
+          → ((n passes : ℕ) (l : List Made) (x : Line) → cut_from cut n passes script l ≡ Some x → IsLineFrom n (drop passes script) l x) → IsLineFrom before (call ∷ script) list line
+      by (whole items (Done (Ok reply)) rest) is e on = with_one items rest reply is (cut_from cut (before + length (shared_in items)) (passed_over call reply) script rest) e (λ l f. on (before + length (shared_in items)) (passed_over call reply) rest l f)
       by (whole items (Done (Err misuse)) rest) is e on = misuse_ends items rest misuse is (list_all (is_halt misuse) rest) refl e
       by (whole items (Halted misuse) rest) is e on = halt_ends items rest misuse is e
       by within is e on = last_call before (call ∷ script) list unfinished line e ((cuts before call here).goes_on list is) refl
@@ -163,44 +185,47 @@ module _ (plan : Plan) (worker : ℕ) (told : Call → Bool) (cut : ℕ → Call
   ended before (misused misuse) [] last halts h e nothing are = absurd nothing
   ended before (misused misuse) (call ∷ rest) last halts h e spelt are =
       let found : cut before call (last ++ halts) ≡ whole last (Done (Err misuse)) halts = (cuts before call (and_parts (told call) (list_all told rest) h).0).complete last halts (Done (Err misuse)) spelt in
-      ap (λ (f : Beginning (Reply ℕ)). by_call before call rest (last ++ halts) f (λ later left. line_cut cut later rest left)) found
+      ap (λ (f : Beginning (Reply ℕ)). by_call before call rest (last ++ halts) f (λ later passes left. cut_from cut later passes rest left)) found
       ∙ cond-true (list_all (is_halt misuse) halts) (Some (ends_in_call (call ∷ rest) last halts (misused misuse))) None (all_tells misuse halts are)
   ended before (halted misuse) [] last halts h e nothing are = absurd nothing
   ended before (halted misuse) (call ∷ rest) last halts h e spelt are =
       let found : cut before call (last ++ halts) ≡ whole last (Halted misuse) halts = (cuts before call (and_parts (told call) (list_all told rest) h).0).complete last halts (Halted misuse) spelt in
-      ap (λ (f : Beginning (Reply ℕ)). by_call before call rest (last ++ halts) f (λ later left. line_cut cut later rest left)) found
+      ap (λ (f : Beginning (Reply ℕ)). by_call before call rest (last ++ halts) f (λ later passes left. cut_from cut later passes rest left)) found
       ∙ ap (λ (l : List Made). if_none_is_left l (ends_in_call (call ∷ rest) last [] (halted misuse))) are ∙ ap (λ (l : List Made). Some (ends_in_call (call ∷ rest) last l (halted misuse))) (sym are)
   ended before unfinished rest last halts h e ends are = absurd e
 
-  all_found : (spelt : List SpeltCall) (before : ℕ) (ending : LineEnd) (rest : List Call) (last halts : List Made) → list_all told (map (λ s. s.call) spelt ++ rest) ≡ true → HasEnded ending → AreSpelt plan worker before spelt
+  all_found : (spelt : List SpeltCall) (before : ℕ) (ending : LineEnd) (script rest : List Call) (last halts : List Made) → list_all told script ≡ true → RunsAlong script (made_in spelt) rest → HasEnded ending → AreSpelt plan worker before spelt
       → EndsBy plan worker (made_by before spelt) ending rest last → AreHalts ending halts
-      → (let line : Line = record { spelt = spelt; last = last; halts = halts; rest = rest; ending = ending } in line_cut cut before (script_of line) (items_of line) ≡ Some line)
-  all_found [] before ending rest last halts h e calls ends are =
+      → (let line : Line = record { spelt = spelt; last = last; halts = halts; rest = rest; ending = ending } in line_cut cut before script (items_of line) ≡ Some line)
+  all_found [] before ending script rest last halts h run e calls ends are =
       let n : before + 0 ≡ before = omega arith in
-      ended before ending rest last halts h e (subst (λ (k : ℕ). EndsBy plan worker k ending rest last) n ends) are
-  all_found (s ∷ spelt) before ending rest last halts h e (one, calls) ends are =
+      subst (λ (l : List Call). line_cut cut before l (last ++ halts) ≡ Some (ends_in_call rest last halts ending)) run
+      (ended before ending rest last halts (ap (list_all told) run ∙ h) e (subst (λ (k : ℕ). EndsBy plan worker k ending rest last) n ends) are)
+  all_found (s ∷ spelt) before ending script rest last halts h (behind, is, run) e (one, calls) ends are =
       let flat : List Made = flat_map (λ s. s.items) spelt in
       let left : List Made = last ++ halts in
       let n : before + length (shared_in (s.items ++ flat)) ≡ made_by (before + length (shared_in s.items)) spelt = omega (arith, shared_more s.items flat) in
-      let script : List Call = map (λ s. s.call) spelt ++ rest in
-      let later = all_found spelt (before + length (shared_in s.items)) ending rest last halts (and_parts (told s.call) (list_all told script) h).1 e calls (subst (λ (k : ℕ). EndsBy plan worker k ending rest last) n ends) are in
+      let passes : ℕ = passed_over s.call s.reply in
+      let parts = and_parts (told s.call) (list_all told behind) (ap (list_all told) (sym is) ∙ h) in
+      let later = all_found spelt (before + length (shared_in s.items)) ending (drop passes behind) rest last halts (told_dropped told passes behind parts.1) run e calls (subst (λ (k : ℕ). EndsBy plan worker k ending rest last) n ends) are in
       let found : cut before s.call ((s.items ++ flat) ++ left) ≡ whole s.items (Done (Ok s.reply)) (flat ++ left) =
-      ap (cut before s.call) (append_assoc s.items flat left) ∙ (cuts before s.call (and_parts (told s.call) (list_all told script) h).0).complete s.items (flat ++ left) (Done (Ok s.reply)) one in
-      ap (λ (f : Beginning (Reply ℕ)). by_call before s.call script ((s.items ++ flat) ++ left) f (λ more left. line_cut cut more script left)) found
-      ∙ ap (with_spelt s) later
+      ap (cut before s.call) (append_assoc s.items flat left) ∙ (cuts before s.call parts.0).complete s.items (flat ++ left) (Done (Ok s.reply)) one in
+      ap (λ (l : List Call). line_cut cut before l ((s.items ++ flat) ++ left)) is
+      ∙ (ap (λ (f : Beginning (Reply ℕ)). by_call before s.call behind ((s.items ++ flat) ++ left) f (λ more passes left. cut_from cut more passes behind left)) found
+      ∙ ap (with_spelt s) (skipped cut (before + length (shared_in s.items)) passes behind (flat ++ left) ∙ later))
 
   -- a line that has ended is the one that its list and script are cut into
-  pub line_complete : (line : Line) → list_all told (script_of line) ≡ true → HasEnded line.ending → AreSpelt plan worker 0 line.spelt → EndsBy plan worker (length (shared_in (flat_map (λ s. s.items) line.spelt))) line.ending line.rest line.last
-      → AreHalts line.ending line.halts → line_cut cut 0 (script_of line) (items_of line) ≡ Some line
-  line_complete line h e calls ends are =
+  pub line_complete : (script : List Call) (line : Line) → list_all told script ≡ true → RunsAlong script (calls_made line) line.rest → HasEnded line.ending → AreSpelt plan worker 0 line.spelt
+      → EndsBy plan worker (length (shared_in (flat_map (λ s. s.items) line.spelt))) line.ending line.rest line.last → AreHalts line.ending line.halts → line_cut cut 0 script (items_of line) ≡ Some line
+  line_complete script line h run e calls ends are =
       let n : length (shared_in (flat_map (λ s. s.items) line.spelt)) ≡ made_by 0 line.spelt = omega arith in
-      all_found line.spelt 0 line.ending line.rest line.last line.halts h e calls (subst (λ (k : ℕ). EndsBy plan worker k line.ending line.rest line.last) n ends) are
+      all_found line.spelt 0 line.ending script line.rest line.last line.halts h run e calls (subst (λ (k : ℕ). EndsBy plan worker k line.ending line.rest line.last) n ends) are
 
   pub lines_cut : CutsLines plan worker told cut
   lines_cut = record {
     is_line = λ script list line h e.
-        let is = line_sound script h 0 list line e in
+        let is = line_sound script h 0 0 list line e in
         let n : made_by 0 line.spelt ≡ length (shared_in (flat_map (λ s. s.items) line.spelt)) = omega arith in
-        (is.script_is, is.list_is, record { calls = is.calls; ends = subst (λ (k : ℕ). EndsBy plan worker k line.ending line.rest line.last) n is.ends; halts = is.halts });
-    is_cut = λ line h e is. line_complete line h e is.calls is.ends is.halts;
+        (is.runs, is.list_is, record { calls = is.calls; ends = subst (λ (k : ℕ). EndsBy plan worker k line.ending line.rest line.last) n is.ends; halts = is.halts });
+    is_cut = λ script line h run e is. line_complete script line h run e is.calls is.ends is.halts;
   }

@@ -1,6 +1,7 @@
 -- How a call of a workload is cut from a list. A kind of object is a line here.
 use Rattle.std.specs.Prelude.{ℕ, Bool, true, false, Option, Some, None, slice_get}
 use Rattle.script_calls.specs.declared.call.Call.{Call}
+use Rattle.script_calls.specs.declared.call.ComposedCall.TheVariants.{IfEqual}
 use Rattle.script_calls.specs.declared.call.Operation.{Operation}
 use Rattle.script_calls.specs.declared.call.Operation.TheVariants as operations
 use Rattle.script_calls.specs.declared.call.Reply.{Reply}
@@ -18,7 +19,7 @@ use Rattle.run_cuts.specs.MutexCuts.{mutex_cut}
 use Rattle.run_cuts.specs.OnceCuts.{do_cut, func_cut, value_cut}
 use Rattle.run_cuts.specs.PoolCuts.{pool_cut}
 use Rattle.run_cuts.specs.RwMutexCuts.{rw_mutex_cut}
-use Rattle.run_cuts.specs.SharedCuts.{atomic_cut, map_cut}
+use Rattle.run_cuts.specs.SharedCuts.{atomic_cut, if_equal_cut, map_cut}
 
 -- Whether the function tells how such a call is cut: each but a range. A range replies its pairs sorted by the names of their keys. Its items don't fix the order of two pairs whose keys have one name: a key that is shown twice, or numbers that are no key's, which have one name, the empty one. Its items are cut by `shows_cut`.
 abbrev pub is_told : Operation → Bool
@@ -28,6 +29,7 @@ is_told operation = true
 abbrev pub on_cut : Plan → (worker place : ℕ) → ObjectKind → Operation → Cutter (Reply ℕ)
 on_cut plan worker place kinds.Map (operations.Map call) = map_cut (keys_in plan.scripts) (map_number plan.objects place) call
 on_cut plan worker place (kinds.Atomic type) (operations.Atomic call) = atomic_cut (atomic_number plan.objects place) call
+on_cut plan worker place (kinds.Atomic type) (operations.Composed (IfEqual value passes)) = if_equal_cut (atomic_number plan.objects place) value
 on_cut plan worker place kinds.Mutex (operations.Mutex call) = mutex_cut (object_number place) call
 on_cut plan worker place kinds.RwMutex (operations.RwMutex call) = rw_mutex_cut (object_number place) call
 on_cut plan worker place (kinds.Cond mutex) (operations.Cond call) = cond_cut (object_number place) (object_number mutex) call

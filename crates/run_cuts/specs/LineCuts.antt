@@ -1,10 +1,11 @@
--- How a worker's list is cut into the calls of its script, told by a function.
-use Rattle.std.specs.Prelude.{ℕ, ◌+◌, Bool, true, false, cond, List, [], ◌∷◌, length, Option, Some, None, Ok, Err}
+-- How a worker's list is cut into the calls of a run of its script, told by a function.
+use Rattle.std.specs.Prelude.{ℕ, zero, suc, ◌+◌, Bool, true, false, cond, List, [], ◌∷◌, length, Option, Some, None, Ok, Err}
 use Rattle.std.specs.List.{list_all}
 use Rattle.sync_types.specs.declared.misuse.Misuse.{Misuse}
 use Rattle.sync_types.specs.declared.misuse.Misuse.TheVariants.{UnlockOfUnlockedMutex, RUnlockOfUnlockedRwMutex, UnlockOfUnlockedRwMutex, NegativeWaitGroupCounter, WaitGroupReused}
 use Rattle.script_calls.specs.declared.call.Call.{Call}
 use Rattle.script_calls.specs.declared.call.Reply.{Reply}
+use Rattle.script_calls.specs.Runs.{passed_over}
 use Rattle.sync_model.specs.declared.answer.Answer.TheVariants.{Done, Halted}
 use Rattle.sync_model.specs.declared.journal.Deed.{Deed}
 use Rattle.sync_model.specs.declared.journal.Deed.TheVariants.{Event, Refused, Halt}
@@ -48,14 +49,19 @@ if_none_is_left [] line = Some line
 if_none_is_left (item ∷ list) line = None
 
 -- the line, by what the list begins with, where the next call is this one
-abbrev pub by_call : ℕ → Call → List Call → List Made → Beginning (Reply ℕ) → (ℕ → List Made → Option Line) → Option Line
-by_call before call script list (whole items (Done (Ok reply)) rest) on = with_spelt (record { call = call; items = items; reply = reply }) (on (before + length (shared_in items)) rest)
+abbrev pub by_call : ℕ → Call → List Call → List Made → Beginning (Reply ℕ) → (ℕ → ℕ → List Made → Option Line) → Option Line
+by_call before call script list (whole items (Done (Ok reply)) rest) on = with_spelt (record { call = call; items = items; reply = reply }) (on (before + length (shared_in items)) (passed_over call reply) rest)
 by_call before call script list (whole items (Done (Err misuse)) rest) on = cond (list_all (is_halt misuse) rest) (Some (ends_in_call (call ∷ script) items rest (misused misuse))) None
 by_call before call script list (whole items (Halted misuse) rest) on = if_none_is_left rest (ends_in_call (call ∷ script) items [] (halted misuse))
 by_call before call script list within on = Some (ends_in_call (call ∷ script) list [] unfinished)
 by_call before call script list wrong on = None
 
--- the line that a script's calls and a list make, of a worker that has made so many calls on maps and atomics before; none, where the list is no line of the script. `cut` tells how a call is cut from a list
+-- the line that a run of a script and a list make, of a worker that has made so many calls on maps and atomics before, and passes so many of the script's first calls over
+abbrev pub cut_from : (ℕ → Call → Cutter (Reply ℕ)) → ℕ → ℕ → List Call → List Made → Option Line
+cut_from cut before passes [] list = if_none_is_left list (ends_in_call [] [] [] at_end)
+cut_from cut before (suc passes) (call ∷ script) list = cut_from cut before passes script list
+cut_from cut before zero (call ∷ script) list = by_call before call script list (cut before call list) (λ later passes rest. cut_from cut later passes script rest)
+
+-- the same, where none is passed over; no line, where the list is none of a run of the script. `cut` tells how a call is cut from a list
 abbrev pub line_cut : (ℕ → Call → Cutter (Reply ℕ)) → ℕ → List Call → List Made → Option Line
-line_cut cut before [] list = if_none_is_left list (ends_in_call [] [] [] at_end)
-line_cut cut before (call ∷ script) list = by_call before call script list (cut before call list) (λ later rest. line_cut cut later script rest)
+line_cut cut before script list = cut_from cut before 0 script list

@@ -11,6 +11,7 @@ ghost use Rattle.run_record.specs.MutexKind.{mutex_call};
 ghost use Rattle.run_record.specs.OnceKind.{do_call, func_call, value_call};
 ghost use Rattle.run_record.specs.PoolKind.{pool_call};
 ghost use Rattle.run_record.specs.RwMutexKind.{rw_mutex_call};
+ghost use Rattle.run_record.specs.Tests.{if_equal_call};
 ghost use Rattle.run_record.specs.WaitGroupKind.{wait_group_call};
 ghost use Rattle.run_cuts.specs.CallCuts.{call_cut, is_told};
 ghost use Rattle.run_cuts.specs.CondCuts.{cond_cut};
@@ -22,9 +23,11 @@ ghost use Rattle.run_cuts.specs.OneLine.{CutsCalls, CutsLines};
 ghost use Rattle.run_cuts.specs.PoolCuts.{pool_cut};
 ghost use Rattle.run_cuts.specs.RangeCuts.{CutsRange};
 ghost use Rattle.run_cuts.specs.RwMutexCuts.{rw_mutex_cut};
-ghost use Rattle.run_cuts.specs.SharedCuts.{adds_cut, atomic_cut, map_cut};
+ghost use Rattle.run_cuts.specs.SharedCuts.{adds_cut, atomic_cut, if_equal_cut, map_cut};
 
-use sync_types::{AtomicCall, CondCall, MapCall, MutexCall, PoolCall, RwMutexCall, WaitGroupCall};
+use sync_types::{
+    AtomicCall, CondCall, MapCall, MutexCall, Number, PoolCall, RwMutexCall, WaitGroupCall,
+};
 
 /// The calls of each kind but a `range` are cut from a list by a function just as they are spelt. What is found spells the call. What
 /// spells it is found, whatever stands behind it. A list that ends within it goes on to one that spells it. One that begins with no such
@@ -35,6 +38,7 @@ pub fn calls_are_cut_as_they_are_spelt()
     ensures cond { (object mutex : ℕ) (call : CondCall) → Cuts (cond_call object mutex call) (cond_cut object mutex call) }
     ensures map { (keys : List (List ℕ)) (m : ℕ) (call : MapCall (List ℕ)) → Cuts (map_call keys m call) (map_cut keys m call) }
     ensures atomic { (a : ℕ) (call : AtomicCall) → Cuts (atomic_call a call) (atomic_cut a call) }
+    ensures ifeq { (a : ℕ) (value : Number) → Cuts (if_equal_call a value) (if_equal_cut a value) }
     ensures adds { (a : ℕ) (amount : ℤ) → Cuts (adds a amount) (adds_cut a amount) }
     ensures once { (object a : ℕ) (amount : ℤ) → Cuts (do_call object a amount) (do_cut object a amount) }
     ensures once_func { (object code : ℕ) → Cuts (func_call object code) (func_cut object code) }
@@ -57,8 +61,9 @@ pub fn a_call_is_cut_as_it_is_spelt()
     ensures { (plan : Plan) (worker before : ℕ) (call : Call) → is_told call.operation ≡ true → Cuts (SpellsCall plan worker before call) (call_cut plan worker call) }
 {}
 
-/// Where each call of a script is cut as it is spelt, a list and the script are cut into one line: the calls that returned, and what
-/// stands behind them. What they are cut into is a line of them, and a line of them that has ended is what they are cut into. So it is of
+/// Where each call of a script is cut as it is spelt, a list and the script are cut into one line: the calls that returned, along a run
+/// of the script, and what stands behind them. What they are cut into is a line of them, and a line of them that has ended is what they
+/// are cut into. So it is of
 /// the list of each worker whose script has no `range`. A worker that hasn't ended may have made all the items of its last call, and not
 /// have returned from it. Its list is the same as if it had, so the list doesn't tell, and the function takes the call as done.
 pub fn a_list_is_cut_into_one_line()

@@ -13,6 +13,7 @@ use Rattle.sync_types.specs.declared.atomic_object.AtomicKind.TheVariants as typ
 use Rattle.sync_types.specs.declared.atomic_object.Number.{Number}
 use Rattle.sync_types.specs.declared.atomic_object.Number.TheVariants.{Int64, Bool as Truth}
 use Rattle.script_calls.specs.declared.call.Call.{Call}
+use Rattle.script_calls.specs.declared.call.ComposedCall.TheVariants.{IfEqual}
 use Rattle.script_calls.specs.declared.call.Operation.{Operation}
 use Rattle.script_calls.specs.declared.call.Operation.TheVariants as operations
 use Rattle.script_calls.specs.declared.call.Reply.{Reply}
@@ -40,7 +41,7 @@ use Rattle.run_laws.proofs.DoneLines.{calls_in, items_in, shared_append, shared_
 use Rattle.run_laws.proofs.EachOf.{Each, each_both}
 use Rattle.run_laws.proofs.LockLines.{entered}
 use Rattle.run_laws.proofs.Numbered.{numbers_apart}
-use Rattle.run_laws.proofs.PlainCalls.{PlainCall, on_map, on_range, on_atomic, on_mutex, IsOfKind, is_cursors, plain_call, list_all_at}
+use Rattle.run_laws.proofs.PlainCalls.{PlainCall, on_map, on_range, on_atomic, on_test, on_mutex, IsOfKind, is_cursors, plain_call, list_all_at}
 
 -- the bits that a call on an atomic adds
 abbrev pub bits_added : AtomicCall → ℕ
@@ -192,6 +193,20 @@ module _ (plan : Plan) (place : ℕ) (object : ObjectLine) (at : slice_get plan.
           one (call_bits place call) (ap (shared_bits (atomic_number plan.objects place)) is ∙ (ap (λ (b : Bool). cond b (bits_added op) 0) apart ∙ ap (λ (b : Bool). sum_by bits_of (cond b (amount_of call.operation) [])) (sym e))),
         )
 
+  -- a test of another atomic adds nothing
+  of_test : (call : Call) (value : Number) (passes : ℕ) (x : Item) → call.operation ≡ operations.Composed (IfEqual value passes) → x.call ≡ calls.Atomic (atomic_number plan.objects call.object) Load
+      → ((call.object == place) ≡ false → (atomic_number plan.objects call.object == atomic_number plan.objects place) ≡ false) → IsAddAt call → AddsAlike call (x ∷ [])
+  of_test call value passes x asks is another adds = by_object (cases_Bool (call.object == place)) where
+    by_object : ((call.object == place) ≡ true) ⊎ ((call.object == place) ≡ false) → AddsAlike call (x ∷ [])
+    by_object (inl e) = absurd (false≢true (ap is_add (sym asks) ∙ (ap (λ (b : Bool). cond b (is_add call.operation) true) (sym e) ∙ adds)))
+    by_object (inr e) =
+        let apart = another e in
+        let none : shared_bits (atomic_number plan.objects place) x.call ≡ call_bits place call = ap (shared_bits (atomic_number plan.objects place)) is
+        ∙ (ap (λ (b : Bool). cond b (bits_added Load) 0) apart ∙ ap (λ (b : Bool). sum_by bits_of (cond b (amount_of call.operation) [])) (sym e)) in (
+          (subst (AddsTo (atomic_number plan.objects place)) (sym is) (λ number. absurd (false≢true (sym apart ∙ number))), tt),
+          omega (arith, none, sum_by-cons (λ (y : Item). shared_bits (atomic_number plan.objects place) y.call) x []),
+        )
+
   -- a call on a map adds nothing
   of_map : (call : Call) (items : List Item) → amount_of call.operation ≡ [] → ((i : ℕ) (x : Item) → slice_get items i ≡ Some x → (b : ℕ) (op : AtomicCall) → x.call ≡ calls.Atomic b op → ⊥) → AddsAlike call items
   of_map call items none others = (all items others, nothing items others ∙ sym (no_bits call none)) where
@@ -222,6 +237,8 @@ module _ (plan : Plan) (place : ℕ) (object : ObjectLine) (at : slice_get plan.
     others : (i : ℕ) (x : Item) → slice_get cursor.made i ≡ Some x → (b : ℕ) (op : AtomicCall) → x.call ≡ calls.Atomic b op → ⊥
     others i x at b op is = false≢true (ap is_cursors (sym is) ∙ list_all_at (λ (y : Item). is_cursors y.call) cursor.made i x cursor.asks at)
   call_alike call items answer (on_atomic type op is_atomic_at asks one) adds = alike_at call (one.item ∷ []) items (ap shared_in one.are) (of_atomic call op one.item asks one.asks (another_number call type is_atomic_at) adds)
+  call_alike call items answer (on_test type value passes is_atomic_at asks one) adds =
+      alike_at call (one.item ∷ []) items (ap shared_in one.are) (of_test call value passes one.item asks one.asks (another_number call type is_atomic_at) adds)
   call_alike call items answer (on_mutex m is_mutex asks (given, (entries, are, spelt), gives)) adds = alike_at call [] items (ap shared_in are ∙ no_entries_shared (object_number call.object) entries)
       (of_map call [] (ap amount_of asks) (λ i x at b op is. none-some x at))
 

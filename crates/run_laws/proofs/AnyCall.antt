@@ -5,6 +5,7 @@ use Rattle.std.specs.List.{list_all}
 use Rattle.std.proofs.lemmas.Bool.{false≢true}
 use Rattle.std.proofs.lemmas.Option.{none-some, same_Some}
 use Rattle.script_calls.specs.declared.call.Call.{Call}
+use Rattle.script_calls.specs.declared.call.ComposedCall.TheVariants.{IfEqual}
 use Rattle.script_calls.specs.declared.call.Operation.{Operation}
 use Rattle.script_calls.specs.declared.call.Operation.TheVariants as operations
 use Rattle.workload.specs.declared.object.ObjectKind.{ObjectKind}
@@ -18,7 +19,7 @@ use Rattle.run_record.specs.Objects.{map_number, atomic_number, first_part}
 use Rattle.run_record.specs.Record.{object_number}
 use Rattle.run_laws.specs.NoRanges.{is_no_range}
 use Rattle.run_laws.specs.OneSpelling.{IsCertain}
-use Rattle.run_laws.proofs.CallsOneWay.{map_certain, atomic_certain, mutex_certain, rw_mutex_certain, cond_certain, wait_group_certain, do_certain, func_certain, value_certain, pool_certain}
+use Rattle.run_laws.proofs.CallsOneWay.{map_certain, atomic_certain, if_equal_certain, mutex_certain, rw_mutex_certain, cond_certain, wait_group_certain, do_certain, func_certain, value_certain, pool_certain}
 use Rattle.run_laws.proofs.LinesOneWay.{AreCertain}
 use Rattle.run_laws.proofs.OneWay.{never_certain}
 use Rattle.run_laws.proofs.WritesOneWay.{LocksEnd}
@@ -37,6 +38,7 @@ module _ (law : LocksEnd) (plan : Plan) (worker before place : ℕ) where
   on_kind kinds.Map operations.OnceFunc none = never_certain
   on_kind kinds.Map operations.OnceValue none = never_certain
   on_kind kinds.Map (operations.Pool of) none = never_certain
+  on_kind kinds.Map (operations.Composed of) none = never_certain
   on_kind (kinds.Atomic type) (operations.Map of) none = never_certain
   on_kind (kinds.Atomic type) operations.Range none = never_certain
   on_kind (kinds.Atomic type) (operations.Atomic of) none = atomic_certain (atomic_number plan.objects place) of
@@ -48,6 +50,7 @@ module _ (law : LocksEnd) (plan : Plan) (worker before place : ℕ) where
   on_kind (kinds.Atomic type) operations.OnceFunc none = never_certain
   on_kind (kinds.Atomic type) operations.OnceValue none = never_certain
   on_kind (kinds.Atomic type) (operations.Pool of) none = never_certain
+  on_kind (kinds.Atomic type) (operations.Composed (IfEqual value passes)) none = if_equal_certain (atomic_number plan.objects place) value
   on_kind kinds.Mutex (operations.Map of) none = never_certain
   on_kind kinds.Mutex operations.Range none = never_certain
   on_kind kinds.Mutex (operations.Atomic of) none = never_certain
@@ -59,6 +62,7 @@ module _ (law : LocksEnd) (plan : Plan) (worker before place : ℕ) where
   on_kind kinds.Mutex operations.OnceFunc none = never_certain
   on_kind kinds.Mutex operations.OnceValue none = never_certain
   on_kind kinds.Mutex (operations.Pool of) none = never_certain
+  on_kind kinds.Mutex (operations.Composed of) none = never_certain
   on_kind kinds.RwMutex (operations.Map of) none = never_certain
   on_kind kinds.RwMutex operations.Range none = never_certain
   on_kind kinds.RwMutex (operations.Atomic of) none = never_certain
@@ -70,6 +74,7 @@ module _ (law : LocksEnd) (plan : Plan) (worker before place : ℕ) where
   on_kind kinds.RwMutex operations.OnceFunc none = never_certain
   on_kind kinds.RwMutex operations.OnceValue none = never_certain
   on_kind kinds.RwMutex (operations.Pool of) none = never_certain
+  on_kind kinds.RwMutex (operations.Composed of) none = never_certain
   on_kind (kinds.Cond mutex) (operations.Map of) none = never_certain
   on_kind (kinds.Cond mutex) operations.Range none = never_certain
   on_kind (kinds.Cond mutex) (operations.Atomic of) none = never_certain
@@ -81,6 +86,7 @@ module _ (law : LocksEnd) (plan : Plan) (worker before place : ℕ) where
   on_kind (kinds.Cond mutex) operations.OnceFunc none = never_certain
   on_kind (kinds.Cond mutex) operations.OnceValue none = never_certain
   on_kind (kinds.Cond mutex) (operations.Pool of) none = never_certain
+  on_kind (kinds.Cond mutex) (operations.Composed of) none = never_certain
   on_kind (kinds.WaitGroup start) (operations.Map of) none = never_certain
   on_kind (kinds.WaitGroup start) operations.Range none = never_certain
   on_kind (kinds.WaitGroup start) (operations.Atomic of) none = never_certain
@@ -92,6 +98,7 @@ module _ (law : LocksEnd) (plan : Plan) (worker before place : ℕ) where
   on_kind (kinds.WaitGroup start) operations.OnceFunc none = never_certain
   on_kind (kinds.WaitGroup start) operations.OnceValue none = never_certain
   on_kind (kinds.WaitGroup start) (operations.Pool of) none = never_certain
+  on_kind (kinds.WaitGroup start) (operations.Composed of) none = never_certain
   on_kind (kinds.Once atomic delta) (operations.Map of) none = never_certain
   on_kind (kinds.Once atomic delta) operations.Range none = never_certain
   on_kind (kinds.Once atomic delta) (operations.Atomic of) none = never_certain
@@ -103,6 +110,7 @@ module _ (law : LocksEnd) (plan : Plan) (worker before place : ℕ) where
   on_kind (kinds.Once atomic delta) operations.OnceFunc none = never_certain
   on_kind (kinds.Once atomic delta) operations.OnceValue none = never_certain
   on_kind (kinds.Once atomic delta) (operations.Pool of) none = never_certain
+  on_kind (kinds.Once atomic delta) (operations.Composed of) none = never_certain
   on_kind (kinds.OnceFunc code) (operations.Map of) none = never_certain
   on_kind (kinds.OnceFunc code) operations.Range none = never_certain
   on_kind (kinds.OnceFunc code) (operations.Atomic of) none = never_certain
@@ -114,6 +122,7 @@ module _ (law : LocksEnd) (plan : Plan) (worker before place : ℕ) where
   on_kind (kinds.OnceFunc code) operations.OnceFunc none = func_certain (object_number place) code
   on_kind (kinds.OnceFunc code) operations.OnceValue none = never_certain
   on_kind (kinds.OnceFunc code) (operations.Pool of) none = never_certain
+  on_kind (kinds.OnceFunc code) (operations.Composed of) none = never_certain
   on_kind (kinds.OnceValue value) (operations.Map of) none = never_certain
   on_kind (kinds.OnceValue value) operations.Range none = never_certain
   on_kind (kinds.OnceValue value) (operations.Atomic of) none = never_certain
@@ -125,6 +134,7 @@ module _ (law : LocksEnd) (plan : Plan) (worker before place : ℕ) where
   on_kind (kinds.OnceValue value) operations.OnceFunc none = never_certain
   on_kind (kinds.OnceValue value) operations.OnceValue none = value_certain (object_number place) value
   on_kind (kinds.OnceValue value) (operations.Pool of) none = never_certain
+  on_kind (kinds.OnceValue value) (operations.Composed of) none = never_certain
   on_kind kinds.Pool (operations.Map of) none = never_certain
   on_kind kinds.Pool operations.Range none = never_certain
   on_kind kinds.Pool (operations.Atomic of) none = never_certain
@@ -136,6 +146,7 @@ module _ (law : LocksEnd) (plan : Plan) (worker before place : ℕ) where
   on_kind kinds.Pool operations.OnceFunc none = never_certain
   on_kind kinds.Pool operations.OnceValue none = never_certain
   on_kind kinds.Pool (operations.Pool of) none = pool_certain plan.workers worker (first_part plan place) of
+  on_kind kinds.Pool (operations.Composed of) none = never_certain
 
   on_object : (object : Option ObjectLine) (operation : Operation) → is_no_range operation ≡ true → IsCertain (call_at plan worker before place object operation)
   on_object None operation none = never_certain

@@ -29,9 +29,10 @@ use Rattle.sync_model.specs.declared.item.SharedCall.TheVariants as shared
 use Rattle.sync_model.specs.declared.item.SharedReply.{SharedReply}
 use Rattle.sync_model.specs.declared.item.SharedReply.TheVariants as answers
 use Rattle.sync_types.specs.declared.atomic_object.AtomicCall.{AtomicCall}
-use Rattle.sync_types.specs.declared.atomic_object.AtomicCall.TheVariants.{Add}
+use Rattle.sync_types.specs.declared.atomic_object.AtomicCall.TheVariants.{Load, Add}
 use Rattle.sync_types.specs.declared.atomic_object.AtomicReply.{AtomicReply}
 use Rattle.sync_types.specs.declared.atomic_object.AtomicReply.TheVariants as atomic_replies
+use Rattle.sync_types.specs.declared.atomic_object.Number.{Number}
 use Rattle.sync_types.specs.declared.atomic_object.Number.TheVariants.{Int64}
 use Rattle.sync_types.specs.declared.lock_call.MutexCall.{MutexCall}
 use Rattle.sync_types.specs.declared.lock_call.RwMutexCall.{RwMutexCall}
@@ -58,6 +59,7 @@ use Rattle.run_record.specs.OnceKind.{goes_on_once, once_part, do_call, failure,
 use Rattle.run_record.specs.Parts.{Part, and_then, read_as, returns, stages}
 use Rattle.run_record.specs.PoolKind.{pool_part, stage_of, found_or, part_of, found_by, looks_of, swept_by, pool_call}
 use Rattle.run_record.specs.RwMutexKind.{rw_part, rw_mutex_call}
+use Rattle.run_record.specs.Tests.{holds, tests, if_equal_call}
 use Rattle.run_record.specs.WaitGroupKind.{wait_group_stage, wait_group_call}
 use Rattle.run_laws.specs.OneSpelling.{IsCertain}
 use Rattle.run_laws.proofs.Backs.{mutex_back, is_mutex_back, rw_mutex_back, is_rw_mutex_back, cond_back, is_cond_back, wait_group_back, is_wait_group_back, once_back, is_once_back, once_func_back, is_once_func_back, once_value_back, is_once_value_back, pool_back, is_pool_back}
@@ -81,6 +83,9 @@ pub atomic_certain : (a : ℕ) (call : AtomicCall) → IsCertain (atomic_call a 
 atomic_certain a call items other rest more answer given (r, placed, is) (s, also, are) same =
     let one = place_certain (shared.Atomic a call) (answers.Atomic r) (answers.Atomic s) items other rest more placed also same in
     (one.0, one.1, is ∙ (ap (λ (t : SharedReply). Done (Ok (replies.Atomic (atomic_in t)))) one.2 ∙ sym are))
+
+pub if_equal_certain : (a : ℕ) (value : Number) → IsCertain (if_equal_call a value)
+if_equal_certain a value = read_as_certain (λ met. replies.Atomic (atomic_replies.Compared met)) (tests a value) (read_as_certain (holds value) (atomic_call a Load) (atomic_certain a Load))
 
 pub map_certain : (keys : List (List ℕ)) (m : ℕ) (call : MapCall (List ℕ)) → IsCertain (map_call keys m call)
 map_certain keys m call items other rest more answer given (r, placed, is) (s, also, are) same =

@@ -23,7 +23,7 @@ use Rattle.run_record.specs.WaitGroupKind.{IsWaitGroupJournal}
 use Rattle.run_laws.specs.Examples.{on, entry}
 use Rattle.run_laws.specs.ExamplesCircle.{plan, outcome, waits, is_done, in_a_circle}
 use Rattle.run_laws.proofs.OneOrder.{same_entry}
-use Rattle.run_laws.proofs.SmallRecords.{IsSmall, is_record, no_parts, whole_line, are_whole, both_ended, quiet_edges}
+use Rattle.run_laws.proofs.SmallRecords.{ByScript, IsSmall, is_record, no_parts, whole_line, are_whole, both_ended, quiet_edges}
 
 abbrev own_wait : ℕ → ℕ → Entry GroupEvent GroupReply
 own_wait worker time = record (entry worker Wait grouped.Done) { time = time }
@@ -75,10 +75,10 @@ module _ (wait_0 done_0 wait_1 done_1 : ℕ) where
   spelt_second : AreSpelt plan 1 0 second
   spelt_second = ((Done (Ok tt), (own_wait 1 wait_1 ∷ [], refl, ((0, refl), (refl, refl))), refl), ((Done (Ok tt), (own_done 1 done_1 ∷ [], refl, ((0, refl), (refl, refl))), refl), tt))
 
-  pub explained : Explains plan outcome (in_a_circle wait_0 done_0 wait_1 done_1)
-  explained = record {
+  pub explained : ByScript → Explains plan outcome (in_a_circle wait_0 done_0 wait_1 done_1)
+  explained by_script = record {
     lines = whole_line first ∷ whole_line second ∷ [];
-    are = record { scripts = refl; lists = refl; replies = refl; each = are_whole plan first second spelt_first spelt_second };
+    are = (by_script plan _ _ _ refl).1 (record { scripts = refl; lists = refl; replies = refl; each = are_whole plan first second spelt_first spelt_second });
     lawful = is_record plan journals made_first made_second small;
     agrees = (both_ended first second, refl);
   }

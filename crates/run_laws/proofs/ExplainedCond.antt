@@ -36,7 +36,7 @@ use Rattle.run_record.specs.Record.{ObjectEntry, journal_of}
 use Rattle.run_laws.specs.Examples.{declared, on, entry}
 use Rattle.run_laws.specs.ExamplesCond.{plan, outcome, locks, unlocks, takes_a_ticket, leaves, signals, notified, notified_too_early}
 use Rattle.run_laws.proofs.Backs.{cond_back, is_cond_back}
-use Rattle.run_laws.proofs.SmallRecords.{IsSmall, is_record, no_parts, whole_line, are_whole, both_ended, quiet_edges}
+use Rattle.run_laws.proofs.SmallRecords.{ByScript, IsSmall, is_record, no_parts, whole_line, are_whole, both_ended, quiet_edges}
 use Rattle.run_laws.proofs.Unlifted.{follows_back}
 
 abbrev own_lock : Entry MutexEvent MutexReply
@@ -134,10 +134,10 @@ spelt_first = ((Done (Ok lock_reply.Done), (own_lock ∷ [], refl, ((0, refl), (
 spelt_second : AreSpelt plan 1 0 second
 spelt_second = ((Done (Ok tt), (own_signal ∷ [], refl, ((0, refl), (refl, refl))), refl), tt)
 
-pub explained : Explains plan outcome notified
-explained = record {
+pub explained : ByScript → Explains plan outcome notified
+explained by_script = record {
   lines = whole_line first ∷ whole_line second ∷ [];
-  are = record { scripts = refl; lists = refl; replies = refl; each = are_whole plan first second spelt_first spelt_second };
+  are = (by_script plan _ _ _ refl).1 (record { scripts = refl; lists = refl; replies = refl; each = are_whole plan first second spelt_first spelt_second });
   lawful = is_record plan (of_mutex ∷ of_cond ∷ []) made_first made_second small;
   agrees = (both_ended first second, refl);
 }

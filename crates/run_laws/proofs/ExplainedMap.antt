@@ -36,7 +36,7 @@ use Rattle.run_record.specs.Record.{object_number, journal_of, list_of, calls_of
 use Rattle.run_laws.specs.Examples.{on}
 use Rattle.run_laws.specs.ExamplesMap.{key, plan, outcome, stores, loads, stored, found}
 use Rattle.run_laws.proofs.OneCallEach.{IsFirst, one_each}
-use Rattle.run_laws.proofs.SmallRecords.{none_at, whole_line, are_whole, both_ended}
+use Rattle.run_laws.proofs.SmallRecords.{ByScript, none_at, whole_line, are_whole, both_ended}
 
 -- the map with the one key
 abbrev held : FinMap nat_cmp ℕ
@@ -151,10 +151,10 @@ ends_by es = map (λ entry. Pair 0 (key_number (key ∷ []) entry.0) entry.1) es
 ends : Pair 0 0 5 ∷ [] ≡ ends_in plan (contents_after (contents_of plan) (stored ∷ []))
 ends = sym (ap (λ (es : List (List ℕ × ℕ)). ends_by es) one_name)
 
-pub explained : Explains plan (outcome 5) (found 5)
-explained = record {
+pub explained : ByScript → Explains plan (outcome 5) (found 5)
+explained by_script = record {
   lines = whole_line first ∷ whole_line second ∷ [];
-  are = record { scripts = refl; lists = refl; replies = refl; each = are_whole plan first second spelt_first spelt_second };
+  are = (by_script plan _ _ _ refl).1 (record { scripts = refl; lists = refl; replies = refl; each = are_whole plan first second spelt_first spelt_second });
   lawful = is_record;
   agrees = (both_ended first second, ends);
 }

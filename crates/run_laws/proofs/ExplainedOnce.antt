@@ -39,7 +39,7 @@ use Rattle.run_laws.specs.Examples.{declared, on, none_known}
 use Rattle.run_laws.specs.ExamplesOnce.{plan, outcome, adds, added, first_known, runs, ends, is_told, ran_once, ran_twice}
 use Rattle.run_laws.proofs.OneCallEach.{IsFirst, one_each}
 use Rattle.run_laws.proofs.Backs.{once_back, is_once_back}
-use Rattle.run_laws.proofs.SmallRecords.{none_at, EachFrom, from_at, each_at, no_third, whole_line, are_whole, both_ended}
+use Rattle.run_laws.proofs.SmallRecords.{ByScript, none_at, EachFrom, from_at, each_at, no_third, whole_line, are_whole, both_ended}
 use Rattle.run_laws.proofs.Unlifted.{follows_back}
 
 abbrev addition : Item
@@ -202,10 +202,10 @@ spelt_first = (
 spelt_second : AreSpelt plan 1 0 second
 spelt_second = ((Entered 2 is_told ∷ [], [], Done (Ok (Already (pos 3))), refl, (own_told ∷ [], refl, ((0, refl), (refl, refl))), (refl, refl)), tt)
 
-pub explained : Explains plan outcome ran_once
-explained = record {
+pub explained : ByScript → Explains plan outcome ran_once
+explained by_script = record {
   lines = whole_line first ∷ whole_line second ∷ [];
-  are = record { scripts = refl; lists = refl; replies = refl; each = are_whole plan first second spelt_first spelt_second };
+  are = (by_script plan _ _ _ refl).1 (record { scripts = refl; lists = refl; replies = refl; each = are_whole plan first second spelt_first spelt_second });
   lawful = is_record;
   agrees = (both_ended first second, refl);
 }

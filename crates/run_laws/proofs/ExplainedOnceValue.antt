@@ -26,7 +26,7 @@ use Rattle.run_record.specs.Record.{ObjectEntry, journal_of}
 use Rattle.run_laws.specs.Examples.{declared, on, entry}
 use Rattle.run_laws.specs.ExamplesOnceValue.{plan, outcome, runs, ends, is_told, ran_once, ran_twice}
 use Rattle.run_laws.proofs.Backs.{once_value_back, is_once_value_back}
-use Rattle.run_laws.proofs.SmallRecords.{IsSmall, is_record, no_parts, whole_line, are_whole, both_ended, quiet_edges}
+use Rattle.run_laws.proofs.SmallRecords.{ByScript, IsSmall, is_record, no_parts, whole_line, are_whole, both_ended, quiet_edges}
 use Rattle.run_laws.proofs.Unlifted.{follows_back}
 
 abbrev own_run : Entry (OnceEvent ℕ) (OnceReply ℕ)
@@ -90,10 +90,10 @@ spelt_first = (
 spelt_second : AreSpelt plan 1 0 second
 spelt_second = ((Entered 1 (is_told 1) ∷ [], [], Done (Ok (Already 7)), refl, (own_told ∷ [], refl, ((0, refl), (refl, refl))), (refl, refl)), tt)
 
-pub explained : Explains plan outcome ran_once
-explained = record {
+pub explained : ByScript → Explains plan outcome ran_once
+explained by_script = record {
   lines = whole_line first ∷ whole_line second ∷ [];
-  are = record { scripts = refl; lists = refl; replies = refl; each = are_whole plan first second spelt_first spelt_second };
+  are = (by_script plan _ _ _ refl).1 (record { scripts = refl; lists = refl; replies = refl; each = are_whole plan first second spelt_first spelt_second });
   lawful = is_record plan (journal ∷ []) made_first made_second small;
   agrees = (both_ended first second, refl);
 }

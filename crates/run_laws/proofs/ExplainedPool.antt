@@ -31,7 +31,7 @@ use Rattle.run_record.specs.Record.{ObjectEntry, journal_of}
 use Rattle.run_laws.specs.Examples.{declared, on, entry}
 use Rattle.run_laws.specs.ExamplesPool.{plan, outcome, puts, takes, got}
 use Rattle.run_laws.proofs.Backs.{pool_back, is_pool_back}
-use Rattle.run_laws.proofs.SmallRecords.{IsSmall, is_record, whole_line, are_whole, both_ended, quiet_edges}
+use Rattle.run_laws.proofs.SmallRecords.{ByScript, IsSmall, is_record, whole_line, are_whole, both_ended, quiet_edges}
 use Rattle.run_laws.proofs.Unlifted.{follows_back}
 
 abbrev own_put : Entry (PoolEvent ℕ) (PoolReply ℕ)
@@ -87,10 +87,10 @@ spelt_first = (
   ((Entered 2 (takes 5) ∷ [], [], Done (Ok (Item 5)), refl, (own_take ∷ [], refl, ((0, refl), (refl, refl))), (refl, refl)), tt),
 )
 
-pub explained : Explains plan (outcome 5) (got 5)
-explained = record {
+pub explained : ByScript → Explains plan (outcome 5) (got 5)
+explained by_script = record {
   lines = whole_line first ∷ whole_line [] ∷ [];
-  are = record { scripts = refl; lists = refl; replies = refl; each = are_whole plan first [] spelt_first tt };
+  are = (by_script plan _ _ _ refl).1 (record { scripts = refl; lists = refl; replies = refl; each = are_whole plan first [] spelt_first tt });
   lawful = is_record plan journals made_first [] small;
   agrees = (both_ended first [], refl);
 }

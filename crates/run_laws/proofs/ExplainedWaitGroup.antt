@@ -27,7 +27,7 @@ use Rattle.run_record.specs.WaitGroupKind.{IsWaitGroupJournal, group_start}
 use Rattle.run_laws.specs.Examples.{declared, on, entry}
 use Rattle.run_laws.specs.ExamplesWaitGroup.{plan, outcome, is_done, waits, returns_at_zero, returns_at_one}
 use Rattle.run_laws.proofs.Backs.{wait_group_back, is_wait_group_back}
-use Rattle.run_laws.proofs.SmallRecords.{IsSmall, is_record, no_parts, whole_line, are_whole, both_ended, quiet_edges}
+use Rattle.run_laws.proofs.SmallRecords.{ByScript, IsSmall, is_record, no_parts, whole_line, are_whole, both_ended, quiet_edges}
 use Rattle.run_laws.proofs.Unlifted.{follows_back}
 
 abbrev own_done : Entry GroupEvent GroupReply
@@ -78,10 +78,10 @@ spelt_first = ((Done (Ok tt), (own_done ∷ [], refl, ((0, refl), (refl, refl)))
 spelt_second : AreSpelt plan 1 0 second
 spelt_second = ((Done (Ok tt), (own_wait ∷ [], refl, ((0, refl), (refl, refl))), refl), tt)
 
-pub explained : Explains plan outcome returns_at_zero
-explained = record {
+pub explained : ByScript → Explains plan outcome returns_at_zero
+explained by_script = record {
   lines = whole_line first ∷ whole_line second ∷ [];
-  are = record { scripts = refl; lists = refl; replies = refl; each = are_whole plan first second spelt_first spelt_second };
+  are = (by_script plan _ _ _ refl).1 (record { scripts = refl; lists = refl; replies = refl; each = are_whole plan first second spelt_first spelt_second });
   lawful = is_record plan (journal ∷ []) made_first made_second small;
   agrees = (both_ended first second, refl);
 }

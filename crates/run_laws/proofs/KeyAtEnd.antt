@@ -1,5 +1,5 @@
 -- What a map has at the end of a run that is done, at a key that belongs to one worker.
-use Rattle.std.proofs.Common.{◌≡◌, ◌≢◌, inl, inr, ℕ, ◌+◌, ◌<◌, ◌≤◌, Bool, true, false, cond, List, length, Option, Some, None, slice_get, refl, sym, ap, ◌∙◌, subst, arith}
+use Rattle.std.proofs.Common.{◌≡◌, ◌≢◌, inl, inr, ℕ, ◌+◌, ◌<◌, ◌≤◌, Bool, true, false, cond, List, map, length, Option, Some, None, slice_get, refl, sym, ap, ◌∙◌, subst, arith}
 use Rattle.std.specs.Prelude.{count_by}
 use Rattle.std.specs.Cmp.Lexicographic.{slice_cmp}
 use Rattle.std.specs.FinMap.{FinMap, empty, get, get-empty}
@@ -48,11 +48,11 @@ pub record Facts (r : Record) : Type 0 where
   pub order : (c i j : ℕ) (x y : Item) → i < j → slice_get (calls_of r c) i ≡ Some x → slice_get (calls_of r c) j ≡ Some y → x.place ≤ y.place
   pub only : (held : FinMap nat_cmp ℕ) (call : MapCall ℕ) → is_map_entry call held ≡ false → map_after call held ≡ held
 
-module _ (plan : Plan) (r : Record) (left : Report) (explains : Explains plan (Done left) r) (facts : Facts r) (plain : has_plain_objects plan ≡ true)
+module _ (plan : Plan) (r : Record) (left : Report) (explains : Explains plan (Done left) r) (script_lines : map script_of explains.lines ≡ plan.scripts) (facts : Facts r) (plain : has_plain_objects plan ≡ true)
     (named : (name : List ℕ) → list_any (bytes_eq name) (all_keys plan.scripts) ≡ true → key_name (keys_in plan.scripts) (key_number (keys_in plan.scripts) name) ≡ name)
     (place : ℕ) (object : ObjectLine) (at : slice_get plan.objects place ≡ Some object) (kind : object.kind ≡ kinds.Map) where
   pub scripted : (worker : ℕ) (line : Line) → slice_get explains.lines worker ≡ Some line → slice_get plan.scripts worker ≡ Some (script_of line)
-  scripted worker line is = ap (λ (l : List (List Call)). slice_get l worker) (sym explains.are.scripts) ∙ (slice_get-map script_of explains.lines worker ∙ ap (option_map script_of) is)
+  scripted worker line is = ap (λ (l : List (List Call)). slice_get l worker) (sym script_lines) ∙ (slice_get-map script_of explains.lines worker ∙ ap (option_map script_of) is)
 
   -- the map is there from the start, and empty
   pub map_there : map_number plan.objects place < length (contents_of plan).maps
@@ -106,7 +106,7 @@ module _ (plan : Plan) (r : Record) (left : Report) (explains : Explains plan (D
       pub own_value : (script : List Call) → slice_get plan.scripts worker ≡ Some script → value_at (contents_after (contents_of plan) r.history) (map_number plan.objects place) (key_number (keys_in plan.scripts) key) ≡ get (map_of place script) key
       own_value script is = by_line (slice_get explains.lines worker) refl where
         by_line : (o : Option Line) → slice_get explains.lines worker ≡ o → value_at (contents_after (contents_of plan) r.history) (map_number plan.objects place) (key_number (keys_in plan.scripts) key) ≡ get (map_of place script) key
-        by_line None none = absurd (none-some script (sym (ap (option_map script_of) none) ∙ (sym (slice_get-map script_of explains.lines worker) ∙ (ap (λ (l : List (List Call)). slice_get l worker) explains.are.scripts ∙ is))))
+        by_line None none = absurd (none-some script (sym (ap (option_map script_of) none) ∙ (sym (slice_get-map script_of explains.lines worker) ∙ (ap (λ (l : List (List Call)). slice_get l worker) script_lines ∙ is))))
         by_line (Some line) some =
             let calls : calls_in line.spelt ≡ script = sym (script_at plan r left explains worker line some) ∙ same_Some (script_of line) script (sym (scripted worker line some) ∙ is) in
             along_own ∙ (ap (key_along (map_number plan.objects place) (key_number (keys_in plan.scripts) key) None) (calls_at plan r left explains worker line some)

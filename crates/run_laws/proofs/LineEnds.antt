@@ -4,7 +4,6 @@ use Rattle.std.specs.Option.{option_map}
 use Rattle.std.proofs.lemmas.List.{length-map}
 use Rattle.std.proofs.lemmas.Option.{slice_get_within, get_or_from_slice_get, slice_get-map}
 use Rattle.script_calls.specs.declared.call.Call.{Call}
-use Rattle.script_calls.specs.declared.call.Reply.{Reply}
 use Rattle.sync_types.specs.declared.misuse.Misuse.{Misuse}
 use Rattle.script_calls.specs.declared.outcome.Outcome.{Outcome}
 use Rattle.script_calls.specs.declared.outcome.Outcome.TheVariants.{Done, Misused, Deadlocked}
@@ -25,27 +24,30 @@ has_ended plan r lines (Misused left misuse) agrees worker line at = line_is (λ
 has_ended plan r lines (Deadlocked left) agrees worker line at = absurd agrees
 
 module _ (plan : Plan) (outcome : Outcome) (r : Record) (explains : Explains plan outcome r) (worker : ℕ) (line : Line) (at : slice_get explains.lines worker ≡ Some line) where
-  script : get_or plan.scripts worker [] ≡ script_of line
-  script = get_at plan.scripts worker (script_of line) (ap (λ (l : List (List Call)). slice_get l worker) (sym explains.are.scripts) ∙ (slice_get-map script_of explains.lines worker ∙ ap (option_map script_of) at))
-
-  replied : get_or (left_by outcome).replies worker [] ≡ replies_of line
-  replied = get_at (left_by outcome).replies worker (replies_of line) (ap (λ (l : List (List (Reply ℕ))). slice_get l worker) (sym explains.are.replies) ∙ (slice_get-map replies_of explains.lines worker ∙ ap (option_map replies_of) at))
-
-  -- a script at its end has a reply to each call
-  all_replied : line.rest ≡ [] → length (script_of line) ≡ length (replies_of line)
-  all_replied none =
-      let calls = map (λ (s : SpeltCall). s.call) line.spelt in
-      ap length (ap (λ (l : List Call). calls ++ l) none ∙ append-nil calls) ∙ (length-map line.spelt (λ (s : SpeltCall). s.call) ∙ sym (length-map line.spelt (λ (s : SpeltCall). s.reply)))
-
   by_end : (end : LineEnd) → line.ending ≡ end → HasEnded end → EndsBy plan worker (length (shared_in (items_in line.spelt))) end line.rest line.last
-      → length (replies_of line) < length (script_of line) → (misuse : Misuse) × ((line.ending ≡ misused misuse) ⊎ (line.ending ≡ halted misuse))
-  by_end whole is ended ends few = let same = all_replied ends.0 in absurd (omega (arith, same, few))
-  by_end (misused misuse) is ended ends few = (misuse, inl is)
-  by_end (halted misuse) is ended ends few = (misuse, inr is)
-  by_end unfinished is ended ends few = absurd ended
+      → (line.rest ≡ [] → ⊥) → (misuse : Misuse) × ((line.ending ≡ misused misuse) ⊎ (line.ending ≡ halted misuse))
+  by_end whole is ended ends some = absurd (some ends.0)
+  by_end (misused misuse) is ended ends some = (misuse, inl is)
+  by_end (halted misuse) is ended ends some = (misuse, inr is)
+  by_end unfinished is ended ends some = absurd ended
 
-  pub met : length (get_or (left_by outcome).replies worker []) < length (get_or plan.scripts worker []) → (misuse : Misuse) × ((line.ending ≡ misused misuse) ⊎ (line.ending ≡ halted misuse))
-  met few =
-      let in_script = ap length script in
-      let in_replies = ap length replied in
-      by_end line.ending refl (has_ended plan r explains.lines outcome explains.agrees worker line at) (explains.are.each worker line at).ends (omega (arith, few, in_script, in_replies))
+  -- where something is left of its script
+  pub met : (line.rest ≡ [] → ⊥) → (misuse : Misuse) × ((line.ending ≡ misused misuse) ⊎ (line.ending ≡ halted misuse))
+  met some = by_end line.ending refl (has_ended plan r explains.lines outcome explains.agrees worker line at) (explains.are.each worker line at).ends some
+
+  module _ (scripts : map script_of explains.lines ≡ plan.scripts) where
+    script : get_or plan.scripts worker [] ≡ script_of line
+    script = get_at plan.scripts worker (script_of line) (ap (λ (l : List (List Call)). slice_get l worker) (sym scripts) ∙ (slice_get-map script_of explains.lines worker ∙ ap (option_map script_of) at))
+
+    -- a script at its end has a reply to each call
+    all_replied : line.rest ≡ [] → length (script_of line) ≡ length (replies_of line)
+    all_replied none =
+        let calls = map (λ (s : SpeltCall). s.call) line.spelt in
+        ap length (ap (λ (l : List Call). calls ++ l) none ∙ append-nil calls) ∙ (length-map line.spelt (λ (s : SpeltCall). s.call) ∙ sym (length-map line.spelt (λ (s : SpeltCall). s.reply)))
+
+    pub met_before : get_or (left_by outcome).replies worker [] ≡ replies_of line → length (get_or (left_by outcome).replies worker []) < length (get_or plan.scripts worker [])
+        → (misuse : Misuse) × ((line.ending ≡ misused misuse) ⊎ (line.ending ≡ halted misuse))
+    met_before replied few =
+        let in_script = ap length script in
+        let in_replies = ap length replied in
+        met (λ none. let same = all_replied none in omega (arith, few, in_script, in_replies, same))

@@ -5,6 +5,7 @@ use Rattle.std.specs.List.{flat_map}
 use Rattle.std.proofs.lemmas.Bool.{false≢true, and_parts, eq-eqb, eqb-true, eqb-false, ne_eqb}
 use Rattle.sync_model.specs.declared.answer.Answer.TheVariants.{Done, Halted}
 use Rattle.script_calls.specs.declared.call.Call.{Call}
+use Rattle.script_calls.specs.declared.call.ComposedCall.TheVariants.{IfEqual}
 use Rattle.script_calls.specs.declared.call.Operation.{Operation}
 use Rattle.script_calls.specs.declared.call.Operation.TheVariants as operations
 use Rattle.script_calls.specs.declared.call.Reply.{Reply}
@@ -41,7 +42,7 @@ use Rattle.run_record.specs.Parts.{lifted, lifted_deed, with_outcome}
 use Rattle.run_record.specs.Record.{ObjectEntry, object_number, shared_in, entries_in}
 use Rattle.run_laws.specs.Locks.{has_plain_objects, is_in_turn, keeps_lock}
 use Rattle.run_laws.proofs.Holders.{IsHolders, OnlyHolder, holds_after}
-use Rattle.run_laws.proofs.PlainCalls.{PlainCall, on_map, on_range, on_atomic, on_mutex, IsOfKind, plain_call}
+use Rattle.run_laws.proofs.PlainCalls.{PlainCall, on_map, on_range, on_atomic, on_test, on_mutex, IsOfKind, plain_call}
 
 -- the entries of an object in lists
 pub entries_append : (object : ℕ) (xs ys : List Made) → entries_in object (xs ++ ys) ≡ entries_in object xs ++ entries_in object ys
@@ -241,6 +242,10 @@ module _ (plan : Plan) (plain : has_plain_objects plan ≡ true) (place : ℕ) (
     never false = refl
   call_turns held call items answer rest (on_atomic type a kind asks one) turn behind = of_another held call items answer rest (untimely held call (operations.Atomic a) asks never) (ap (λ (l : List Made). entries_in (object_number place) l) one.are) turn behind where
     never : (h : Bool) → is_in_turn h (operations.Atomic a) ≡ false
+    never true = refl
+    never false = refl
+  call_turns held call items answer rest (on_test type value passes kind asks one) turn behind = of_another held call items answer rest (untimely held call (operations.Composed (IfEqual value passes)) asks never) (ap (λ (l : List Made). entries_in (object_number place) l) one.are) turn behind where
+    never : (h : Bool) → is_in_turn h (operations.Composed (IfEqual value passes)) ≡ false
     never true = refl
     never false = refl
   call_turns held call items answer rest (on_mutex m kind asks spelt) turn behind = of_mutex held call m items answer rest asks spelt turn behind

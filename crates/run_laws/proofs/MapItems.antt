@@ -41,7 +41,7 @@ use Rattle.run_laws.proofs.NamedKeys.{one_number}
 use Rattle.run_laws.proofs.Numbered.{numbers_apart}
 use Rattle.run_laws.proofs.OneKey.{value_renamed, key_renamed, key_left}
 use Rattle.sync_types.specs.KeyCalls.{key_after}
-use Rattle.run_laws.proofs.PlainCalls.{PlainCall, on_map, on_range, on_atomic, on_mutex, IsOfKind, is_cursors, list_all_at, plain_call}
+use Rattle.run_laws.proofs.PlainCalls.{PlainCall, on_map, on_range, on_atomic, on_test, on_mutex, IsOfKind, is_cursors, list_all_at, plain_call}
 use Rattle.run_laws.proofs.Weaving.{shared_key_after, key_along, off_key}
 
 -- whether a call is on no map
@@ -74,6 +74,7 @@ pub map_items : (plan : Plan) (call : Call) (items : List Made) (answer : CallAn
 map_items plan call items answer (on_map op kind asks one) = one_call op one.item kind asks (ap shared_in one.are) one.asks
 map_items plan call items answer (on_range kind asks cursor) = no_call (ap is_map_operation asks) (ap (list_all (λ (x : Item). is_no_map x.call)) (ap shared_in cursor.are ∙ shared_map cursor.made) ∙ cursors_are_none cursor.made cursor.asks)
 map_items plan call items answer (on_atomic type op kind asks one) = no_call (ap is_map_operation asks) (ap (list_all (λ (x : Item). is_no_map x.call)) (ap shared_in one.are) ∙ ap (λ (c : SharedCall). is_no_map c && true) one.asks)
+map_items plan call items answer (on_test type value passes kind asks one) = no_call (ap is_map_operation asks) (ap (list_all (λ (x : Item). is_no_map x.call)) (ap shared_in one.are) ∙ ap (λ (c : SharedCall). is_no_map c && true) one.asks)
 map_items plan call items answer (on_mutex op kind asks (given, (entries, are, spelt), gives)) = no_call (ap is_map_operation asks) (ap (list_all (λ (x : Item). is_no_map x.call)) (ap shared_in are ∙ no_entries_shared (object_number call.object) entries))
 
 or_false : (a b : Bool) → (a || b) ≡ false → (a ≡ false) × (b ≡ false)

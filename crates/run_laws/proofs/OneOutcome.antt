@@ -1,5 +1,5 @@
 -- That a record explains one outcome, where each call is spelt in one way.
-use Rattle.std.proofs.Common.{◌≡◌, ◌≢◌, ℕ, zero, suc, ◌+◌, Bool, true, false, List, [], ◌∷◌, ◌++◌, map, length, get_or, Some, slice_get, refl, sym, ap, ◌∙◌, subst, append_assoc, arith}
+use Rattle.std.proofs.Common.{◌≡◌, ◌≢◌, ℕ, zero, suc, ◌+◌, Bool, true, false, List, [], ◌∷◌, ◌++◌, map, drop, length, get_or, Some, slice_get, refl, sym, ap, ◌∙◌, subst, append_assoc, arith}
 use Rattle.std.specs.Prelude.{All, Ok, Err}
 use Rattle.std.specs.List.{flat_map}
 use Rattle.std.proofs.lemmas.Bool.{false≢true}
@@ -11,6 +11,7 @@ use Rattle.script_calls.specs.declared.outcome.Outcome.{Outcome}
 use Rattle.script_calls.specs.declared.outcome.Outcome.TheVariants.{Done as DoneWith, Misused, Deadlocked}
 use Rattle.script_calls.specs.declared.outcome.Report.{Report}
 use Rattle.script_calls.specs.Outcome.{left_by}
+use Rattle.script_calls.specs.Runs.{passed_over, RunsAlong}
 use Rattle.sync_model.specs.declared.answer.Answer.TheVariants.{Done, Halted}
 use Rattle.sync_model.specs.Journal.{halt_of}
 use Rattle.sync_types.specs.declared.end.End.{End}
@@ -20,7 +21,7 @@ use Rattle.run_record.specs.declared.made.Made.{Made}
 use Rattle.run_record.specs.declared.made.Made.TheVariants.{Shared, Entered}
 use Rattle.run_record.specs.Calls.{SpellsCall}
 use Rattle.run_record.specs.Explains.{AreLines, IsRecordOf, HasEnded, Explains}
-use Rattle.run_record.specs.Lines.{SpeltCall, LineEnd, whole, misused, halted, unfinished, Line, script_of, items_of, replies_of, AreSpelt, EndsBy, IsLineOf}
+use Rattle.run_record.specs.Lines.{SpeltCall, LineEnd, whole, misused, halted, unfinished, Line, calls_made, items_of, replies_of, AreSpelt, EndsBy, IsLineOf}
 use Rattle.run_record.specs.Record.{Record, stop, journal_of, shared_in}
 use Rattle.run_laws.specs.OneSpelling.{IsCertain}
 use Rattle.run_laws.proofs.OneWay.{tail_of}
@@ -39,8 +40,14 @@ shared_append (Entered object entry ∷ xs) ys = shared_append xs ys
 abbrev items_in : List SpeltCall → List Made
 items_in spelt = flat_map (λ call. call.items) spelt
 
-abbrev calls_in : List SpeltCall → List Call
-calls_in spelt = map (λ call. call.call) spelt
+-- the completed calls, each with its reply
+abbrev made_in : List SpeltCall → List (Call × Reply ℕ)
+made_in spelt = map (λ s. (s.call, s.reply)) spelt
+
+dropped_at : {A : Type 0} (n i : ℕ) (xs : List A) (x : A) → slice_get (drop n xs) i ≡ Some x → (j : ℕ) × (slice_get xs j ≡ Some x)
+dropped_at zero i xs x at = (i, at)
+dropped_at (suc n) i [] x at = absurd (none-some x at)
+dropped_at (suc n) i (y ∷ xs) x at = let there = dropped_at n i xs x at in (suc there.0, there.1)
 
 module _ (plan : Plan) (worker : ℕ) where
   -- a list that ends before a call doesn't begin with that call
@@ -53,39 +60,45 @@ module _ (plan : Plan) (worker : ℕ) where
     by_end (halted misuse) cut ended = false≢true (ap is_reply (certain last o.items halts behind (Halted misuse) (Done (Ok o.reply)) cut spells same).2)
     by_end unfinished cut ended = ended
 
-  one_line : (before : ℕ) (spelt other : List SpeltCall) (left right : List Call) (last halts more behind : List Made) (ends given : LineEnd) → AreCertain plan worker (calls_in spelt ++ left)
-      → calls_in spelt ++ left ≡ calls_in other ++ right → AreSpelt plan worker before spelt → AreSpelt plan worker before other
+  one_line : (before : ℕ) (spelt other : List SpeltCall) (script left right : List Call) (last halts more behind : List Made) (ends given : LineEnd) → AreCertain plan worker script
+      → RunsAlong script (made_in spelt) left → RunsAlong script (made_in other) right → AreSpelt plan worker before spelt → AreSpelt plan worker before other
       → EndsBy plan worker (before + length (shared_in (items_in spelt))) ends left last → EndsBy plan worker (before + length (shared_in (items_in other))) given right more
       → HasEnded ends → HasEnded given → items_in spelt ++ (last ++ halts) ≡ items_in other ++ (more ++ behind) → spelt ≡ other
-  one_line before [] [] left right last halts more behind ends given certain script a b at_end at_other ended also same = refl
-  one_line before [] (o ∷ other) left right last halts more behind ends given certain script a b at_end at_other ended also same =
-      absurd (cut_short before o (calls_in other ++ right) left last halts (items_in other ++ (more ++ behind)) ends
-      (certain 0 before o.call (ap (λ (l : List Call). slice_get l 0) script)) script b.0
+  one_line before [] [] script left right last halts more behind ends given certain run other_run a b at_end at_other ended also same = refl
+  one_line before [] (o ∷ other) script left right last halts more behind ends given certain run (rest, is, later) a b at_end at_other ended also same =
+      absurd (cut_short before o rest left last halts (items_in other ++ (more ++ behind)) ends
+      (certain 0 before o.call (ap (λ (l : List Call). slice_get l 0) is)) (run ∙ is) b.0
       (subst (λ (n : ℕ). EndsBy plan worker n ends left last) (omega arith) at_end) ended (same ∙ append_assoc o.items (items_in other) (more ++ behind)))
-  one_line before (s ∷ spelt) [] left right last halts more behind ends given certain script a b at_end at_other ended also same =
-      absurd (cut_short before s (calls_in spelt ++ left) right more behind (items_in spelt ++ (last ++ halts)) given
-      (certain 0 before s.call refl) (sym script) a.0
+  one_line before (s ∷ spelt) [] script left right last halts more behind ends given certain (rest, is, later) run a b at_end at_other ended also same =
+      absurd (cut_short before s rest right more behind (items_in spelt ++ (last ++ halts)) given
+      (certain 0 before s.call (ap (λ (l : List Call). slice_get l 0) is)) (run ∙ is) a.0
       (subst (λ (n : ℕ). EndsBy plan worker n given right more) (omega arith) at_other) also (sym same ∙ append_assoc s.items (items_in spelt) (last ++ halts)))
-  one_line before (s ∷ spelt) (o ∷ other) left right last halts more behind ends given certain script a b at_end at_other ended also same =
-      let call : s.call ≡ o.call = ap (λ (l : List Call). get_or l 0 s.call) script in
+  one_line before (s ∷ spelt) (o ∷ other) script left right last halts more behind ends given certain (rest, is, run) (other_rest, other_is, other_run) a b at_end at_other ended also same =
+      let both : s.call ∷ rest ≡ o.call ∷ other_rest = sym is ∙ other_is in
+      let call : s.call ≡ o.call = ap (λ (l : List Call). get_or l 0 s.call) both in
       let start : s.items ++ (items_in spelt ++ (last ++ halts)) ≡ o.items ++ (items_in other ++ (more ++ behind)) =
       sym (append_assoc s.items (items_in spelt) (last ++ halts)) ∙ (same ∙ append_assoc o.items (items_in other) (more ++ behind)) in
-      let one = certain 0 before s.call refl s.items o.items (items_in spelt ++ (last ++ halts)) (items_in other ++ (more ++ behind)) (Done (Ok s.reply)) (Done (Ok o.reply)) a.0
+      let one = certain 0 before s.call (ap (λ (l : List Call). slice_get l 0) is) s.items o.items (items_in spelt ++ (last ++ halts)) (items_in other ++ (more ++ behind)) (Done (Ok s.reply)) (Done (Ok o.reply)) a.0
       (subst (λ (c : Call). SpellsCall plan worker before c o.items (Done (Ok o.reply))) (sym call) b.0) start in
+      let first : s ≡ o = same_spelt s o call one.0 (ap (reply_in s.reply) one.2) in
       let next = before + length (shared_in s.items) in
       let long : length (shared_in s.items) ≡ length (shared_in o.items) = ap (λ (l : List Made). length (shared_in l)) one.0 in
       let first_end : EndsBy plan worker (next + length (shared_in (items_in spelt))) ends left last =
       subst (λ (n : ℕ). EndsBy plan worker n ends left last) (omega (arith, shared_append s.items (items_in spelt))) at_end in
       let other_end : EndsBy plan worker (next + length (shared_in (items_in other))) given right more =
       subst (λ (n : ℕ). EndsBy plan worker n given right more) (omega (arith, shared_append o.items (items_in other), long)) at_other in
-      let later = one_line next spelt other left right last halts more behind ends given (λ i n c at. certain (suc i) n c at) (ap (λ (l : List Call). tail_of l) script) a.1
+      let passed : drop (passed_over o.call o.reply) other_rest ≡ drop (passed_over s.call s.reply) rest =
+      ap (λ (x : SpeltCall). drop (passed_over x.call x.reply) other_rest) (sym first) ∙ ap (λ (l : List Call). drop (passed_over s.call s.reply) (tail_of l)) (sym both) in
+      let later = one_line next spelt other (drop (passed_over s.call s.reply) rest) left right last halts more behind ends given
+      (λ i n c at. let there = dropped_at (passed_over s.call s.reply) i rest c at in certain (suc there.0) n c (ap (λ (l : List Call). slice_get l (suc there.0)) is ∙ there.1))
+      run (subst (λ (l : List Call). RunsAlong l (made_in other) right) passed other_run) a.1
       (subst (λ (l : List Made). AreSpelt plan worker (before + length (shared_in l)) other) (sym one.0) b.1) first_end other_end ended also one.1 in
-      ap (λ (x : SpeltCall). x ∷ spelt) (same_spelt s o call one.0 (ap (reply_in s.reply) one.2)) ∙ ap (λ (xs : List SpeltCall). o ∷ xs) later
+      ap (λ (x : SpeltCall). x ∷ spelt) first ∙ ap (λ (xs : List SpeltCall). o ∷ xs) later
 
-  pub same_line : (line other : Line) → AreCertain plan worker (script_of line) → script_of line ≡ script_of other → items_of line ≡ items_of other → IsLineOf plan worker line → IsLineOf plan worker other
-      → HasEnded line.ending → HasEnded other.ending → line.spelt ≡ other.spelt
-  same_line line other certain script items is also ended given =
-      one_line 0 line.spelt other.spelt line.rest other.rest line.last line.halts other.last other.halts line.ending other.ending certain script is.calls also.calls
+  pub same_line : (script : List Call) (line other : Line) → AreCertain plan worker script → RunsAlong script (calls_made line) line.rest → RunsAlong script (calls_made other) other.rest → items_of line ≡ items_of other
+      → IsLineOf plan worker line → IsLineOf plan worker other → HasEnded line.ending → HasEnded other.ending → line.spelt ≡ other.spelt
+  same_line script line other certain run other_run items is also ended given =
+      one_line 0 line.spelt other.spelt script line.rest other.rest line.last line.halts other.last other.halts line.ending other.ending certain run other_run is.calls also.calls
       (subst (λ (n : ℕ). EndsBy plan worker n line.ending line.rest line.last) (omega arith) is.ends) (subst (λ (n : ℕ). EndsBy plan worker n other.ending other.rest other.last) (omega arith) also.ends) ended given items
 
 module _ (plan : Plan) where
@@ -93,31 +106,31 @@ module _ (plan : Plan) where
   abbrev AreEnded : (ℕ → ℕ) → List Line → Type 0
   AreEnded worker lines = (i : ℕ) (line : Line) → slice_get lines i ≡ Some line → IsLineOf plan (worker i) line × HasEnded line.ending
 
-  same_replies : (worker : ℕ → ℕ) (lines others : List Line) → map script_of lines ≡ map script_of others → map items_of lines ≡ map items_of others → AreEnded worker lines → AreEnded worker others
-      → ((i : ℕ) (line : Line) → slice_get lines i ≡ Some line → AreCertain plan (worker i) (script_of line)) → map replies_of lines ≡ map replies_of others
-  same_replies worker [] [] scripts items a b certain = refl
-  same_replies worker [] (o ∷ others) scripts items a b certain = absurd (omega (arith, ap (λ (l : List (List Call)). length l) scripts))
-  same_replies worker (l ∷ lines) [] scripts items a b certain = absurd (omega (arith, ap (λ (l : List (List Call)). length l) scripts))
-  same_replies worker (l ∷ lines) (o ∷ others) scripts items a b certain =
-      let script : script_of l ≡ script_of o = ap (λ (s : List (List Call)). get_or s 0 []) scripts in
+  -- lines along runs of these scripts
+  abbrev AreAlong : List (List Call) → List Line → Type 0
+  AreAlong scripts lines = (i : ℕ) (line : Line) → slice_get lines i ≡ Some line → RunsAlong (get_or scripts i []) (calls_made line) line.rest
+
+  same_replies : (worker : ℕ → ℕ) (scripts : List (List Call)) (lines others : List Line) → length lines ≡ length scripts → AreAlong scripts lines → AreAlong scripts others → map items_of lines ≡ map items_of others
+      → AreEnded worker lines → AreEnded worker others → ((i : ℕ) (script : List Call) → slice_get scripts i ≡ Some script → AreCertain plan (worker i) script) → map replies_of lines ≡ map replies_of others
+  same_replies worker scripts [] [] count runs also items a b certain = refl
+  same_replies worker scripts [] (o ∷ others) count runs also items a b certain = absurd (omega (arith, ap (λ (l : List (List Made)). length l) items))
+  same_replies worker scripts (l ∷ lines) [] count runs also items a b certain = absurd (omega (arith, ap (λ (l : List (List Made)). length l) items))
+  same_replies worker [] (l ∷ lines) (o ∷ others) count runs also items a b certain = absurd (omega (arith, count))
+  same_replies worker (script ∷ scripts) (l ∷ lines) (o ∷ others) count runs also items a b certain =
       let list : items_of l ≡ items_of o = ap (λ (s : List (List Made)). get_or s 0 []) items in
       let mine = a 0 l refl in
-      let also = b 0 o refl in
-      let spelt = same_line plan (worker 0) l o (certain 0 l refl) script list mine.0 also.0 mine.1 also.1 in
+      let its = b 0 o refl in
+      let spelt = same_line plan (worker 0) script l o (certain 0 script refl) (runs 0 l refl) (also 0 o refl) list mine.0 its.0 mine.1 its.1 in
       let first : replies_of l ≡ replies_of o = ap (λ (s : List SpeltCall). map (λ call. call.reply) s) spelt in
       ap (λ (r : List (Reply ℕ)). r ∷ map replies_of lines) first
-      ∙ ap (λ (rs : List (List (Reply ℕ))). replies_of o ∷ rs) (same_replies (λ i. worker (suc i)) lines others (ap (λ (s : List (List Call)). tail_of s) scripts) (ap (λ (s : List (List Made)). tail_of s) items) (λ i line at. a (suc i) line at) (λ i line at. b (suc i) line at) (λ i line at. certain (suc i) line at))
+      ∙ ap (λ (rs : List (List (Reply ℕ))). replies_of o ∷ rs) (same_replies (λ i. worker (suc i)) scripts lines others (omega (arith, count)) (λ i line at. runs (suc i) line at) (λ i line at. also (suc i) line at)
+      (ap (λ (s : List (List Made)). tail_of s) items) (λ i line at. a (suc i) line at) (λ i line at. b (suc i) line at) (λ i line at. certain (suc i) line at))
 
 module _ {A : Type 0} where
   all_at : (P : A → Type 0) (xs : List A) → All P xs → (i : ℕ) (x : A) → slice_get xs i ≡ Some x → P x
   all_at P [] all i x at = absurd (none-some x at)
   all_at P (y ∷ xs) all zero x at = subst P (same_Some y x at) (all 0 y (omega arith))
   all_at P (y ∷ xs) all (suc i) x at = all_at P xs (λ k d less. all (suc k) d (omega (arith, less))) i x at
-
-script_there : (lines : List Line) (i : ℕ) (line : Line) → slice_get lines i ≡ Some line → slice_get (map script_of lines) i ≡ Some (script_of line)
-script_there [] i line at = absurd (none-some line at)
-script_there (l ∷ lines) zero line at = ap (λ (x : Line). Some (script_of x)) (same_Some l line at)
-script_there (l ∷ lines) (suc i) line at = script_there lines i line at
 
 abbrev report_of : List (List (Reply ℕ)) → List End → Report
 report_of replies ends = record { replies = replies; ends = ends }
@@ -136,9 +149,8 @@ module _ (plan : Plan) (r : Record) (certain : (worker : ℕ) (script : List Cal
 
   replies_same : (one other : Outcome) (first : Explains plan one r) (second : Explains plan other r) → (left_by one).replies ≡ (left_by other).replies
   replies_same one other first second =
-      sym first.are.replies ∙ (same_replies plan (λ i. i) first.lines second.lines (first.are.scripts ∙ sym second.are.scripts) (first.are.lists ∙ sym second.are.lists)
-      (λ i line at. (first.are.each i line at, has_ended one first i line at)) (λ i line at. (second.are.each i line at, has_ended other second i line at))
-      (λ i line at. certain i (script_of line) (ap (λ (l : List (List Call)). slice_get l i) (sym first.are.scripts) ∙ script_there first.lines i line at)) ∙ second.are.replies)
+      sym first.are.replies ∙ (same_replies plan (λ i. i) plan.scripts first.lines second.lines first.are.count first.are.runs second.are.runs (first.are.lists ∙ sym second.are.lists)
+      (λ i line at. (first.are.each i line at, has_ended one first i line at)) (λ i line at. (second.are.each i line at, has_ended other second i line at)) certain ∙ second.are.replies)
 
   not_both : (left right : Report) (misuse : Misuse) → Explains plan (DoneWith left) r → Explains plan (Misused right misuse) r → ⊥
   not_both left right misuse first second =

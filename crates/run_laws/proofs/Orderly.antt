@@ -35,15 +35,16 @@ use Rattle.run_record.specs.declared.entered.ObjectEvent.TheVariants as event
 use Rattle.run_record.specs.declared.entered.ObjectReply.TheVariants as reply
 use Rattle.run_record.specs.declared.made.Made.{Made}
 use Rattle.run_record.specs.Calls.{IsJournalOf}
-use Rattle.run_record.specs.Explains.{AreLines, IsRecordOf}
+use Rattle.run_record.specs.Explains.{IsRecordOf}
 use Rattle.run_record.specs.Lines.{LineEnd, misused, Line, script_of, items_of, EndsBy}
 use Rattle.run_record.specs.Parts.{lifted_deed, with_outcome}
 use Rattle.run_record.specs.Record.{Record, ObjectEntry, object_number, journal_of, list_of, shared_in, entries_in}
+use Rattle.run_record.specs.Runs.{SpellScripts}
 use Rattle.run_laws.specs.Locks.{keeps_lock, KeepsItsLocks}
 use Rattle.run_laws.proofs.EachOf.{each_left, each_right}
 use Rattle.run_laws.proofs.Holders.{IsUse, AreUses, OnlyHolder, is_misuse, journal_uses}
 use Rattle.run_laws.proofs.LockLines.{entries_append, entries_here, of_kind, deeds, line_turns}
-use Rattle.run_laws.proofs.PlainCalls.{PlainCall, on_map, on_range, on_atomic, on_mutex, IsOfKind, list_all_at, plain_call}
+use Rattle.run_laws.proofs.PlainCalls.{PlainCall, on_map, on_range, on_atomic, on_test, on_mutex, IsOfKind, list_all_at, plain_call}
 
 -- whether an answer is a misuse
 abbrev is_err : {O : Type 0} → CallAnswer O → Bool
@@ -105,7 +106,7 @@ pub get_at : {A : Type 0} (lists : List (List A)) (i : ℕ) (list : List A) → 
 get_at {A} lists i list at = get_or_from_slice_get lists i list [] at
 
 module _ (keeps_valid : (s : State) (c : ℕ) (e : MutexEvent) → IsValid s → IsValid (next s c e).0) (starts_valid : (callers : ℕ) → IsValid (start callers))
-    (plan : Plan) (keeps : KeepsItsLocks plan) (r : Record) (outcome : Outcome) (lines : List Line) (are : AreLines plan r outcome lines) (lawful : IsRecordOf plan r) where
+    (plan : Plan) (keeps : KeepsItsLocks plan) (r : Record) (outcome : Outcome) (lines : List Line) (are : SpellScripts plan r outcome lines) (lawful : IsRecordOf plan r) where
   -- a worker's list is its line's, and its script too
   list_at : (worker : ℕ) (line : Line) → slice_get lines worker ≡ Some line → list_of r worker ≡ items_of line
   list_at worker line at = get_at r.lists worker (items_of line) (ap (λ (l : List (List Made)). slice_get l worker) (sym are.lists) ∙ (slice_get-map items_of lines worker ∙ ap (option_map items_of) at))
@@ -133,6 +134,7 @@ module _ (keeps_valid : (s : State) (c : ℕ) (e : MutexEvent) → IsValid s →
   no_call worker line at call items before behind m is (on_map op kind asks one) = false≢true (sym (ap (is_err {O = Reply ℕ}) one.answers))
   no_call worker line at call items before behind m is (on_range kind asks cursor) = false≢true (sym (ap (is_err {O = Reply ℕ}) cursor.answers))
   no_call worker line at call items before behind m is (on_atomic type op kind asks one) = false≢true (sym (ap (is_err {O = Reply ℕ}) one.answers))
+  no_call worker line at call items before behind m is (on_test type value passes kind asks one) = false≢true (sym (ap (is_err {O = Reply ℕ}) one.answers))
   no_call worker line at call items before behind m is (on_mutex op kind asks (given, (entries, are_items, spelt), gives)) =
       let object = object_number call.object in
       let listed : AreUses (entries_in object (before ++ (items ++ behind))) = subst (λ (l : List Made). AreUses (entries_in object l)) is (subst AreUses (sym (lawful.once worker object)) (uses_by worker (journal_of r object) (uses call.object kind))) in

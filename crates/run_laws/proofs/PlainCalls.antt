@@ -6,8 +6,12 @@ use Rattle.std.proofs.lemmas.Bool.{false≢true, and_parts}
 use Rattle.std.proofs.lemmas.Option.{none-some}
 use Rattle.sync_model.specs.declared.answer.Answer.TheVariants.{Done}
 use Rattle.sync_types.specs.declared.atomic_object.AtomicCall.{AtomicCall}
+use Rattle.sync_types.specs.declared.atomic_object.AtomicCall.TheVariants.{Load}
 use Rattle.sync_types.specs.declared.atomic_object.AtomicKind.{AtomicKind}
+use Rattle.sync_types.specs.declared.atomic_object.AtomicReply.TheVariants.{Compared}
+use Rattle.sync_types.specs.declared.atomic_object.Number.{Number}
 use Rattle.script_calls.specs.declared.call.Call.{Call}
+use Rattle.script_calls.specs.declared.call.ComposedCall.TheVariants.{IfEqual}
 use Rattle.script_calls.specs.declared.call.Operation.{Operation}
 use Rattle.script_calls.specs.declared.call.Operation.TheVariants as operations
 use Rattle.script_calls.specs.declared.call.Reply.{Reply}
@@ -31,8 +35,9 @@ use Rattle.run_record.specs.declared.made.Made.TheVariants.{Shared}
 use Rattle.run_record.specs.Calls.{call_on, call_at, SpellsCall}
 use Rattle.run_record.specs.MutexKind.{mutex_call}
 use Rattle.run_record.specs.Objects.{map_number, atomic_number}
-use Rattle.run_record.specs.Parts.{Places}
+use Rattle.run_record.specs.Parts.{Places, with_outcome}
 use Rattle.run_record.specs.Record.{object_number}
+use Rattle.run_record.specs.Tests.{holds}
 use Rattle.run_laws.specs.Locks.{is_plain, has_plain_objects}
 
 pub list_all_at : {A : Type 0} (p : A → Bool) (xs : List A) (i : ℕ) (x : A) → list_all p xs ≡ true → slice_get xs i ≡ Some x → p x ≡ true
@@ -73,6 +78,8 @@ pub data PlainCall (plan : Plan) (call : Call) (items : List Made) (answer : Cal
   on_range : IsOfKind plan call.object kinds.Map → call.operation ≡ operations.Range → CursorItems items answer → PlainCall plan call items answer
   on_atomic : (type : AtomicKind) (a : AtomicCall) → IsOfKind plan call.object (kinds.Atomic type) → call.operation ≡ operations.Atomic a
       → OneItem (calls.Atomic (atomic_number plan.objects call.object) a) items answer → PlainCall plan call items answer
+  on_test : (type : AtomicKind) (value : Number) (passes : ℕ) → IsOfKind plan call.object (kinds.Atomic type) → call.operation ≡ operations.Composed (IfEqual value passes)
+      → OneItem (calls.Atomic (atomic_number plan.objects call.object) Load) items answer → PlainCall plan call items answer
   on_mutex : (m : MutexCall) → IsOfKind plan call.object kinds.Mutex → call.operation ≡ operations.Mutex m → mutex_call (object_number call.object) m items answer → PlainCall plan call items answer
 
 -- what was asked and answered
@@ -110,6 +117,9 @@ module _ (plan : Plan) (plain : has_plain_objects plan ≡ true) (worker before 
   by_kind object kinds.Map operations.Range at is plain asks (shown, pairs, (made, are, calls_are), sorted, gives) = on_range (object, at, is) asks
       (record { made = made; reply = replies.Pairs pairs; are = are; asks = cursors_alone _ made (shown_cursors (map_number plan.objects call.object) before shown) calls_are; answers = gives })
   by_kind object (kinds.Atomic type) (operations.Atomic a) at is plain asks (reply, places, gives) = on_atomic type a (object, at, is) asks (one_item _ (answers.Atomic reply) (replies.Atomic reply) items answer places gives)
+  by_kind object (kinds.Atomic type) (operations.Composed (IfEqual value passes)) at is plain asks (met, (got, (reply, places, gives), reads), tells) =
+      on_test type value passes (object, at, is) asks (one_item _ (answers.Atomic reply) (replies.Atomic (Compared (holds value (replies.Atomic reply)))) items answer places
+      (tells ∙ ap (with_outcome (λ (found : Bool). let told : Reply ℕ = replies.Atomic (Compared found) in told)) (reads ∙ ap (with_outcome (holds value)) gives)))
   by_kind object kinds.Mutex (operations.Mutex m) at is plain asks spelt = on_mutex m (object, at, is) asks spelt
   by_kind object kinds.RwMutex operation at is plain asks spelt = absurd (false≢true plain)
   by_kind object (kinds.Cond mutex) operation at is plain asks spelt = absurd (false≢true plain)

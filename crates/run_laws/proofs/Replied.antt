@@ -1,16 +1,19 @@
 -- What calls on maps and atomics are, and what they reply.
-use Rattle.std.proofs.Common.{◌≡◌, ℕ, List, [], ◌∷◌, ◌++◌, map, length, Some, slice_get, Ok, refl, ap, ◌∙◌, subst}
+use Rattle.std.proofs.Common.{◌≡◌, ℕ, Bool, List, [], ◌∷◌, ◌++◌, map, length, Some, slice_get, Ok, refl, ap, ◌∙◌, subst}
 use Rattle.std.specs.Prelude.{IsSortedByKey}
 use Rattle.std.specs.Cmp.Lexicographic.{slice_cmp}
 use Rattle.std.specs.Ordering.{nat_cmp}
 use Rattle.sync_types.specs.declared.atomic_object.AtomicCall.{AtomicCall}
+use Rattle.sync_types.specs.declared.atomic_object.AtomicCall.TheVariants.{Load}
+use Rattle.sync_types.specs.declared.atomic_object.AtomicReply.TheVariants.{Compared}
+use Rattle.sync_types.specs.declared.atomic_object.Number.{Number}
 use Rattle.script_calls.specs.declared.call.Call.{Call}
 use Rattle.script_calls.specs.declared.call.Operation.{Operation}
 use Rattle.script_calls.specs.declared.call.Reply.{Reply}
 use Rattle.script_calls.specs.declared.call.Reply.TheVariants as replies
 use Rattle.sync_types.specs.declared.map_object.MapCall.{MapCall}
 use Rattle.sync_types.specs.Renaming.{renamed_call}
-use Rattle.sync_types.specs.SequentialAtomic.{atomic_reply}
+use Rattle.sync_types.specs.SequentialAtomic.{atomic_reply, is_same}
 use Rattle.sync_types.specs.SequentialMap.{map_reply}
 use Rattle.sync_model.specs.declared.answer.Answer.TheVariants.{Done}
 use Rattle.sync_model.specs.declared.item.Item.{Item}
@@ -31,9 +34,11 @@ use Rattle.run_record.specs.Calls.{call_at, call_on, SpellsCall}
 use Rattle.run_record.specs.Explains.{IsRecordOf}
 use Rattle.run_record.specs.MapKind.{map_call, range_call}
 use Rattle.run_record.specs.Objects.{contents_of}
-use Rattle.run_record.specs.Parts.{Places}
+use Rattle.run_record.specs.Parts.{Places, with_outcome}
 use Rattle.run_record.specs.Record.{Record, list_of, calls_of, shared_in}
+use Rattle.run_record.specs.Tests.{holds, if_equal_call}
 use Rattle.run_laws.proofs.DoneLines.{shared_append}
+use Rattle.run_laws.proofs.LinesOneWay.{reply_in}
 
 -- a call by its object's kind and its operation
 pub spelt_on : (plan : Plan) (worker before : ℕ) (object : ObjectLine) (call : Call) (kind : ObjectKind) (operation : Operation) (items : List Made) (answer : CallAnswer (Reply ℕ))
@@ -91,6 +96,13 @@ module _ (plan : Plan) (r : Record) (lawful : IsRecordOf plan r) (worker : ℕ) 
       let one = placed (calls.Atomic a of) (answers.Atomic reply) places in
       let right = one.3 in
       (one.0, one.1, one.2, (cc))
+
+  pub test_replies : (a : ℕ) (value : Number) (answer : Reply ℕ) → if_equal_call a value items (Done (Ok answer))
+      → (x : Item) × (items ≡ Shared x ∷ []) × (x.call ≡ calls.Atomic a Load) × (answer ≡ replies.Atomic (Compared (is_same (number_at (there x) a) value)))
+  test_replies a value answer (met, (got, (reply, places, is_got), is_met), is) =
+      let one = atomic_replies a Load (replies.Atomic reply) (reply, places, refl) in
+      let told : Bool → Reply ℕ = λ found. replies.Atomic (Compared found) in
+      (one.0, one.1, one.2, ap (reply_in answer) (is ∙ ap (with_outcome told) (is_met ∙ ap (with_outcome (holds value)) is_got)) ∙ ap (λ (r : Reply ℕ). told (holds value r)) one.3)
 
 pub range_sorts : (keys : List (List ℕ)) (m begin : ℕ) (items : List Made) (pairs : List (ℕ × ℕ)) → range_call keys m begin items (Done (Ok (replies.Pairs pairs)))
     → IsSortedByKey (λ pair. key_name keys pair.0) (slice_cmp nat_cmp) pairs

@@ -1,5 +1,5 @@
 -- What makes a small record one that explains a run: of two workers whose journals' entries know of no call on a map or an atomic.
-use Rattle.std.proofs.Common.{◌≡◌, ℕ, zero, suc, ◌+◌, ◌<◌, ◌≤◌, ◌==◌, Bool, true, false, cond, List, [], ◌∷◌, length, take, Option, Some, slice_get, slice_index, refl, sym, ap, ◌∙◌, subst, arith}
+use Rattle.std.proofs.Common.{◌≡◌, ◌↔◌, ℕ, zero, suc, ◌+◌, ◌<◌, ◌≤◌, ◌==◌, Bool, true, false, cond, List, [], ◌∷◌, length, take, Option, Some, slice_get, slice_index, refl, sym, ap, ◌∙◌, subst, arith}
 use Rattle.std.specs.Prelude.{nat_lt, unwrap_or, get_or, All}
 use Rattle.std.specs.List.{AllByRecursion}
 use Rattle.std.proofs.lemmas.Bool.{false≢true, eqb-true, eqb-false, ltb-true, ltb-false}
@@ -10,6 +10,8 @@ use Rattle.sync_model.specs.Front.{AtLeast}
 use Rattle.sync_model.specs.Journal.{by, KeepsEdges}
 use Rattle.sync_model.specs.SharedCalls.{Lawful}
 use Rattle.sync_model.specs.SharedHistory.{Contents, marked_in}
+use Rattle.script_calls.specs.declared.outcome.Outcome.{Outcome}
+use Rattle.script_calls.specs.Runs.{have_tests}
 use Rattle.workload.specs.declared.object.ObjectKind.TheVariants as kinds
 use Rattle.workload.specs.declared.object.ObjectLine.{ObjectLine}
 use Rattle.workload.specs.Plan.{Plan}
@@ -17,12 +19,17 @@ use Rattle.workload.specs.Puts.{puts_at}
 use Rattle.run_record.specs.declared.made.Made.{Made}
 use Rattle.run_record.specs.declared.made.Made.TheVariants.{Shared, Entered}
 use Rattle.run_record.specs.Calls.{IsJournalOf}
-use Rattle.run_record.specs.Explains.{KeepsFronts, IsRecordOf}
+use Rattle.run_record.specs.Explains.{KeepsFronts, IsRecordOf, AreLines}
 use Rattle.run_record.specs.Lines.{SpeltCall, Line, whole, AreSpelt, IsLineOf}
 use Rattle.run_record.specs.Objects.{contents_of, first_part, object_count, is_pool}
 use Rattle.run_record.specs.PoolKind.{IsPartJournal}
 use Rattle.run_record.specs.Record.{Record, ObjectEntry, object_number, journal_of, list_of, calls_of, shared_in, entries_in, front_of}
+use Rattle.run_record.specs.Runs.{SpellScripts}
 use Rattle.run_laws.specs.Examples.{none_known, record_of}
+
+-- the lines of a workload without tests are those of its scripts
+abbrev pub ByScript : Type 0
+ByScript = (plan : Plan) (r : Record) (outcome : Outcome) (lines : List Line) → have_tests plan.scripts ≡ false → AreLines plan r outcome lines ↔ SpellScripts plan r outcome lines
 
 module _ {A : Type 0} where
   -- what holds of each element, one after the other, holds of that at any place

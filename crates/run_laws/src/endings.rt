@@ -1,17 +1,28 @@
 //! How the workers of a run end. Each law is the contract of a function that does nothing.
-ghost use Rattle.std.specs.Prelude.{◌≡◌, ◌⊎◌, ℕ, ◌<◌, [], length, get_or, Some, slice_get};
+ghost use Rattle.std.specs.Prelude.{◌≡◌, ◌≢◌, ◌⊎◌, ℕ, ◌<◌, false, [], length, get_or, Some, slice_get};
 ghost use Rattle.script_calls.specs.Outcome.{left_by};
+ghost use Rattle.script_calls.specs.Runs.{have_tests, left_of};
 ghost use Rattle.workload.specs.Plan.{Plan};
 ghost use Rattle.run_record.specs.Explains.{Explains};
 ghost use Rattle.run_record.specs.Lines.{Line, misused, halted};
 ghost use Rattle.run_record.specs.Record.{Record};
 
+use run_record::laws::runs::{
+    replies_tell_which_calls_were_made, scripts_without_tests_are_spelt_call_by_call,
+};
 use script_calls::Outcome;
 use sync_types::Misuse;
 
-/// A worker that doesn't reply to each call of its script has met a misuse, or a halt: it didn't stop by itself.
+/// A worker of whose script something is left has met a misuse, or a halt: it didn't stop by itself. Where no call may pass others
+/// over, that is so of each that has fewer replies than its script has calls.
 pub fn each_worker_has_ended()
-    ensures { (plan : Plan) (outcome : Outcome) (r : Record) (explains : Explains plan outcome r) (worker : ℕ) (line : Line)
+    ensures left { (plan : Plan) (outcome : Outcome) (r : Record) (explains : Explains plan outcome r) (worker : ℕ) (line : Line)
+        → slice_get explains.lines worker ≡ Some line → left_of (get_or plan.scripts worker []) (get_or (left_by outcome).replies worker []) ≢ []
+        → (misuse : Misuse) × ((line.ending ≡ misused misuse) ⊎ (line.ending ≡ halted misuse)) }
+    ensures fewer { (plan : Plan) (outcome : Outcome) (r : Record) → have_tests plan.scripts ≡ false → (explains : Explains plan outcome r) (worker : ℕ) (line : Line)
         → slice_get explains.lines worker ≡ Some line → length (get_or (left_by outcome).replies worker []) < length (get_or plan.scripts worker [])
         → (misuse : Misuse) × ((line.ending ≡ misused misuse) ⊎ (line.ending ≡ halted misuse)) }
-{}
+{
+    replies_tell_which_calls_were_made();
+    scripts_without_tests_are_spelt_call_by_call();
+}

@@ -11,53 +11,68 @@ ghost use Rattle.run_laws.specs.ExamplesPool as pool;
 ghost use Rattle.run_laws.specs.ExamplesRwMutex as rw_mutex;
 ghost use Rattle.run_laws.specs.ExamplesWaitGroup as wait_group;
 
+use run_record::laws::runs::scripts_without_tests_are_spelt_call_by_call;
 use script_calls::Outcome;
 
 /// A load from a map that finds the value that was stored is explained. One that finds a value which nobody stored isn't.
 pub fn no_value_is_found_that_nobody_stored()
     ensures explained { Explains map.plan (map.outcome 5) (map.found 5) }
     ensures refused { (outcome : Outcome) → Explains map.plan outcome (map.found 7) → ⊥ }
-{}
+{
+    scripts_without_tests_are_spelt_call_by_call();
+}
 
 /// A mutex that worker 1 locks behind worker 0's unlock is explained. One that both hold isn't: worker 1's lock was answered before
 /// the unlock.
 pub fn a_mutex_is_not_held_by_two()
     ensures explained { Explains mutex.plan mutex.outcome mutex.one_after_the_other }
     ensures refused { (outcome : Outcome) → Explains mutex.plan outcome mutex.held_by_two → ⊥ }
-{}
+{
+    scripts_without_tests_are_spelt_call_by_call();
+}
 
 /// A writer who comes behind a reader's unlock is explained. One that has the lock before it, beside the reader, isn't.
 pub fn a_writer_is_not_beside_a_reader()
     ensures explained { Explains rw_mutex.plan rw_mutex.outcome rw_mutex.one_after_the_other }
     ensures refused { (outcome : Outcome) → Explains rw_mutex.plan outcome rw_mutex.beside_a_reader → ⊥ }
-{}
+{
+    scripts_without_tests_are_spelt_call_by_call();
+}
 
 /// A writer that waits behind a reader, and leaves behind its unlock, is explained: its lock is these two events. One that leaves before
 /// that unlock isn't.
 pub fn a_writer_leaves_behind_the_last_reader()
     ensures explained { Explains rw_mutex.plan rw_mutex.outcome rw_mutex.granted }
     ensures refused { (outcome : Outcome) → Explains rw_mutex.plan outcome rw_mutex.left_too_early → ⊥ }
-{}
+{
+    scripts_without_tests_are_spelt_call_by_call();
+}
 
 /// A wait on a wait group that returns behind the `done` which brings its counter to 0 is explained. One that returns before it, while
 /// the counter is 1, isn't.
 pub fn a_group_is_not_left_at_one()
     ensures explained { Explains wait_group.plan wait_group.outcome wait_group.returns_at_zero }
     ensures refused { (outcome : Outcome) → Explains wait_group.plan outcome wait_group.returns_at_one → ⊥ }
-{}
+{
+    scripts_without_tests_are_spelt_call_by_call();
+}
 
 /// A wait on a cond that returns behind a signal which found it waiting is explained. It isn't where the signal came before, and so
 /// notified nobody.
 pub fn a_signal_before_the_wait_notifies_nobody()
     ensures explained { Explains cond.plan cond.outcome cond.notified }
     ensures refused { (outcome : Outcome) → Explains cond.plan outcome cond.notified_too_early → ⊥ }
-{}
+{
+    scripts_without_tests_are_spelt_call_by_call();
+}
 
 /// A once whose function one of two callers runs is explained. One whose function both run isn't, whatever it comes to.
 pub fn a_once_is_not_run_twice()
     ensures explained { Explains once.plan once.outcome once.ran_once }
     ensures refused { (outcome : Outcome) → Explains once.plan outcome once.ran_twice → ⊥ }
-{}
+{
+    scripts_without_tests_are_spelt_call_by_call();
+}
 
 /// A function made by `OnceFunc` or `OnceValue` that one of two callers runs is explained. One that both run isn't, though both reply the
 /// same.
@@ -66,10 +81,14 @@ pub fn a_function_is_not_run_twice()
     ensures value_refused { (outcome : Outcome) → Explains once_value.plan outcome once_value.ran_twice → ⊥ }
     ensures func_explained { Explains once_func.plan once_func.outcome once_func.ran_once }
     ensures func_refused { (outcome : Outcome) → Explains once_func.plan outcome once_func.ran_twice → ⊥ }
-{}
+{
+    scripts_without_tests_are_spelt_call_by_call();
+}
 
 /// A get from a pool that replies the item that was put is explained. One that replies an item that nobody put isn't.
 pub fn no_item_is_got_that_nobody_put()
     ensures explained { Explains pool.plan (pool.outcome 5) (pool.got 5) }
     ensures refused { (outcome : Outcome) → Explains pool.plan outcome (pool.got 6) → ⊥ }
-{}
+{
+    scripts_without_tests_are_spelt_call_by_call();
+}

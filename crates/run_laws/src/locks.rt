@@ -2,6 +2,7 @@
 ghost use Rattle.std.specs.Prelude.{◌≡◌, ◌≢◌, ℕ, ◌+◌, ◌==◌, true, false, List, ◌∷◌, ◌++◌, count_by};
 ghost use Rattle.std.specs.List.{list_any};
 ghost use Rattle.script_calls.specs.declared.call.Call.{Call};
+ghost use Rattle.script_calls.specs.Runs.{have_tests};
 ghost use Rattle.workload.specs.Plan.{Plan};
 ghost use Rattle.run_record.specs.Explains.{Explains};
 ghost use Rattle.run_record.specs.Record.{Record};
@@ -9,6 +10,7 @@ ghost use Rattle.run_laws.specs.Locks.{keeps_lock, locks_at, unlocks_at, KeepsIt
 
 use mutex_core::laws::validity;
 use run_record::laws::endings::a_run_is_done_unless_it_was_misused;
+use run_record::laws::runs::scripts_without_tests_are_spelt_call_by_call;
 use script_calls::{Operation, Outcome, Report};
 use sync_types::MutexCall;
 
@@ -29,13 +31,14 @@ pub fn an_unlock_stands_behind_its_lock()
         → keeps_lock place false (first ∷ (between ++ last ∷ later)) ≡ keeps_lock place false later }
 {}
 
-/// A workload whose workers keep to their locks is never misused. A mutex is locked while a worker holds it, and
+/// A workload whose workers keep to their locks, and make each call of their scripts, is never misused. A mutex is locked while a worker holds it, and
 /// that worker alone unlocks it then, so no unlock finds it unlocked. So each run of it that returns is Done, whatever its
 /// interleaving.
 pub fn an_orderly_workload_is_never_misused()
     ensures { (plan : Plan) (outcome : Outcome) (r : Record)
-        → KeepsItsLocks plan → Explains plan outcome r → (left : Report) × (outcome ≡ Outcome.Done left) }
+        → KeepsItsLocks plan → have_tests plan.scripts ≡ false → Explains plan outcome r → (left : Report) × (outcome ≡ Outcome.Done left) }
 {
     validity();
+    scripts_without_tests_are_spelt_call_by_call();
     a_run_is_done_unless_it_was_misused();
 }

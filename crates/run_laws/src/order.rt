@@ -13,6 +13,7 @@ ghost use Rattle.run_laws.specs.Order.{EventOf, First, IsSame, InJournal, InList
 
 use run_record::Made;
 use run_record::laws::returns::what_a_wait_group_call_has_done;
+use run_record::laws::runs::scripts_without_tests_are_spelt_call_by_call;
 use script_calls::{Outcome, Report};
 use wait_cores::{GroupEvent, GroupReply};
 use workload::{ObjectKind, ObjectLine};
@@ -53,6 +54,7 @@ pub fn what_was_waited_for_happened_before()
 pub fn a_circle_of_waits_is_never_done()
     ensures { (r : Record) (left : Report) → InOneOrder r → Explains circle.plan (Outcome.Done left) r → ⊥ }
 {
+    scripts_without_tests_are_spelt_call_by_call();
     what_a_wait_group_call_has_done();
     what_was_waited_for_happened_before();
 }
@@ -67,4 +69,5 @@ pub fn a_record_in_no_order_explains_a_circle()
     ensures in_no_order { (wait_0 done_0 wait_1 done_1 : ℕ) → InOneOrder (circle.in_a_circle wait_0 done_0 wait_1 done_1) → ⊥ }
 {
     a_circle_of_waits_is_never_done();
+    scripts_without_tests_are_spelt_call_by_call();
 }

@@ -2,7 +2,10 @@
 use Rattle.std.proofs.Common.{◌≡◌, ℕ, ◌+◌, ℤ, List, [], ◌∷◌, Option, Some, None, slice_get, refl}
 use Rattle.std.specs.List.{range_with_len}
 use Rattle.sync_types.specs.declared.atomic_object.AtomicCall.{AtomicCall}
+use Rattle.sync_types.specs.declared.atomic_object.AtomicCall.TheVariants.{Load}
+use Rattle.sync_types.specs.declared.atomic_object.AtomicReply.TheVariants.{Compared}
 use Rattle.script_calls.specs.declared.call.Call.{Call}
+use Rattle.script_calls.specs.declared.call.ComposedCall.TheVariants.{IfEqual}
 use Rattle.script_calls.specs.declared.call.Operation.{Operation}
 use Rattle.script_calls.specs.declared.call.Operation.TheVariants as operations
 use Rattle.script_calls.specs.declared.call.Reply.{Reply}
@@ -52,6 +55,7 @@ use Rattle.run_record.specs.OnceKind.{goes_on_once, once_part, do_call, func_cal
 use Rattle.run_record.specs.Parts.{Part, returns, never, and_then, read_as, stages}
 use Rattle.run_record.specs.RwMutexKind.{rw_part, write_part}
 use Rattle.run_record.specs.PoolKind.{pool_part, pool_call, part_of, found_by, found_or, looks_of, stage_of, swept_by}
+use Rattle.run_record.specs.Tests as test
 
 -- it holds of each part, and goes on from parts to what they are put together to; of calls on maps nothing is said
 pub record HoldsOfParts (Q : (O : Type 0) → Part O → Type 0) : Type 1 where
@@ -140,6 +144,7 @@ module _ (Q : (O : Type 0) → Part O → Type 0) (holds : HoldsOfParts Q) where
     of_call_on place kinds.Map (operations.Map call) on_map = on_map _ call refl
     of_call_on place kinds.Map operations.Range on_map = holds.range _ _ before
     of_call_on place (kinds.Atomic type) (operations.Atomic call) on_map = holds.atomic _ call
+    of_call_on place (kinds.Atomic type) (operations.Composed (IfEqual value passes)) on_map = holds.read _ _ (λ met. replies.Atomic (Compared met)) _ (holds.read _ _ (test.holds value) _ (holds.atomic _ Load))
     of_call_on place kinds.Mutex (operations.Mutex call) on_map = holds.read _ _ replies.Lock _ (holds.mutex _ _)
     of_call_on place kinds.RwMutex (operations.RwMutex call) on_map = holds.read _ _ replies.Lock _ (of_rw_part _ call)
     of_call_on place (kinds.Cond mutex) (operations.Cond call) on_map = of_cond_call _ _ call

@@ -26,6 +26,7 @@ use Rattle.run_record.specs.Lines.{Line, whole, IsLineOf}
 use Rattle.run_record.specs.Objects.{contents_of, first_part}
 use Rattle.run_record.specs.PoolKind.{IsPartJournal}
 use Rattle.run_record.specs.Record.{object_number, journal_of, list_of, calls_of, shared_in, entries_in, front_of}
+use Rattle.run_record.specs.Runs.{SpellScripts}
 
 -- there are two calls on maps and atomics
 two_calls : (P : ℕ → ℕ → Item → Type 0) → P 0 0 store_item → P 0 1 load_item → (c j : ℕ) (x : Item) → slice_get (calls_of example c) j ≡ Some x → P c j x
@@ -155,7 +156,7 @@ lawful = record {
   };
 }
 
-abbrev line : Line
+abbrev pub line : Line
 line = record {
   spelt = record { call = store_call; items = Shared store_item ∷ []; reply = done } ∷ record { call = load_call; items = Shared load_item ∷ []; reply = held 5 } ∷ [];
   last = [];
@@ -171,14 +172,14 @@ is_line = record {
   halts = refl;
 }
 
-lines : AreLines plan example (replies_by done (held 5)) (line ∷ [])
+lines : SpellScripts plan example (replies_by done (held 5)) (line ∷ [])
 lines = record { scripts = refl; lists = refl; replies = refl; each = each } where
   each : (worker : ℕ) (l : Line) → slice_get (line ∷ []) worker ≡ Some l → IsLineOf plan worker l
   each zero l at = subst (IsLineOf plan 0) (ap (λ (o : Option Line). unwrap_or o l) at) is_line
   each (suc worker) l at = absurd (none-some l at)
 
-pub explained : Explains plan (replies_by done (held 5)) example
-explained = record { lines = line ∷ []; are = lines; lawful = lawful; agrees = (ended, refl) } where
+pub explained : (SpellScripts plan example (replies_by done (held 5)) (line ∷ []) → AreLines plan example (replies_by done (held 5)) (line ∷ [])) → Explains plan (replies_by done (held 5)) example
+explained are_lines = record { lines = line ∷ []; are = are_lines lines; lawful = lawful; agrees = (ended, refl) } where
   ended : All (λ l. l.ending ≡ whole) (line ∷ [])
   ended zero d within = refl
   ended (suc k) d within = absurd (omega (arith, within))

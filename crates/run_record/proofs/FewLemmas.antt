@@ -6,10 +6,12 @@ use Rattle.std.proofs.lemmas.Bool.{le-leb}
 use Rattle.std.proofs.lemmas.List.Sorted.{length_permutation}
 use Rattle.sync_model.specs.declared.answer.Answer.TheVariants.{Done, Halted}
 use Rattle.script_calls.specs.declared.call.Call.{Call}
+use Rattle.script_calls.specs.declared.call.ComposedCall.TheVariants.{IfEqual}
 use Rattle.script_calls.specs.declared.call.Operation.{Operation}
 use Rattle.script_calls.specs.declared.call.Operation.TheVariants as operations
 use Rattle.script_calls.specs.declared.call.Reply.{Reply}
 use Rattle.script_calls.specs.declared.call.Reply.TheVariants as replies
+use Rattle.sync_types.specs.declared.atomic_object.AtomicReply.TheVariants.{Compared}
 use Rattle.sync_types.specs.declared.once_call.DoReply.TheVariants as do_replies
 use Rattle.sync_types.specs.declared.pool_call.PoolCall.{PoolCall}
 use Rattle.sync_types.specs.declared.pool_call.PoolCall.TheVariants as pool_calls
@@ -115,6 +117,7 @@ module _ (most : ℕ) where
         let low = ranged _ shown places in
         subst Few (sym is) (le-leb (length pairs) most (omega (arith, same, low)))
     few_on place (kinds.Atomic type) (operations.Atomic call) (given, places, is) = subst Few (sym is) refl
+    few_on place (kinds.Atomic type) (operations.Composed (IfEqual value passes)) (given, made, is) = subst Few (sym is) (few_given (λ met. replies.Atomic (Compared met)) (λ met. refl) given)
     few_on place kinds.Mutex (operations.Mutex call) (given, made, is) = subst Few (sym is) (few_given replies.Lock (λ reply. refl) given)
     few_on place kinds.RwMutex (operations.RwMutex call) (given, made, is) = subst Few (sym is) (few_given replies.Lock (λ reply. refl) given)
     few_on place (kinds.Cond mutex) (operations.Cond call) spelt = few_cond _ _ call items answer spelt

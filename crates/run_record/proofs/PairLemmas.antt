@@ -24,7 +24,7 @@ use Rattle.run_record.specs.declared.made.Made.TheVariants.{Shared, Entered}
 use Rattle.run_record.specs.Calls.{SpellsCall}
 use Rattle.run_record.specs.Explains.{AreLines}
 use Rattle.run_record.specs.Limits.{HasShown}
-use Rattle.run_record.specs.Lines.{SpeltCall, LineEnd, whole, misused, halted, unfinished, Line, script_of, items_of, replies_of, IsHalt, AreHalts, AreSpelt, EndsBy, IsLineOf}
+use Rattle.run_record.specs.Lines.{SpeltCall, LineEnd, whole, misused, halted, unfinished, Line, items_of, replies_of, IsHalt, AreHalts, AreSpelt, EndsBy, IsLineOf}
 use Rattle.run_record.specs.MapKind.{cursor_showing}
 use Rattle.run_record.specs.Parts.{Places}
 use Rattle.run_record.specs.Record.{Record, list_of, shared_in, calls_of}
@@ -32,12 +32,9 @@ use Rattle.run_record.proofs.AskLemmas.{Asks, by_call}
 use Rattle.run_record.proofs.FewLemmas.{few_call}
 use Rattle.run_record.proofs.Having.{Each, each_both, each_left, get_at}
 use Rattle.run_record.proofs.Limits.{KnowsKey, item_of}
+use Rattle.run_record.proofs.RunLines.{each_along}
 
 module _ {A : Type 0} (P : A → Type 0) where
-  each_right : (xs ys : List A) → Each P (xs ++ ys) → Each P ys
-  each_right [] ys each = each
-  each_right (x ∷ xs) ys each = each_right xs ys each.1
-
   each_from : (xs : List A) → ((i : ℕ) (x : A) → slice_get xs i ≡ Some x → P x) → Each P xs
   each_from [] at = tt
   each_from (x ∷ xs) at = (at 0 x refl, each_from xs (λ i y found. at (suc i) y found))
@@ -92,11 +89,11 @@ module _ (plan : Plan) (worker : ℕ) where
   last_known before unfinished [] last named ends = absurd ends
   last_known before unfinished (call ∷ rest) last named (later, answer, spelt) = each_left Known last later (known_call before call (last ++ later) answer named.0 spelt)
 
-  line_known : (line : Line) → IsLineOf plan worker line → Each (IsNamed plan) (script_of line) → Each Known (items_of line)
-  line_known line is named = each_both Known (flat_map (λ s. s.items) line.spelt) (line.last ++ line.halts)
-      (spelt_known 0 line.spelt (each_left (IsNamed plan) (map (λ s. s.call) line.spelt) line.rest named) is.calls)
+  line_known : (line : Line) → IsLineOf plan worker line → Each (IsNamed plan) (map (λ s. s.call) line.spelt) → Each (IsNamed plan) line.rest → Each Known (items_of line)
+  line_known line is named left = each_both Known (flat_map (λ s. s.items) line.spelt) (line.last ++ line.halts)
+      (spelt_known 0 line.spelt named is.calls)
       (each_both Known line.last line.halts
-      (last_known (length (shared_in (flat_map (λ s. s.items) line.spelt))) line.ending line.rest line.last (each_right (IsNamed plan) (map (λ s. s.call) line.spelt) line.rest named) is.ends)
+      (last_known (length (shared_in (flat_map (λ s. s.items) line.spelt))) line.ending line.rest line.last left is.ends)
       (behind_known line.ending line.halts is.halts))
 
   shared_known : (list : List Made) → Each Known list → Each (λ x. KnowsKey plan x.call) (shared_in list)
@@ -141,8 +138,8 @@ module _ (plan : Plan) (r : Record) (outcome : Outcome) (lines : List Line) (are
   all_known worker = All-from_recursion (λ x. KnowsKey plan x.call) (calls_of r worker) (by_recursion (λ x. KnowsKey plan x.call) (calls_of r worker) (shared_known plan worker (list_of r worker) (of_line (slice_get_cases lines worker).1))) where
     of_line : ((line : Line) × (worker < length lines) × (slice_get lines worker ≡ Some line) × (get_or lines worker line ≡ line)) ⊎ ((length lines ≤ worker) × (slice_get lines worker ≡ None)) → Each (Asks (KnowsKey plan)) (list_of r worker)
     of_line (inl (line, low, at, read)) =
-        let script : script_of line ≡ get_or plan.scripts worker [] = sym (get_at script_of [] lines worker line at) ∙ ap (λ (l : List (List Call)). get_or l worker []) are.scripts in
-        subst (Each (Asks (KnowsKey plan))) (sym (line_list worker line at)) (line_known plan worker line (are.each worker line at) (each_from (IsNamed plan) (script_of line) (λ i call found. named worker i call (ap (λ (l : List Call). slice_get l i) (sym script) ∙ found))))
+        let calls = each_along (IsNamed plan) line.spelt (get_or plan.scripts worker []) line.rest (each_from (IsNamed plan) (get_or plan.scripts worker []) (named worker)) (are.runs worker line at) in
+        subst (Each (Asks (KnowsKey plan))) (sym (line_list worker line at)) (line_known plan worker line (are.each worker line at) calls.0 calls.1)
     of_line (inr (past, none)) =
         let long : length r.lists ≤ worker = subst (λ (l : List (List Made)). length l ≤ worker) are.lists (subst (λ n. n ≤ worker) (sym (length-map lines items_of)) past) in
         subst (Each (Asks (KnowsKey plan))) (sym (get_or_past r.lists worker [] long)) tt

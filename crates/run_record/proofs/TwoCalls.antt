@@ -9,6 +9,7 @@ use Rattle.sync_types.specs.declared.atomic_object.Number.TheVariants.{Int64}
 use Rattle.script_calls.specs.declared.call.Call.{Call}
 use Rattle.script_calls.specs.declared.call.Reply.{Reply}
 use Rattle.script_calls.specs.declared.call.Reply.TheVariants as replies
+use Rattle.script_calls.specs.declared.outcome.Outcome.{Outcome}
 use Rattle.sync_model.specs.declared.item.Item.{Item}
 use Rattle.sync_model.specs.declared.item.SharedCall.{SharedCall}
 use Rattle.sync_model.specs.declared.item.SharedCall.TheVariants as shared
@@ -19,7 +20,7 @@ use Rattle.run_record.specs.declared.made.Made.{Made}
 use Rattle.run_record.specs.declared.made.Made.TheVariants.{Shared}
 use Rattle.run_record.specs.Calls.{SpellsCall}
 use Rattle.run_record.specs.Example.{plan, store_call, load_call, replies_by}
-use Rattle.run_record.specs.Explains.{Explains}
+use Rattle.run_record.specs.Explains.{AreLines, Explains}
 use Rattle.run_record.specs.Lines.{SpeltCall, LineEnd, whole, Line, script_of, items_of, replies_of, AreHalts, AreSpelt, EndsBy, IsLineOf}
 use Rattle.run_record.specs.Parts.{Places}
 use Rattle.run_record.specs.Record.{Record, calls_of, shared_in}
@@ -71,9 +72,12 @@ reply_in other (Done (Ok reply)) = reply
 reply_in other (Done (Err misuse)) = other
 reply_in other (Halted misuse) = other
 
-module _ (first second : Reply ℕ) (r : Record) (explains : Explains plan (replies_by first second) r) where
+module _ (scripts_are : (outcome : Outcome) (r : Record) (lines : List Line) → AreLines plan r outcome lines → map script_of lines ≡ plan.scripts) (first second : Reply ℕ) (r : Record) (explains : Explains plan (replies_by first second) r) where
+  scripts : map script_of explains.lines ≡ plan.scripts
+  scripts = scripts_are (replies_by first second) r explains.lines explains.are
+
   line : (l : Line) × (explains.lines ≡ l ∷ [])
-  line = one_of explains.lines (sym (length_of script_of explains.lines) ∙ ap (λ (l : List (List Call)). length l) explains.are.scripts)
+  line = one_of explains.lines (sym (length_of script_of explains.lines) ∙ ap (λ (l : List (List Call)). length l) scripts)
 
   spelt : (a : SpeltCall) × (b : SpeltCall) × (line.0.spelt ≡ a ∷ b ∷ [])
   spelt = two_of line.0.spelt (sym (length_of (λ call. call.reply) line.0.spelt) ∙ ap (λ (l : List (List (Reply ℕ))). length (get_or l 0 [])) (ap (map replies_of) (sym line.1) ∙ explains.are.replies))
@@ -86,7 +90,7 @@ module _ (first second : Reply ℕ) (r : Record) (explains : Explains plan (repl
 
   calls_are : (spelt.0.call ≡ store_call) × (spelt.1.call ≡ load_call)
   calls_are =
-      let listed : script_of line.0 ≡ store_call ∷ load_call ∷ [] = ap (λ (l : List (List Call)). get_or l 0 []) (ap (map script_of) (sym line.1) ∙ explains.are.scripts) in
+      let listed : script_of line.0 ≡ store_call ∷ load_call ∷ [] = ap (λ (l : List (List Call)). get_or l 0 []) (ap (map script_of) (sym line.1) ∙ scripts) in
       let both : spelt.0.call ∷ spelt.1.call ∷ line.0.rest ≡ store_call ∷ load_call ∷ [] = ap (λ (l : List SpeltCall). map (λ call. call.call) l ++ line.0.rest) (sym spelt.2) ∙ listed in
       (ap (λ (l : List Call). get_or l 0 store_call) both, ap (λ (l : List Call). get_or l 1 store_call) both)
 

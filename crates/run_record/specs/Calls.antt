@@ -1,6 +1,7 @@
 -- Which items spell a call of a workload, and what it answers by them. A kind of object is a line here, and one in `IsJournalOf`.
 use Rattle.std.specs.Prelude.{◌≡◌, ℕ, List, [], Option, Some, None, slice_get}
 use Rattle.script_calls.specs.declared.call.Call.{Call}
+use Rattle.script_calls.specs.declared.call.ComposedCall.TheVariants.{IfEqual}
 use Rattle.script_calls.specs.declared.call.Operation.{Operation}
 use Rattle.script_calls.specs.declared.call.Operation.TheVariants as operations
 use Rattle.script_calls.specs.declared.call.Reply.{Reply}
@@ -19,6 +20,7 @@ use Rattle.run_record.specs.Parts.{Part, never}
 use Rattle.run_record.specs.PoolKind.{pool_call}
 use Rattle.run_record.specs.Record.{ObjectEntry, object_number}
 use Rattle.run_record.specs.RwMutexKind.{rw_mutex_call, IsRwMutexJournal}
+use Rattle.run_record.specs.Tests.{if_equal_call}
 use Rattle.run_record.specs.WaitGroupKind.{wait_group_call, IsWaitGroupJournal}
 
 -- a call on the object at a place, of a worker that has made so many calls on maps and atomics before. An object of another kind has no such call
@@ -26,6 +28,7 @@ abbrev pub call_on : Plan → (worker before place : ℕ) → ObjectKind → Ope
 call_on plan worker before place kinds.Map (operations.Map call) = map_call (keys_in plan.scripts) (map_number plan.objects place) call
 call_on plan worker before place kinds.Map operations.Range = range_call (keys_in plan.scripts) (map_number plan.objects place) before
 call_on plan worker before place (kinds.Atomic type) (operations.Atomic call) = atomic_call (atomic_number plan.objects place) call
+call_on plan worker before place (kinds.Atomic type) (operations.Composed (IfEqual value passes)) = if_equal_call (atomic_number plan.objects place) value
 call_on plan worker before place kinds.Mutex (operations.Mutex call) = mutex_call (object_number place) call
 call_on plan worker before place kinds.RwMutex (operations.RwMutex call) = rw_mutex_call (object_number place) call
 call_on plan worker before place (kinds.Cond mutex) (operations.Cond call) = cond_call (object_number place) (object_number mutex) call

@@ -1,10 +1,11 @@
 -- When a record explains the outcome of a run of a workload.
-use Rattle.std.specs.Prelude.{◌≡◌, ℕ, ◌+◌, ◌<◌, ◌≤◌, List, [], map, length, take, All, Some, slice_get, slice_index}
+use Rattle.std.specs.Prelude.{◌≡◌, ℕ, ◌+◌, ◌<◌, ◌≤◌, List, [], map, length, take, All, Some, slice_get, slice_index, get_or}
 use Rattle.script_calls.specs.declared.outcome.Outcome.{Outcome}
 use Rattle.script_calls.specs.declared.outcome.Outcome.TheVariants.{Done, Misused, Deadlocked}
 use Rattle.sync_model.specs.Front.{AtLeast}
 use Rattle.sync_model.specs.Journal.{by, halt_of}
 use Rattle.script_calls.specs.Outcome.{left_by}
+use Rattle.script_calls.specs.Runs.{RunsAlong}
 use Rattle.sync_model.specs.SharedCalls.{Lawful}
 use Rattle.sync_model.specs.SharedHistory.{contents_after}
 use Rattle.workload.specs.declared.object.ObjectKind.TheVariants.{Pool}
@@ -14,7 +15,7 @@ use Rattle.workload.specs.Puts.{puts_at}
 use Rattle.run_record.specs.declared.made.Made.{Made}
 use Rattle.run_record.specs.Calls.{IsJournalOf}
 use Rattle.run_record.specs.Journals.{IsStops}
-use Rattle.run_record.specs.Lines.{Line, LineEnd, whole, misused, halted, unfinished, script_of, items_of, replies_of, IsLineOf}
+use Rattle.run_record.specs.Lines.{Line, LineEnd, whole, misused, halted, unfinished, calls_made, items_of, replies_of, IsLineOf}
 use Rattle.run_record.specs.Objects.{contents_of, ends_in, first_part, object_count}
 use Rattle.run_record.specs.PoolKind.{IsPartJournal}
 use Rattle.run_record.specs.Record.{Record, stop, object_number, journal_of, list_of, shared_in, entries_in, calls_of, front_of}
@@ -38,9 +39,10 @@ pub record IsRecordOf (plan : Plan) (r : Record) : Type 0 where
   pub once : (worker object : ℕ) → entries_in object (list_of r worker) ≡ by worker (journal_of r object)
   pub fronts : KeepsFronts r
 
--- the lists are these lines, call by call: each spells the first part of its worker's script, and the replies are those of the calls that were completed
+-- the lists are these lines, call by call: each spells the first part of a run of its worker's script, and the replies are those of the calls that were completed
 pub record AreLines (plan : Plan) (r : Record) (outcome : Outcome) (lines : List Line) : Type 0 where
-  pub scripts : map script_of lines ≡ plan.scripts
+  pub count : length lines ≡ length plan.scripts
+  pub runs : (worker : ℕ) (line : Line) → slice_get lines worker ≡ Some line → RunsAlong (get_or plan.scripts worker []) (calls_made line) line.rest
   pub lists : map items_of lines ≡ r.lists
   pub replies : map replies_of lines ≡ (left_by outcome).replies
   pub each : (worker : ℕ) (line : Line) → slice_get lines worker ≡ Some line → IsLineOf plan worker line

@@ -20,6 +20,8 @@ pub mod PoolKind
 pub mod Ranges
 pub mod Record
 pub mod Returns
+pub mod Runs
 pub mod RwMutexKind
+pub mod Tests
 pub mod WaitGroupKind
 pub mod Waits

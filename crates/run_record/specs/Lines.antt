@@ -1,4 +1,4 @@
--- How a worker's list falls into the calls of its script.
+-- How a worker's list falls into the calls of a run of its script.
 use Rattle.std.specs.Prelude.{◌≡◌, ℕ, ◌+◌, List, [], ◌∷◌, ◌++◌, map, length, All, Contains, Ok, Err}
 use Rattle.std.specs.List.{flat_map}
 use Rattle.sync_model.specs.declared.answer.Answer.TheVariants.{Done, Halted}
@@ -35,6 +35,11 @@ pub record Line : Type 0 where
   pub rest : List Call  -- what is left of the script
   pub ending : LineEnd
 
+-- the completed calls, each with its reply
+abbrev pub calls_made : Line → List (Call × Reply ℕ)
+calls_made line = map (λ spelt. (spelt.call, spelt.reply)) line.spelt
+
+-- the completed calls and what is left; where no call of a script passes others over, the script
 abbrev pub script_of : Line → List Call
 script_of line = map (λ spelt. spelt.call) line.spelt ++ line.rest
 

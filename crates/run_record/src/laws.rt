@@ -8,6 +8,7 @@ pub mod numbers;
 pub mod objects;
 pub mod ranges;
 pub mod returns;
+pub mod runs;
 pub mod spelling;
 pub mod waits;
 pub mod writers;

@@ -1,5 +1,7 @@
 //! How a run ends. A misuse ends it by halts, and nothing else halts an object.
-ghost use Rattle.std.specs.Prelude.{◌≡◌, ◌≢◌, ℕ, List, [], ◌∷◌, map, length, All, Contains, Some, None, slice_get};
+ghost use Rattle.std.specs.Prelude.{◌≡◌, ◌≢◌, ℕ, false, List, [], ◌∷◌, map, length, All, Contains, Some, None, slice_get, get_or};
+ghost use Rattle.script_calls.specs.Outcome.{left_by};
+ghost use Rattle.script_calls.specs.Runs.{have_tests, left_of, made_of};
 ghost use Rattle.sync_model.specs.Journal.{by, halt_of};
 ghost use Rattle.workload.specs.Plan.{Plan};
 ghost use Rattle.run_record.specs.Explains.{AreLines, IsRecordOf, HasEnded, Explains};
@@ -7,6 +9,9 @@ ghost use Rattle.run_record.specs.Halts.{halted_numbers, halts_in, halts_made};
 ghost use Rattle.run_record.specs.Lines.{Line, whole, misused, HaltsStop, HaltsEach};
 ghost use Rattle.run_record.specs.Record.{Record, ObjectEntry, stop, journal_of, list_of};
 
+use crate::laws::runs::{
+    replies_tell_which_calls_were_made, scripts_without_tests_are_spelt_call_by_call,
+};
 use mutex_core::MutexCore;
 use pool_core::PoolCore;
 use protocols::laws::endings;
@@ -85,7 +90,16 @@ pub fn a_run_is_done_unless_it_was_misused()
     stop_says_how_a_run_ended();
 }
 
-/// A run that is done has answered each call of each script, once.
+/// A run that is done has answered each call that it made, once, and nothing is left of any script. Where no call may pass others
+/// over, these are all calls of all scripts.
 pub fn a_run_that_is_done_answers_each_call()
-    ensures { (plan : Plan) (r : Record) (left : Report) → Explains plan (Outcome.Done left) r → map length left.replies ≡ map length plan.scripts }
-{}
+    ensures left { (plan : Plan) (r : Record) (left : Report) (worker : ℕ) → Explains plan (Outcome.Done left) r
+        → left_of (get_or plan.scripts worker []) (get_or left.replies worker []) ≡ [] }
+    ensures made { (plan : Plan) (r : Record) (outcome : Outcome) (worker : ℕ) → Explains plan outcome r
+        → length (made_of (get_or plan.scripts worker []) (get_or (left_by outcome).replies worker [])) ≡ length (get_or (left_by outcome).replies worker []) }
+    ensures all { (plan : Plan) (r : Record) (left : Report) → have_tests plan.scripts ≡ false → Explains plan (Outcome.Done left) r
+        → map length left.replies ≡ map length plan.scripts }
+{
+    replies_tell_which_calls_were_made();
+    scripts_without_tests_are_spelt_call_by_call();
+}

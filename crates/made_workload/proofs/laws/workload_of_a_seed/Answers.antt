@@ -1,6 +1,7 @@
 use Rattle.std.proofs.Common.{refl}
 use Rattle.made_workload.specs.Generated.{generated_plan}
 use Rattle.made_workload.proofs.Readable.{script_at, script_calls, all_calls, readable}
+use Rattle.made_workload.proofs.RunRounds.{no_tests}
 use Rattle.made_workload.proofs.laws.workload_of_a_seed.Goals as goal
 
 pub returns-clause-workers : goal.returns-clause-workers
@@ -21,6 +22,9 @@ returns-clause-script c = script_calls
 pub returns-clause-calls : goal.returns-clause-calls
 unfolding generated_plan
 returns-clause-calls c = all_calls
+
+pub returns-clause-no_tests : goal.returns-clause-no_tests
+returns-clause-no_tests c = no_tests
 
 pub returns-clause-readable : goal.returns-clause-readable
 returns-clause-readable c = readable

@@ -4,7 +4,7 @@ use Rattle.run_cuts.proofs.MutexCut.{mutex_cuts}
 use Rattle.run_cuts.proofs.OnceCut.{do_cuts, func_cuts, value_cuts}
 use Rattle.run_cuts.proofs.PoolCut.{pool_cuts}
 use Rattle.run_cuts.proofs.RwMutexCut.{rw_mutex_cuts}
-use Rattle.run_cuts.proofs.SharedCut.{adds_cuts, atomic_cuts, map_cuts}
+use Rattle.run_cuts.proofs.SharedCut.{adds_cuts, atomic_cuts, if_equal_cuts, map_cuts}
 use Rattle.run_cuts.proofs.laws.calls_are_cut_as_they_are_spelt.Goals as goal
 
 pub returns-clause-mutex : goal.returns-clause-mutex
@@ -27,6 +27,9 @@ returns-clause-atomic c a call = atomic_cuts a call
 
 pub returns-clause-adds : goal.returns-clause-adds
 returns-clause-adds c a amount = adds_cuts a amount
+
+pub returns-clause-ifeq : goal.returns-clause-ifeq
+returns-clause-ifeq c a value = if_equal_cuts a value
 
 pub returns-clause-once : goal.returns-clause-once
 returns-clause-once c object a amount = do_cuts object a amount

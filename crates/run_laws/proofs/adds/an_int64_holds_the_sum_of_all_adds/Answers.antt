@@ -7,6 +7,7 @@ use Rattle.sync_types.specs.declared.atomic_object.AtomicKind.TheVariants as typ
 use Rattle.sync_types.specs.declared.atomic_object.Number.TheVariants.{Bool as Truth}
 use Rattle.sync_types.specs.declared.atomic_object.Number.{Number}
 use Rattle.script_calls.specs.declared.call.Call.{Call}
+use Rattle.script_calls.specs.declared.outcome.Outcome.TheVariants.{Done}
 use Rattle.sync_model.specs.declared.item.Item.{Item}
 use Rattle.sync_model.specs.declared.item.SharedEntry.{SharedEntry}
 use Rattle.sync_types.specs.declared.end.End.{End}
@@ -28,16 +29,17 @@ use Rattle.run_laws.proofs.PlainCalls.{list_all_at}
 use Rattle.run_laws.proofs.adds.an_int64_holds_the_sum_of_all_adds.Goals as goal
 
 pub returns-clause-holds : goal.returns-clause-holds
-returns-clause-holds c plan place object left r only at kind explains =
+returns-clause-holds c plan place object left r only no_tests at kind explains =
     let a = atomic_number plan.objects place in
     let start = contents_of plan in
     let lawful = explains.lawful.shared in
     let lines = explains.lines in
+    let script_lines : map script_of lines ≡ plan.scripts = ((c.scripts_without_tests_are_spelt_call_by_call.ensures plan r (Done left) lines no_tests).0 explains.are).scripts in
     let bits : Item → ℕ = λ x. shared_bits a x.call in
     let typed = type_at plan.objects place object types.Int64 at kind in
     let zeros : slice_get start.numbers a ≡ Some (zero_of types.Int64) = slice_get-map zero_of (flat_map (λ o. types_of o.kind) plan.objects) a ∙ ap (option_map zero_of) typed in
     let alike = λ (worker : ℕ) (line : Line) (is : slice_get lines worker ≡ Some line).
-    let script : slice_get plan.scripts worker ≡ Some (script_of line) = ap (λ (l : List (List Call)). slice_get l worker) (sym explains.are.scripts) ∙ (slice_get-map script_of lines worker ∙ ap (option_map script_of) is) in
+    let script : slice_get plan.scripts worker ≡ Some (script_of line) = ap (λ (l : List (List Call)). slice_get l worker) (sym script_lines) ∙ (slice_get-map script_of lines worker ∙ ap (option_map script_of) is) in
     let adds = list_all_at (list_all (λ (call : Call). cond (call.object == place) (is_add call.operation) true)) plan.scripts worker (script_of line) only.adds script in
     script_alike plan place object at kind only.plain worker 0 line.spelt (explains.are.each worker line is).calls (ap (list_all (λ (call : Call). cond (call.object == place) (is_add call.operation) true)) (sym (script_at plan r left explains worker line is)) ∙ adds) in
     let item_adds = λ (worker i : ℕ) (x : Item) (is : slice_get (calls_of r worker) i ≡ Some x).
@@ -59,15 +61,15 @@ returns-clause-holds c plan place object left r only at kind explains =
     let by_line = over_items (λ worker. sum_by bits (calls_of r worker)) (λ (line : Line). sum_by (call_bits place) (script_of line)) 0 lines
     (λ i line is. let e : 0 + i ≡ i = omega arith in ap (λ n. sum_by bits (calls_of r n)) e ∙ (ap (sum_by bits) (calls_at plan r left explains i line is) ∙ ((alike i line is).1 ∙ ap (sum_by (call_bits place)) (sym (script_at plan r left explains i line is))))) in
     let scripts : sum_by (λ (line : Line). sum_by (call_bits place) (script_of line)) lines ≡ sum_by (λ script. sum_by (call_bits place) script) plan.scripts =
-    sym (sum_by_mapped (λ (script : List Call). sum_by (call_bits place) script) script_of lines) ∙ ap (sum_by (λ (script : List Call). sum_by (call_bits place) script)) explains.are.scripts in
+    sym (sum_by_mapped (λ (script : List Call). sum_by (call_bits place) script) script_of lines) ∙ ap (sum_by (λ (script : List Call). sum_by (call_bits place) script)) script_lines in
     after ∙ (ap of_bits (let e : 0 + sum_by (λ (x : SharedEntry). shared_bits a x.call) r.history ≡ sum_by (λ (x : SharedEntry). shared_bits a x.call) r.history = omega arith in
     e ∙ (split ∙ (marked ∙ (by_line ∙ (scripts ∙ sym (scripts_bits place plan.scripts)))))) ∙ sym (all_bits (amounts_at place plan.scripts)))
 
 pub returns-clause-shown : goal.returns-clause-shown
-returns-clause-shown c plan place object left r only at kind explains =
+returns-clause-shown c plan place object left r only no_tests at kind explains =
     let a = atomic_number plan.objects place in
     let contents = contents_after (contents_of plan) r.history in
-    let holds = returns-clause-holds c plan place object left r only at kind explains in
+    let holds = returns-clause-holds c plan place object left r only no_tests at kind explains in
     let typed = type_at plan.objects place object types.Int64 at kind in
     let within : a < length contents.numbers = omega (arith, (as_many_after r.history (contents_of plan)).1, slice_get_within (contents_of plan).numbers a (zero_of types.Int64) (slice_get-map zero_of (flat_map (λ o. types_of o.kind) plan.objects) a ∙ ap (option_map zero_of) typed)) in
     let number = slice_get-get_or contents.numbers a (Truth false) within ∙ ap (λ (n : Number). Some n) holds in

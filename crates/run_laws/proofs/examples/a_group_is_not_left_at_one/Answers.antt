@@ -2,7 +2,7 @@ use Rattle.run_laws.proofs.ExplainedWaitGroup as example
 use Rattle.run_laws.proofs.examples.a_group_is_not_left_at_one.Goals as goal
 
 pub returns-clause-explained : goal.returns-clause-explained
-returns-clause-explained c = example.explained
+returns-clause-explained c = example.explained c.scripts_without_tests_are_spelt_call_by_call.ensures
 
 pub returns-clause-refused : goal.returns-clause-refused
 returns-clause-refused c = example.refused

@@ -2,7 +2,7 @@ use Rattle.run_laws.proofs.ExplainedPool as example
 use Rattle.run_laws.proofs.examples.no_item_is_got_that_nobody_put.Goals as goal
 
 pub returns-clause-explained : goal.returns-clause-explained
-returns-clause-explained c = example.explained
+returns-clause-explained c = example.explained c.scripts_without_tests_are_spelt_call_by_call.ensures
 
 pub returns-clause-refused : goal.returns-clause-refused
 returns-clause-refused c = example.refused

@@ -1,5 +1,10 @@
+use Rattle.std.proofs.Common.{refl}
+use Rattle.script_calls.specs.declared.outcome.Outcome.TheVariants.{Done}
+use Rattle.run_laws.specs.ExamplesCircle.{plan}
 use Rattle.run_laws.proofs.CircleOfWaits.{never_done}
 use Rattle.run_laws.proofs.order.a_circle_of_waits_is_never_done.Goals as goal
 
 pub returns : goal.returns
-returns c r left order explains = never_done c.what_a_wait_group_call_has_done.ensures c.what_was_waited_for_happened_before.ensures.done r left order explains
+returns c r left order explains =
+    never_done c.what_a_wait_group_call_has_done.ensures c.what_was_waited_for_happened_before.ensures.done r left order explains
+    ((c.scripts_without_tests_are_spelt_call_by_call.ensures plan r (Done left) explains.lines refl).0 explains.are).scripts

@@ -41,7 +41,7 @@ load_at r first second t = ap (λ (xs : List Item). slice_get xs 1) t.made
 
 pub returns-clause-exchanged : goal.returns-clause-exchanged
 returns-clause-exchanged c r explains =
-    let t = two (held 5) done r explains in
+    let t = two (λ outcome r lines are. ((c.scripts_without_tests_are_spelt_call_by_call.ensures plan r outcome lines refl).0 are).scripts) (held 5) done r explains in
     let sound = explains.lawful.shared.sound 0 0 t.store (store_at r (held 5) done t) in
     let right : t.store.reply ≡ shared_replies.Atomic answers.Done = subst (λ (call : SharedCall). IsReply call t.store.reply (contents_at (contents_of plan) r.history t.store.place)) t.stores sound.reply in
     let n : 5 ≡ 7 = ap shown_by t.first_is ∙ (ap shown_in (sym t.store_reply) ∙ ap shown_in right) in
@@ -65,7 +65,7 @@ alone (x ∷ (y ∷ history)) place e at all = absurd (omega (arith, all 0 x ref
 
 pub returns-clause-opening_state : goal.returns-clause-opening_state
 returns-clause-opening_state c r explains =
-    let t = two done (held 0) r explains in
+    let t = two (λ outcome r lines are. ((c.scripts_without_tests_are_spelt_call_by_call.ensures plan r outcome lines refl).0 are).scripts) done (held 0) r explains in
     let start = contents_of plan in
     let law = explains.lawful.shared in
     let at_store = store_at r done (held 0) t in

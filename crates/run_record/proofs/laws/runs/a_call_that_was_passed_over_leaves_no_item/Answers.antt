@@ -1,0 +1,72 @@
+use Rattle.std.proofs.Common.{◌≡◌, ℕ, ◌+◌, ◌≤◌, ◌<◌, ◌⊎◌, inl, inr, List, [], ◌∷◌, get_or, Some, slice_get, refl, sym, ap, ◌∙◌, arith}
+use Rattle.std.specs.Prelude.{option_map}
+use Rattle.std.proofs.lemmas.Bool.{cases_lt}
+use Rattle.std.proofs.lemmas.Option.{same_Some, slice_get-map}
+use Rattle.script_calls.specs.declared.call.Call.{Call}
+use Rattle.script_calls.specs.Runs.{places_from}
+use Rattle.workload.specs.Plan.{Plan}
+use Rattle.run_record.specs.declared.made.Made.{Made}
+use Rattle.run_record.specs.Lines.{SpeltCall, LineEnd, whole, misused, halted, unfinished, items_of, replies_of, EndsBy}
+use Rattle.run_record.proofs.Having.{get_at}
+use Rattle.run_record.proofs.RunLines.{place_there, places_rise}
+use Rattle.run_record.proofs.laws.runs.a_call_that_was_passed_over_leaves_no_item.Goals as goal
+
+pub returns-clause-list : goal.returns-clause-list
+returns-clause-list c plan r outcome lines worker line are at = ap (λ (l : List (List Made)). get_or l worker []) (sym are.lists) ∙ get_at items_of [] lines worker line at
+
+head_of : (plan : Plan) (worker before : ℕ) (ending : LineEnd) (rest : List Call) (last : List Made) → EndsBy plan worker before ending rest last → (last ≡ [] → ⊥) → (next : Call) × (behind : List Call) × (rest ≡ next ∷ behind)
+head_of plan worker before ending (call ∷ rest) last ends some = (call, rest, refl)
+head_of plan worker before whole [] last ends some = absurd (some ends.1)
+head_of plan worker before (misused misuse) [] last ends some = absurd ends
+head_of plan worker before (halted misuse) [] last ends some = absurd ends
+head_of plan worker before unfinished [] last ends some = absurd ends
+
+pub returns-clause-last : goal.returns-clause-last
+returns-clause-last c plan r outcome lines worker line are at some = head_of plan worker _ line.ending line.rest line.last (are.each worker line at).ends some
+
+pub returns-clause-place : goal.returns-clause-place
+returns-clause-place c plan r outcome lines worker line i spelt are at is =
+    let script = get_or plan.scripts worker [] in
+    let found = place_there 0 script line.rest line.spelt i spelt (are.runs worker line at) is in (
+      found.0,
+      found.1,
+      c.calls_keep_their_places.ensures.place script (replies_of line) i found.0 found.1
+          ∙ (ap (λ (l : List Call). slice_get l i) (sym (c.replies_tell_which_calls_were_made.ensures.made plan r outcome lines worker line are at))
+          ∙ (slice_get-map (λ (s : SpeltCall). s.call) line.spelt i ∙ ap (option_map (λ (s : SpeltCall). s.call)) is)),
+    )
+
+pub returns-clause-next : goal.returns-clause-next
+returns-clause-next c plan r outcome lines worker line i place after spelt are at is here there =
+    let script = get_or plan.scripts worker [] in
+    let made = c.calls_keep_their_places.ensures.place script (replies_of line) i place here
+    ∙ (ap (λ (l : List Call). slice_get l i) (sym (c.replies_tell_which_calls_were_made.ensures.made plan r outcome lines worker line are at))
+    ∙ (slice_get-map (λ (s : SpeltCall). s.call) line.spelt i ∙ ap (option_map (λ (s : SpeltCall). s.call)) is)) in
+    c.calls_keep_their_places.ensures.next script (replies_of line) i place after spelt.call spelt.reply here there made (slice_get-map (λ (s : SpeltCall). s.reply) line.spelt i ∙ ap (option_map (λ (s : SpeltCall). s.reply)) is)
+
+pub returns-clause-between : goal.returns-clause-between
+returns-clause-between c plan r outcome lines worker line i place after other j are at here there low high is = by_order (cases_lt j i) where
+  script : List Call
+  script = get_or plan.scripts worker []
+
+  rise : (i j x y : ℕ) → i < j → slice_get (places_from 0 script (replies_of line)) i ≡ Some x → slice_get (places_from 0 script (replies_of line)) j ≡ Some y → x < y
+  rise = places_rise 0 script (replies_of line)
+
+  at_it : (i j : ℕ) (x y : ℕ) → i ≡ j → slice_get (places_from 0 script (replies_of line)) i ≡ Some x → slice_get (places_from 0 script (replies_of line)) j ≡ Some y → x ≡ y
+  at_it i j x y same first second = same_Some x y (sym first ∙ (ap (slice_get (places_from 0 script (replies_of line))) same ∙ second))
+
+  behind : (i ≡ j) ⊎ (i < j) → ⊥
+  behind (inl same) = let e = at_it i j place other same here is in omega (arith, e, low)
+  behind (inr later) = next (cases_lt (i + 1) j) where
+    next : ((i + 1) < j) ⊎ (j ≤ i + 1) → ⊥
+    next (inl past) = let e = rise (i + 1) j after other past there is in omega (arith, e, high)
+    next (inr near) = let e = at_it (i + 1) j after other (omega (arith, near, later)) there is in omega (arith, e, high)
+
+  split : (i j : ℕ) → i ≤ j → (i ≡ j) ⊎ (i < j)
+  split i j within = by (cases_lt i j) where
+    by : (i < j) ⊎ (j ≤ i) → (i ≡ j) ⊎ (i < j)
+    by (inl less) = inr less
+    by (inr more) = inl (omega (arith, more, within))
+
+  by_order : (j < i) ⊎ (i ≤ j) → ⊥
+  by_order (inl before) = let e = rise j i other place before is here in omega (arith, e, low)
+  by_order (inr not_before) = behind (split i j not_before)
