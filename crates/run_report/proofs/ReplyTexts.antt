@@ -7,6 +7,7 @@ use Rattle.std.proofs.lemmas.Bool.{and_parts, and_from, ltb-true, true≢false}
 use Rattle.std.proofs.lemmas.Fmt.{decimal_injective, signed_decimal_injective}
 use Rattle.std.proofs.lemmas.List.{append_assoc, append_cancel_left}
 use lib.Signed.{mag}
+use Rattle.script_calls.specs.declared.call.ComposedCall.{ComposedCall}
 use Rattle.script_calls.specs.declared.call.Operation.{Operation}
 use Rattle.script_calls.specs.declared.call.Operation.TheVariants as operations
 use Rattle.script_calls.specs.declared.call.Reply.{Reply}
@@ -254,6 +255,15 @@ atomic_apart type (atomic_calls.And operand) a b fa fb ha hb e = atomic_held typ
 atomic_apart type (atomic_calls.Or operand) a b fa fb ha hb e = atomic_held type a b fa fb ha hb e
 atomic_apart type (atomic_calls.CompareAndSwap old new) a b fa fb ha hb e = atomic_compared a b fa fb e
 
+-- a call that is made of others answers whether a number was found
+composed_apart : (call : ComposedCall) (a b : AtomicReply) → is_reply_to {K = ℕ} (operations.Composed call) (replies.Atomic a) ≡ true → is_reply_to {K = ℕ} (operations.Composed call) (replies.Atomic b) ≡ true
+    → atomic_reply_text a ≡ atomic_reply_text b → a ≡ b
+composed_apart call (atomic_replies.Compared a) (atomic_replies.Compared b) fa fb e = atomic_compared (atomic_replies.Compared a) (atomic_replies.Compared b) refl refl e
+composed_apart call (atomic_replies.Compared a) atomic_replies.Done fa fb e = absurd cc
+composed_apart call (atomic_replies.Compared a) (atomic_replies.Held b) fa fb e = absurd cc
+composed_apart call atomic_replies.Done b fa fb e = absurd cc
+composed_apart call (atomic_replies.Held a) b fa fb e = absurd cc
+
 -- the numbers of an object are of one type
 abbrev IsTyped : Option ObjectLine → AtomicKind → Type 0
 IsTyped object type = (n : Number) → is_number_at object n ≡ true → is_of type n ≡ true
@@ -495,6 +505,7 @@ module _ (plan : Plan) (are : AreKeys (keys_in plan.scripts)) where
     where
       by_operation : (o : Operation) (a : AtomicReply) (b : Reply ℕ) → is_reply_to {K = ℕ} o (replies.Atomic a) ≡ true → is_reply_to {K = ℕ} o b ≡ true → atomic_in_range (slice_get plan.objects call.object) a ≡ true → is_in_range plan call b ≡ true → atomic_reply_text a ≡ reply_text keys b → replies.Atomic a ≡ b
       by_operation (operations.Atomic of) a (replies.Atomic b) fa fb ha hb e = ap (λ (r : AtomicReply). replies.Atomic r) (atomic_at_apart (slice_get plan.objects call.object) of a b fa fb ha hb e)
+      by_operation (operations.Composed of) a (replies.Atomic b) fa fb ha hb e = ap (λ (r : AtomicReply). replies.Atomic r) (composed_apart of a b fa fb e)
       by_operation o a b fa fb ha hb e = absurd cc
   reply_apart call (replies.Lock a) b fa fb ha hb e = by_operation call.operation a b fa fb hb e
     where

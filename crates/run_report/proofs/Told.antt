@@ -23,7 +23,7 @@ use Rattle.workload.specs.Readable.{IsReadable}
 use Rattle.workload.specs.declared.object.ObjectLine.{ObjectLine}
 use Rattle.workload_text.specs.ReportLines.{call_words, completed_line, end_line, reply_text, truth_text}
 use Rattle.run_report.specs.ReportText.{calls_text, ends_text, outcome_ends, workers_text}
-use Rattle.run_report.specs.Forms.{have_forms, all_have_forms}
+use Rattle.workload.specs.Forms.{have_forms, all_have_forms}
 use Rattle.sync_types.specs.Name.{is_name_byte}
 use Rattle.run_report.specs.Told.{has_64_bits, is_end, is_in_range, is_key, is_number_at, ReportTellsWhatIsLeft}
 use Rattle.run_report.proofs.TextCuts.{lacks, cut, decimal_lacks, name_lacks, words_apart, words_lack, first_lacks}

@@ -1,4 +1,3 @@
-pub mod Forms
 pub mod NumberLines
 pub mod ReportText
 pub mod Shown

@@ -26,7 +26,7 @@ use Rattle.workload.specs.Plan.{Plan}
 use Rattle.workload.specs.declared.object.ObjectKind.{ObjectKind}
 use Rattle.workload.specs.declared.object.ObjectKind.TheVariants as kinds
 use Rattle.workload.specs.declared.object.ObjectLine.{ObjectLine}
-use Rattle.run_report.specs.Forms.{has_forms}
+use Rattle.workload.specs.Forms.{has_forms}
 use Rattle.run_report.specs.ReportText.{outcome_ends, report_text}
 
 -- a number of 64 bits without a sign
