@@ -3,6 +3,7 @@ use Rattle.std.proofs.Common.{◌≡◌, ◌≢◌, ℕ, ◌+◌, ◌<◌, ◌�
 use Rattle.std.specs.Prelude.{◌==◌, nat_lt, not, slice_get, unwrap_or}
 use Rattle.std.specs.Option.{option_map_or}
 use Rattle.std.proofs.lemmas.Bool.{eqb-true, eqb-false, eq-eqb, lt-ltb, ltb-true, ltb-false}
+use Rattle.script_calls.specs.Runs.{left_of}
 use Rattle.script_calls.specs.declared.call.Call.{Call}
 use Rattle.script_calls.specs.declared.call.Reply.{Reply}
 use Rattle.workload.specs.declared.object.ObjectKind.{ObjectKind}
@@ -101,10 +102,10 @@ other_told false true false false true apart tells = no (tells refl refl)
 module _ (plan : Plan) (worker number : ℕ) where
   -- what is left of the call before which the worker stands, and whether it was told to go on, by its replies so far
   abbrev left_by : List (Reply (List ℕ)) → List ObjectState → ℕ
-  left_by done objects = option_map_or (λ call. turns_left (kinds_in plan) call worker objects) (slice_get (get_or plan.scripts worker []) (length done)) 0
+  left_by done objects = option_map_or (λ call. turns_left (kinds_in plan) call worker objects) (slice_get (left_of (get_or plan.scripts worker []) done) 0) 0
 
   abbrev told_by : List (Reply (List ℕ)) → List ObjectState → Bool
-  told_by done objects = option_map_or (λ call. is_told (kinds_in plan) call worker objects) (slice_get (get_or plan.scripts worker []) (length done)) false
+  told_by done objects = option_map_or (λ call. is_told (kinds_in plan) call worker objects) (slice_get (left_of (get_or plan.scripts worker []) done) 0) false
 
   -- the most turns that can be counted: four before the call, what is left of it then, and none behind it
   abbrev most_of : Bool → Bool → ℕ → ℕ
@@ -175,7 +176,7 @@ module _ (plan : Plan) (worker number : ℕ) where
 
         by_place : (a b : Bool) → most_of a b (left_by done objects) ≤ 4
         by_place true b = omega arith
-        by_place false true = left_few (slice_get (get_or plan.scripts worker []) (length done))
+        by_place false true = left_few (slice_get (left_of (get_or plan.scripts worker []) done) 0)
         by_place false false = omega arith
 
     -- ---- another's turn
@@ -185,7 +186,7 @@ module _ (plan : Plan) (worker number : ℕ) where
       done = get_or s.replies worker []
 
       eased : (call : Call) (objects : List ObjectState) (answer : Answer) → Takes plan by s call objects answer → most_by done objects ≤ most_by done s.objects
-      eased call objects answer takes = most_less done s.objects objects (by_own (slice_get (get_or plan.scripts worker []) (length done)))
+      eased call objects answer takes = most_less done s.objects objects (by_own (slice_get (left_of (get_or plan.scripts worker []) done) 0))
         where
           by_own : (o : Option Call) → option_map_or (λ call. turns_left (kinds_in plan) call worker objects) o 0 ≤ option_map_or (λ call. turns_left (kinds_in plan) call worker s.objects) o 0
           by_own None = omega arith
@@ -203,7 +204,7 @@ module _ (plan : Plan) (worker number : ℕ) where
       })
 
       tells : (call : Call) (objects : List ObjectState) (answer : Answer) → Takes plan by s call objects answer → told_by done s.objects ≡ false → told_by done objects ≡ true → unlocks (made_by plan by s) ≡ true
-      tells call objects answer takes = by_own (slice_get (get_or plan.scripts worker []) (length done))
+      tells call objects answer takes = by_own (slice_get (left_of (get_or plan.scripts worker []) done) 0)
         where
           made : made_by plan by s ≡ items_at call by s.moment s.objects
           made = ap (λ (o : Option Call). option_map_or (λ call. items_at call by s.moment s.objects) o []) takes.next
@@ -349,7 +350,7 @@ module _ (plan : Plan) (worker number : ℕ) where
 
       -- at objects at which it is out
       out_everywhere : (objects : List ObjectState) → IsOutBut None worker objects → (done : List (Reply (List ℕ))) → told_by done objects ≡ false
-      out_everywhere objects out done = by_call (slice_get (get_or plan.scripts worker []) (length done))
+      out_everywhere objects out done = by_call (slice_get (left_of (get_or plan.scripts worker []) done) 0)
         where
           by_object : (k : ℕ) (o : Option ObjectState) → slice_get objects k ≡ o → option_map_or (told_at worker) o false ≡ false
           by_object k None at = refl

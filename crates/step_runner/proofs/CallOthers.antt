@@ -4,6 +4,7 @@ use Rattle.std.specs.Prelude.{ℤ, ◌||◌, if◌then◌else◌}
 use Rattle.std.specs.Int.{w64, int_wrapping_add}
 use Rattle.sync_types.specs.declared.atomic_object.Number.{Number}
 use Rattle.sync_types.specs.declared.atomic_object.Number.TheVariants.{Int64}
+use Rattle.script_calls.specs.declared.call.ComposedCall.TheVariants.{IfEqual}
 use Rattle.script_calls.specs.declared.call.Operation.{Operation}
 use Rattle.script_calls.specs.declared.call.Operation.TheVariants as operations
 use Rattle.mutex_core.specs.MutexMachine as mutex
@@ -156,6 +157,7 @@ pub turn_eases : MachinesStand → (workers x by moment object : ℕ) (operation
 turn_eases laws workers x by moment object (operations.Map call) (states.Map m) is apart = (omega arith, λ was told. no told)
 turn_eases laws workers x by moment object operations.Range (states.Map m) is apart = (omega arith, λ was told. no told)
 turn_eases laws workers x by moment object (operations.Atomic call) (states.Atomic number) is apart = (omega arith, λ was told. no told)
+turn_eases laws workers x by moment object (operations.Composed (IfEqual value passes)) (states.Atomic number) is apart = (omega arith, λ was told. no told)
 turn_eases laws workers x by moment object (operations.Mutex call) (states.Mutex m) is apart = mutex_due_eases laws.mutexes x by moment object (mutex_due call (mutex.place_of m by)) m is.0 apart
 turn_eases laws workers x by moment object (operations.RwMutex call) (states.RwMutex m) is apart = rw_due_eases laws.rw_mutexes x by moment object (rw_due call (rw.place_of m by)) m is.0 apart
 turn_eases laws workers x by moment object (operations.WaitGroup call) (states.WaitGroup g first) is apart = (

@@ -5,6 +5,7 @@ use Rattle.std.specs.Int.{w64, int_wrapping_add}
 use Rattle.std.proofs.lemmas.Bool.{eq-eqb}
 use Rattle.sync_types.specs.declared.atomic_object.Number.{Number}
 use Rattle.sync_types.specs.declared.atomic_object.Number.TheVariants.{Int64}
+use Rattle.script_calls.specs.declared.call.ComposedCall.TheVariants.{IfEqual}
 use Rattle.script_calls.specs.declared.call.Operation.{Operation}
 use Rattle.script_calls.specs.declared.call.Operation.TheVariants as operations
 use Rattle.script_calls.specs.declared.call.Reply.{Reply}
@@ -448,6 +449,7 @@ pub turn_takes : MachinesStand → (workers x moment object : ℕ) (operation : 
 turn_takes laws workers x moment object (operations.Map call) (states.Map m) below is = (tt, λ told. told)
 turn_takes laws workers x moment object operations.Range (states.Map m) below is = (tt, λ told. told)
 turn_takes laws workers x moment object (operations.Atomic call) (states.Atomic number) below is = (tt, λ told. told)
+turn_takes laws workers x moment object (operations.Composed (IfEqual value passes)) (states.Atomic number) below is = (tt, λ told. told)
 turn_takes laws workers x moment object (operations.Mutex call) (states.Mutex m) below is =
     let due = mutex_due call (mutex.place_of m x) in
     let Answered : MutexStage → Type 0 = λ stage. mutex_standing.is_answer (mutex_event stage moment) (mutex.next m x (mutex_event stage moment)).1 ≡ true in

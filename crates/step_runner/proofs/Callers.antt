@@ -8,6 +8,7 @@ use Rattle.sync_types.specs.declared.atomic_object.AtomicCall.TheVariants.{Add}
 use Rattle.sync_types.specs.declared.atomic_object.Number.{Number}
 use Rattle.sync_types.specs.declared.atomic_object.Number.TheVariants.{Int64}
 use Rattle.script_calls.specs.declared.call.Call.{Call}
+use Rattle.script_calls.specs.declared.call.ComposedCall.TheVariants.{IfEqual}
 use Rattle.script_calls.specs.declared.call.Operation.{Operation}
 use Rattle.script_calls.specs.declared.call.Operation.TheVariants as operations
 use Rattle.sync_types.specs.declared.pool_call.PoolCall.{PoolCall}
@@ -71,6 +72,7 @@ on_by : (operation : Operation) (worker moment object : â„•) (o : ObjectState) â
 on_by (operations.Map call) worker moment object (states.Map m) = (refl, tt)
 on_by operations.Range worker moment object (states.Map m) = (refl, tt)
 on_by (operations.Atomic call) worker moment object (states.Atomic number) = (refl, tt)
+on_by (operations.Composed (IfEqual value passes)) worker moment object (states.Atomic number) = (refl, tt)
 on_by (operations.Mutex call) worker moment object (states.Mutex m) = stage_by events.Mutex answered.Mutex mutex.next mutex_event worker moment object (mutex_due call (mutex.place_of m worker)) m
 on_by (operations.RwMutex call) worker moment object (states.RwMutex m) = stage_by events.RwMutex answered.RwMutex rw.next rw_event worker moment object (rw_due call (rw.place_of m worker)) m
 on_by (operations.WaitGroup call) worker moment object (states.WaitGroup g first) = stage_by events.WaitGroup answered.WaitGroup group.next group_event worker moment object (group_due call (group.place_of g worker)) g

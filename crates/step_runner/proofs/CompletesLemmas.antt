@@ -1,6 +1,7 @@
 -- A call of a map, an atomic or a pool is completed in its first turn.
 use Rattle.std.proofs.Common.{◌≡◌, ℕ, ◌*◌, true, List, Some}
 use Rattle.script_calls.specs.declared.call.Call.{Call}
+use Rattle.script_calls.specs.declared.call.ComposedCall.TheVariants.{IfEqual}
 use Rattle.script_calls.specs.declared.call.Operation.{Operation}
 use Rattle.script_calls.specs.declared.call.Operation.TheVariants as operations
 use Rattle.sync_types.specs.declared.pool_call.PoolCall.{PoolCall}
@@ -29,6 +30,7 @@ completes : (operation : Operation) (worker moment : ℕ) (o : ObjectState) → 
 completes (operations.Map call) worker moment (states.Map m) one has = tt
 completes operations.Range worker moment (states.Map m) one has = tt
 completes (operations.Atomic call) worker moment (states.Atomic number) one has = tt
+completes (operations.Composed (IfEqual value passes)) worker moment (states.Atomic number) one has = tt
 completes (operations.Pool call) worker moment (states.Pool p) one has = pool_completes worker moment call p
 completes operation worker moment o one has = absurd cc
 

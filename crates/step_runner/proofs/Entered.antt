@@ -6,6 +6,7 @@ use Rattle.std.proofs.lemmas.Bool.{eqb-true, eqb-false}
 use Rattle.std.proofs.lemmas.Option.{slice_get-map}
 use Rattle.sync_types.specs.declared.atomic_object.Number.TheVariants.{Int64}
 use Rattle.script_calls.specs.declared.call.Call.{Call}
+use Rattle.script_calls.specs.declared.call.ComposedCall.TheVariants.{IfEqual}
 use Rattle.script_calls.specs.declared.call.Operation.{Operation}
 use Rattle.script_calls.specs.declared.call.Operation.TheVariants as operations
 use Rattle.script_calls.specs.declared.call.Reply.{Reply}
@@ -111,6 +112,7 @@ module _ (plan : Plan) (x before place : ℕ) where
   whole_on (operations.Map call) (states.Map m) has alone idle out = refl
   whole_on operations.Range (states.Map m) has alone idle out = refl
   whole_on (operations.Atomic call) (states.Atomic number) has alone idle out = refl
+  whole_on (operations.Composed (IfEqual value passes)) (states.Atomic number) has alone idle out = refl
   whole_on (operations.Mutex call) (states.Mutex m) has alone idle out = ap (mutex_left (object_number place) call) (ap mutex_waits out)
   whole_on (operations.RwMutex call) (states.RwMutex m) has alone idle out = ap (rw_left (object_number place) call) (ap rw_waits out)
   whole_on (operations.WaitGroup group_calls.Wait) (states.WaitGroup g first) has alone idle out = ap (group_left (object_number place) group_calls.Wait) idle

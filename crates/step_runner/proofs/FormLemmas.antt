@@ -1,10 +1,11 @@
 -- Each reply of a run has the form of its call's replies, and each worker stands at the mutex at which its call waits, and at no other.
-use Rattle.std.proofs.Common.{◌≡◌, ◌≢◌, ℕ, zero, suc, ◌≤◌, true, false, eqb, ◌&&◌, List, [], ◌∷◌, ◌++◌, map, length, get_or, set, replicate, Option, Some, None, refl, sym, ◌∙◌, subst, arith}
+use Rattle.std.proofs.Common.{◌≡◌, ◌≢◌, ℕ, zero, suc, ◌≤◌, true, false, eqb, ◌&&◌, List, [], ◌∷◌, ◌++◌, map, drop, length, get_or, set, replicate, Option, Some, None, refl, sym, ◌∙◌, subst, arith}
 use Rattle.std.specs.Prelude.{slice_get}
 use Rattle.std.specs.Option.{option_map_or}
 use Rattle.std.proofs.lemmas.Bool.{eqb-true, eqb-false}
 use Rattle.script_calls.specs.Outcome.{with_keys_renamed}
 use Rattle.script_calls.specs.Replies.{is_reply_to}
+use Rattle.script_calls.specs.Runs.{passed_over, left_of, made_of}
 use Rattle.script_calls.specs.declared.call.Call.{Call}
 use Rattle.script_calls.specs.declared.call.Operation.{Operation}
 use Rattle.script_calls.specs.declared.call.Reply.{Reply}
@@ -25,9 +26,10 @@ use Rattle.step_runner.specs.ReplyForm.{HasForm}
 use Rattle.step_runner.specs.Stands.{waits_at, IsOutAt, IsOutBut, waits_behind}
 use Rattle.step_runner.specs.TurnAtObjects.{turn_at}
 use Rattle.step_runner.specs.Computed.{whole_run, outcome_of, turns}
-use Rattle.step_runner.specs.Forms.{have_forms, all_have_forms, has_forms}
+use Rattle.workload.specs.Forms.{have_forms, all_have_forms, has_forms}
 use Rattle.step_runner.specs.State.{State, start, with_reply, IsStateOf}
 use Rattle.step_runner.specs.Turns.{next_call, turn_of, after_items}
+use Rattle.step_runner.proofs.Numbered.{NamesAside}
 use Rattle.step_runner.proofs.StartLemmas.{each_start}
 use Rattle.step_runner.proofs.TurnLemmas.{both, both_true, Takes, takes_by, turn_cases, moved, replied_other, valid_scripts}
 use Rattle.step_runner.proofs.RunLemmas.{GoesOn, moment_valid, Kept, items_keep, run_keeps}
@@ -44,39 +46,35 @@ pub record TurnStands : Type 0 where
 
 -- ---- replies in a list
 
-no_forms : (calls : List Call) → have_forms {K = List ℕ} calls [] ≡ true
-no_forms [] = refl
-no_forms (call ∷ calls) = refl
-
-forms_push : (calls : List Call) (replies : List (Reply (List ℕ))) (call : Call) (reply : Reply (List ℕ)) → have_forms calls replies ≡ true → slice_get calls (length replies) ≡ Some call → is_reply_to call.operation reply ≡ true
-    → have_forms calls (replies ++ reply ∷ []) ≡ true
+forms_push : (script : List Call) (given : List (Reply (List ℕ))) (call : Call) (reply : Reply (List ℕ)) → have_forms (made_of script given) given ≡ true → slice_get (left_of script given) 0 ≡ Some call
+    → is_reply_to call.operation reply ≡ true → have_forms (made_of script (given ++ reply ∷ [])) (given ++ reply ∷ []) ≡ true
 forms_push [] [] call reply e at form = absurd cc
-forms_push [] (x ∷ replies) call reply e at form = absurd cc
-forms_push (first ∷ calls) [] call reply e at form =
-    let same : first ≡ call = cc in
-    both_true (is_reply_to first.operation reply) (have_forms calls []) (subst (λ (c : Call). is_reply_to c.operation reply ≡ true) (sym same) form) (no_forms calls)
-forms_push (first ∷ calls) (x ∷ replies) call reply e at form =
-    let parts = both (is_reply_to first.operation x) (have_forms calls replies) e in
-    both_true (is_reply_to first.operation x) (have_forms calls (replies ++ reply ∷ [])) parts.0 (forms_push calls replies call reply parts.1 at form)
+forms_push [] (x ∷ given) call reply e at form = absurd cc
+forms_push (first ∷ script) [] call reply e at form =
+    let same : call ≡ first = cc in
+    both_true (is_reply_to first.operation reply) true (subst (λ (c : Call). is_reply_to c.operation reply ≡ true) same form) refl
+forms_push (first ∷ script) (x ∷ given) call reply e at form =
+    let behind = drop (passed_over first x) script in
+    let parts = both (is_reply_to first.operation x) (have_forms (made_of behind given) given) e in
+    both_true (is_reply_to first.operation x) (have_forms (made_of behind (given ++ reply ∷ [])) (given ++ reply ∷ [])) parts.0 (forms_push behind given call reply parts.1 at form)
 
 forms_set : (scripts : List (List Call)) (lists : List (List (Reply (List ℕ)))) (worker : ℕ) (call : Call) (reply : Reply (List ℕ)) → all_have_forms scripts lists ≡ true
-    → slice_get (get_or scripts worker []) (length (get_or lists worker [])) ≡ Some call → is_reply_to call.operation reply ≡ true → all_have_forms scripts (set lists worker (get_or lists worker [] ++ reply ∷ [])) ≡ true
+    → slice_get (left_of (get_or scripts worker []) (get_or lists worker [])) 0 ≡ Some call → is_reply_to call.operation reply ≡ true → all_have_forms scripts (set lists worker (get_or lists worker [] ++ reply ∷ [])) ≡ true
 forms_set [] [] worker call reply e at form = refl
 forms_set (script ∷ scripts) [] worker call reply e at form = refl
 forms_set [] (list ∷ lists) worker call reply e at form = absurd cc
 forms_set (script ∷ scripts) (list ∷ lists) zero call reply e at form =
-    let parts = both (have_forms script list) (all_have_forms scripts lists) e in
-    both_true (have_forms script (list ++ reply ∷ [])) (all_have_forms scripts lists) (forms_push script list call reply parts.0 at form) parts.1
+    let parts = both (have_forms (made_of script list) list) (all_have_forms scripts lists) e in
+    both_true (have_forms (made_of script (list ++ reply ∷ [])) (list ++ reply ∷ [])) (all_have_forms scripts lists) (forms_push script list call reply parts.0 at form) parts.1
 forms_set (script ∷ scripts) (list ∷ lists) (suc worker) call reply e at form =
-    let parts = both (have_forms script list) (all_have_forms scripts lists) e in
-    both_true (have_forms script list) (all_have_forms scripts (set lists worker (get_or lists worker [] ++ reply ∷ []))) parts.0 (forms_set scripts lists worker call reply parts.1 at form)
+    let parts = both (have_forms (made_of script list) list) (all_have_forms scripts lists) e in
+    both_true (have_forms (made_of script list) list) (all_have_forms scripts (set lists worker (get_or lists worker [] ++ reply ∷ []))) parts.0 (forms_set scripts lists worker call reply parts.1 at form)
 
 forms_begin : (scripts : List (List Call)) (n : ℕ) → n ≤ length scripts → all_have_forms scripts (replicate {A = List (Reply (List ℕ))} n []) ≡ true
 forms_begin [] zero few = refl
 forms_begin [] (suc n) few = absurd (omega (arith, few))
 forms_begin (script ∷ scripts) zero few = refl
-forms_begin (script ∷ scripts) (suc n) few =
-    both_true (have_forms {K = List ℕ} script []) (all_have_forms scripts (replicate {A = List (Reply (List ℕ))} n [])) (no_forms script) (forms_begin scripts n (omega (arith, few)))
+forms_begin (script ∷ scripts) (suc n) few = forms_begin scripts n (omega (arith, few))
 
 -- other names for keys leave each reply its form
 abbrev pub Renamed : Type 0
@@ -88,11 +86,14 @@ forms_renamed law rename (call ∷ calls) [] = refl
 forms_renamed law rename [] (reply ∷ replies) = refl
 forms_renamed law rename (call ∷ calls) (reply ∷ replies) = λ i. law rename call.operation reply i && forms_renamed law rename calls replies i
 
-all_renamed : Renamed → (rename : List ℕ → ℕ) (scripts : List (List Call)) (lists : List (List (Reply (List ℕ)))) → all_have_forms scripts (map (map (with_keys_renamed rename)) lists) ≡ all_have_forms scripts lists
-all_renamed law rename [] [] = refl
-all_renamed law rename (script ∷ scripts) [] = refl
-all_renamed law rename [] (list ∷ lists) = refl
-all_renamed law rename (script ∷ scripts) (list ∷ lists) = λ i. forms_renamed law rename script list i && all_renamed law rename scripts lists i
+all_renamed : Renamed → NamesAside → (rename : List ℕ → ℕ) (scripts : List (List Call)) (lists : List (List (Reply (List ℕ)))) → all_have_forms scripts (map (map (with_keys_renamed rename)) lists) ≡ all_have_forms scripts lists
+all_renamed law names rename [] [] = refl
+all_renamed law names rename (script ∷ scripts) [] = refl
+all_renamed law names rename [] (list ∷ lists) = refl
+all_renamed law names rename (script ∷ scripts) (list ∷ lists) =
+    let renamed = map (with_keys_renamed rename) list in
+    let first = ap (λ (made : List Call). have_forms made renamed) (names.made rename script list) ∙ forms_renamed law rename (made_of script list) list in
+    λ i. first i && all_renamed law names rename scripts lists i
 
 -- ---- what every state keeps
 
@@ -158,7 +159,7 @@ module _ (laws : TurnStands) (plan : Plan) (by : ℕ) (s : State) (h : Standing 
         (out_anywhere (awaited plan by (with_reply by reply (moved objects s))) by objects (own_at call objects (answers.Completed reply) takes))
     | false ↦ λ e.
         let apart : worker ≢ by = eqb-false worker by e in
-        subst (λ (done : List (Reply (List ℕ))). IsOutBut (option_map_or (λ c. waits_at (kinds_in plan) c) (slice_get (get_or plan.scripts worker []) (length done)) None) worker objects)
+        subst (λ (done : List (Reply (List ℕ))). IsOutBut (option_map_or (λ c. waits_at (kinds_in plan) c) (slice_get (left_of (get_or plan.scripts worker []) done) 0) None) worker objects)
         (sym (replied_other by worker reply (moved objects s) apart)) (other_at worker call objects (answers.Completed reply) apart takes)
   ] refl
 
@@ -196,12 +197,12 @@ start_stands laws plan of = record {
 pub items_stand : TurnStands → (plan : Plan) → GoesOn plan → IsStateOf plan (start plan) → (list : List Turn) → Standing plan (after_items plan list (start plan))
 items_stand laws plan goes_on of list = items_keep plan (Standing plan) (standing_kept laws plan goes_on) list (start plan) (start_stands laws plan of)
 
-left_forms : Renamed → (plan : Plan) (x : State × Ending) → all_have_forms plan.scripts x.0.replies ≡ true → has_forms plan (outcome_of plan x) ≡ true
-left_forms law plan (s, endings.Done) forms = all_renamed law (key_number (keys_in plan.scripts)) plan.scripts s.replies ∙ forms
-left_forms law plan (s, endings.Misused misuse) forms = all_renamed law (key_number (keys_in plan.scripts)) plan.scripts s.replies ∙ forms
-left_forms law plan (s, endings.Deadlocked) forms = all_renamed law (key_number (keys_in plan.scripts)) plan.scripts s.replies ∙ forms
+left_forms : Renamed → NamesAside → (plan : Plan) (x : State × Ending) → all_have_forms plan.scripts x.0.replies ≡ true → has_forms plan (outcome_of plan x) ≡ true
+left_forms law names plan (s, endings.Done) forms = all_renamed law names (key_number (keys_in plan.scripts)) plan.scripts s.replies ∙ forms
+left_forms law names plan (s, endings.Misused misuse) forms = all_renamed law names (key_number (keys_in plan.scripts)) plan.scripts s.replies ∙ forms
+left_forms law names plan (s, endings.Deadlocked) forms = all_renamed law names (key_number (keys_in plan.scripts)) plan.scripts s.replies ∙ forms
 
 -- the replies of a run
-pub run_forms : TurnStands → Renamed → (plan : Plan) → GoesOn plan → IsStateOf plan (start plan) → has_forms plan (turns plan) ≡ true
-run_forms laws renamed plan goes_on of =
-    left_forms renamed plan (whole_run plan) (run_keeps plan (Standing plan) (standing_kept laws plan goes_on) (start_stands laws plan of)).forms
+pub run_forms : TurnStands → Renamed → NamesAside → (plan : Plan) → GoesOn plan → IsStateOf plan (start plan) → has_forms plan (turns plan) ≡ true
+run_forms laws renamed names plan goes_on of =
+    left_forms renamed names plan (whole_run plan) (run_keeps plan (Standing plan) (standing_kept laws plan goes_on) (start_stands laws plan of)).forms

@@ -5,10 +5,11 @@ use Rattle.std.specs.List.{range_with_len}
 use Rattle.std.proofs.lemmas.List.Sorted.{IsPermutation-refl}
 use Rattle.sync_types.specs.Renaming.{renamed_call}
 use Rattle.sync_model.specs.declared.answer.Answer.TheVariants.{Done, Halted}
-use Rattle.sync_types.specs.declared.atomic_object.AtomicCall.TheVariants.{Add}
+use Rattle.sync_types.specs.declared.atomic_object.AtomicCall.TheVariants.{Load, Add}
 use Rattle.sync_types.specs.declared.atomic_object.AtomicReply.TheVariants as atomic_replies
 use Rattle.sync_types.specs.declared.atomic_object.Number.TheVariants.{Int64}
 use Rattle.script_calls.specs.declared.call.Call.{Call}
+use Rattle.script_calls.specs.declared.call.ComposedCall.TheVariants.{IfEqual}
 use Rattle.script_calls.specs.declared.call.Operation.{Operation}
 use Rattle.script_calls.specs.declared.call.Operation.TheVariants as operations
 use Rattle.script_calls.specs.declared.call.Reply.{Reply}
@@ -168,6 +169,8 @@ module _ (plan : Plan) (x before place : ℕ) where
   on_can operations.Range (states.Map m) has alone =
       (_, _, ([], [], places plan (cursor_showing (keys_in plan.scripts) (map_number plan.objects place) before []), (IsPermutation-refl [], λ k d low below. absurd (omega (arith, below))), refl))
   on_can (operations.Atomic call) (states.Atomic number) has alone = (_, _, (atomic_replies.Done, places plan ((calls.Atomic (atomic_number plan.objects place) call, shared.Atomic atomic_replies.Done) ∷ []), refl))
+  on_can (operations.Composed (IfEqual value passes)) (states.Atomic number) has alone =
+      (_, _, (_, (_, (atomic_replies.Done, places plan ((calls.Atomic (atomic_number plan.objects place) Load, shared.Atomic atomic_replies.Done) ∷ []), refl), refl), refl))
   on_can (operations.Mutex call) (states.Mutex m) has alone = halted (mutex_left (object_number place) call (mutex_waits (mutex.place_of m x))) (mutex_can (object_number place) call (mutex_waits (mutex.place_of m x)))
   on_can (operations.RwMutex call) (states.RwMutex m) has alone = halted (rw_left (object_number place) call (rw_waits (rw.place_of m x))) (rw_can (object_number place) call (rw_waits (rw.place_of m x)))
   on_can (operations.WaitGroup call) (states.WaitGroup g first) has alone = halted (group_left (object_number place) call (group_standing.waits_at g x)) (group_can (object_number place) call (group_standing.waits_at g x))

@@ -6,10 +6,11 @@ use Rattle.std.proofs.lemmas.Bool.{eq-eqb, eqb-true, eqb-false}
 use Rattle.std.proofs.lemmas.List.{map-append}
 use Rattle.std.proofs.lemmas.List.Elements.{filter-append}
 use Rattle.sync_model.specs.Log.{Entry, entry, after, Follows}
-use Rattle.sync_types.specs.declared.atomic_object.AtomicCall.TheVariants.{Add}
+use Rattle.sync_types.specs.declared.atomic_object.AtomicCall.TheVariants.{Load, Add}
 use Rattle.sync_types.specs.declared.atomic_object.Number.{Number}
 use Rattle.sync_types.specs.declared.atomic_object.Number.TheVariants.{Int64}
 use Rattle.script_calls.specs.declared.call.Call.{Call}
+use Rattle.script_calls.specs.declared.call.ComposedCall.TheVariants.{IfEqual}
 use Rattle.script_calls.specs.declared.call.Operation.{Operation}
 use Rattle.script_calls.specs.declared.call.Operation.TheVariants as operations
 use Rattle.script_calls.specs.declared.call.Reply.{Reply}
@@ -160,6 +161,7 @@ on_comes : (operation : Operation) (worker moment object : ℕ) (o : ObjectState
 on_comes (operations.Map call) worker moment object (states.Map m) = (operations.Map call, _, _, refl, (refl, refl), refl)
 on_comes operations.Range worker moment object (states.Map m) = (operations.Range, _, _, refl, (refl, refl), refl)
 on_comes (operations.Atomic call) worker moment object (states.Atomic number) = (operations.Atomic call, _, _, refl, (refl, refl), refl)
+on_comes (operations.Composed (IfEqual value passes)) worker moment object (states.Atomic number) = (operations.Atomic Load, _, _, refl, (refl, refl), refl)
 on_comes (operations.Mutex call) worker moment object (states.Mutex m) = stage_comes events.Mutex answered.Mutex mutex.next mutex_event mutex_meaning worker moment object (mutex_due call (mutex.place_of m worker)) m
 on_comes (operations.RwMutex call) worker moment object (states.RwMutex m) = stage_comes events.RwMutex answered.RwMutex rw.next rw_event rw_meaning worker moment object (rw_due call (rw.place_of m worker)) m
 on_comes (operations.WaitGroup call) worker moment object (states.WaitGroup g first) = stage_comes events.WaitGroup answered.WaitGroup group.next group_event group_meaning worker moment object (group_due call (group.place_of g worker)) g
@@ -208,6 +210,7 @@ on_at : (operation : Operation) (worker moment object : ℕ) (o : ObjectState) �
 on_at (operations.Map call) worker moment object (states.Map m) = (refl, tt)
 on_at operations.Range worker moment object (states.Map m) = (refl, tt)
 on_at (operations.Atomic call) worker moment object (states.Atomic number) = (refl, tt)
+on_at (operations.Composed (IfEqual value passes)) worker moment object (states.Atomic number) = (refl, tt)
 on_at (operations.Mutex call) worker moment object (states.Mutex m) = stage_at events.Mutex answered.Mutex mutex.next mutex_event worker moment object (mutex_due call (mutex.place_of m worker)) m
 on_at (operations.RwMutex call) worker moment object (states.RwMutex m) = stage_at events.RwMutex answered.RwMutex rw.next rw_event worker moment object (rw_due call (rw.place_of m worker)) m
 on_at (operations.WaitGroup call) worker moment object (states.WaitGroup g first) = stage_at events.WaitGroup answered.WaitGroup group.next group_event worker moment object (group_due call (group.place_of g worker)) g

@@ -10,6 +10,8 @@ mod RunKeys
 mod RunLemmas
 mod RunLogs
 mod RunRanges
+mod PlaceLemmas
+mod ScriptRuns
 mod SpeltLines
 mod SpeltMisuse
 mod SpeltOutcome

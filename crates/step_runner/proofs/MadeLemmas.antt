@@ -1,11 +1,11 @@
 -- The calls that a worker completes are those of its script, in order.
-use Rattle.std.proofs.Common.{◌≡◌, ◌≢◌, ℕ, ◌+◌, ◌<◌, ◌⊎◌, Bool, true, false, cond, eqb, List, [], ◌∷◌, ◌++◌, map, take, length, get_or, Some, refl, sym, ap, ◌∙◌, inl, inr, append-nil, append_assoc, arith}
+use Rattle.std.proofs.Common.{◌≡◌, ◌≢◌, ℕ, ◌+◌, ◌<◌, ◌⊎◌, Bool, true, false, cond, eqb, List, [], ◌∷◌, ◌++◌, map, length, get_or, Some, refl, sym, ap, ◌∙◌, inl, inr, append-nil, append_assoc, arith}
 use Rattle.std.specs.Prelude.{◌==◌, nat_lt, if◌then◌else◌}
 use Rattle.std.specs.List.{filter}
 use Rattle.std.specs.Option.{option_to_list}
 use Rattle.std.proofs.lemmas.Bool.{eqb-true, eqb-false, lt-ltb, ltb-true}
-use Rattle.std.proofs.lemmas.List.{take_more}
-use Rattle.std.proofs.lemmas.Option.{slice_get_within, get_or_from_slice_get}
+use Rattle.std.proofs.lemmas.List.{length-append, get_or-set_same}
+use Rattle.script_calls.specs.Runs.{left_of, made_of}
 use Rattle.script_calls.specs.declared.call.Call.{Call}
 use Rattle.script_calls.specs.declared.call.Reply.{Reply}
 use Rattle.workload.specs.declared.turn.Turn.{Turn}
@@ -16,8 +16,9 @@ use Rattle.step_runner.specs.declared.step.Step.TheVariants as steps
 use Rattle.step_runner.specs.State.{State, IsStateOf, start, with_moment}
 use Rattle.step_runner.specs.Turns.{next_call, turn_of, with_event, and_then, items_of, after_items}
 use Rattle.step_runner.specs.MadeCalls.{completed_by, unless_misused, made_calls, calls_of}
-use Rattle.step_runner.proofs.StartLemmas.{none_yet}
-use Rattle.step_runner.proofs.TurnLemmas.{moved, turn_cases, replied_more, replied_other}
+use Rattle.step_runner.proofs.ScriptRuns.{GoesFurther, split_first}
+use Rattle.step_runner.proofs.StartLemmas.{none_replied}
+use Rattle.step_runner.proofs.TurnLemmas.{moved, turn_cases, replied_other}
 use Rattle.step_runner.proofs.RunLemmas.{GoesOn, moment_valid}
 
 -- ---- the replies behind a turn
@@ -25,8 +26,9 @@ use Rattle.step_runner.proofs.RunLemmas.{GoesOn, moment_valid}
 -- one call of the worker is completed
 record Completes (plan : Plan) (worker : ℕ) (s t : State) : Type 0 where
   call : Call
+  reply : Reply (List ℕ)
   next : next_call plan worker s ≡ Some call
-  own : length (get_or t.replies worker []) ≡ length (get_or s.replies worker []) + 1
+  own : get_or t.replies worker [] ≡ get_or s.replies worker [] ++ reply ∷ []
   others : (k : ℕ) → k ≢ worker → get_or t.replies k [] ≡ get_or s.replies k []
 
 turn_replies : (plan : Plan) (worker : ℕ) (s : State) → IsStateOf plan s → ((turn_of plan worker s).0.replies ≡ s.replies) ⊎ Completes plan worker s (turn_of plan worker s).0
@@ -36,8 +38,9 @@ turn_replies plan worker s of = turn_cases (λ step. (step.0.replies ≡ s.repli
   unfinished = λ call objects takes. inl refl;
   completed = λ call objects reply takes. inr (record {
     call = call;
+    reply = reply;
     next = takes.next;
-    own = replied_more worker reply (moved objects s) (omega (arith, of.workers, takes.below));
+    own = get_or-set_same s.replies worker (get_or s.replies worker [] ++ reply ∷ []) [] (omega (arith, of.workers, takes.below));
     others = λ k apart. replied_other worker k reply (moved objects s) apart;
   });
   misused = λ call objects misuse takes. inl refl;
@@ -46,7 +49,7 @@ turn_replies plan worker s of = turn_cases (λ step. (step.0.replies ≡ s.repli
 -- ---- the calls of a script that a worker has completed
 
 abbrev made : Plan → ℕ → State → List Call
-made plan worker s = take (length (get_or s.replies worker [])) (get_or plan.scripts worker [])
+made plan worker s = made_of (get_or plan.scripts worker []) (get_or s.replies worker [])
 
 none_completed : (plan : Plan) (worker : ℕ) (s : State) → (turn_of plan worker s).0.replies ≡ s.replies → completed_by plan worker s ≡ []
 none_completed plan worker s same =
@@ -63,40 +66,40 @@ none_completed plan worker s same =
 
 one_completed : (plan : Plan) (worker : ℕ) (s : State) → (c : Completes plan worker s (turn_of plan worker s).0) → completed_by plan worker s ≡ c.call ∷ []
 one_completed plan worker s c =
-    let more : nat_lt (length (get_or s.replies worker [])) (length (get_or (turn_of plan worker s).0.replies worker [])) ≡ true = lt-ltb _ _ (omega (arith, c.own)) in
+    let given = get_or s.replies worker [] in
+    let count = ap (length {A = Reply (List ℕ)}) c.own ∙ length-append given (c.reply ∷ []) in
+    let more : nat_lt (length given) (length (get_or (turn_of plan worker s).0.replies worker [])) ≡ true = lt-ltb _ _ (omega (arith, count)) in
     ap (λ b. if b then option_to_list (next_call plan worker s) else []) more ∙ ap option_to_list c.next
 
-made_own : (plan : Plan) (worker : ℕ) (s : State) → (c : Completes plan worker s (turn_of plan worker s).0) → made plan worker (turn_of plan worker s).0 ≡ made plan worker s ++ c.call ∷ []
-made_own plan worker s c =
+made_own : GoesFurther → (plan : Plan) (worker : ℕ) (s : State) → (c : Completes plan worker s (turn_of plan worker s).0) → made plan worker (turn_of plan worker s).0 ≡ made plan worker s ++ c.call ∷ []
+made_own further plan worker s c =
     let script = get_or plan.scripts worker [] in
-    let done = length (get_or s.replies worker []) in
-    let room : done < length script = slice_get_within _ _ c.call c.next in
-    ap (λ (n : ℕ). take n script) c.own
-    ∙ take_more script done c.call room
-    ∙ ap (λ (call : Call). take done script ++ call ∷ []) (get_or_from_slice_get script done c.call c.call c.next)
+    let given = get_or s.replies worker [] in
+    let left = split_first (left_of script given) c.call c.next in
+    ap (made_of script) c.own ∙ further.made script given c.call left.0 c.reply left.1
 
 -- one completed call, of this worker or of another
-made_turn : (plan : Plan) (worker turn : ℕ) (s : State) (more : List (ℕ × Call)) (b : Bool) → eqb turn worker ≡ b → (c : Completes plan turn s (turn_of plan turn s).0)
+made_turn : GoesFurther → (plan : Plan) (worker turn : ℕ) (s : State) (more : List (ℕ × Call)) (b : Bool) → eqb turn worker ≡ b → (c : Completes plan turn s (turn_of plan turn s).0)
     → made plan worker s ++ map (λ (one : ℕ × Call). one.1) (cond b ((turn, c.call) ∷ filter (λ one. one.0 == worker) more) (filter (λ one. one.0 == worker) more)) ≡ made plan worker (turn_of plan turn s).0 ++ calls_of worker more
-made_turn plan worker turn s more true e c =
+made_turn further plan worker turn s more true e c =
     let same : turn ≡ worker = eqb-true turn worker e in
     ap (λ v. made plan v s ++ (c.call ∷ calls_of worker more)) (sym same)
     ∙ sym (append_assoc (made plan turn s) (c.call ∷ []) (calls_of worker more))
-    ∙ ap (λ (cs : List Call). cs ++ calls_of worker more) (sym (made_own plan turn s c))
+    ∙ ap (λ (cs : List Call). cs ++ calls_of worker more) (sym (made_own further plan turn s c))
     ∙ ap (λ v. made plan v (turn_of plan turn s).0 ++ calls_of worker more) same
-made_turn plan worker turn s more false e c =
+made_turn further plan worker turn s more false e c =
     let apart : worker ≢ turn = λ (same : worker ≡ turn). eqb-false turn worker e (sym same) in
-    ap (λ (done : List (Reply (List ℕ))). take (length done) (get_or plan.scripts worker []) ++ calls_of worker more) (sym (c.others worker apart))
+    ap (λ (done : List (Reply (List ℕ))). made_of (get_or plan.scripts worker []) done ++ calls_of worker more) (sym (c.others worker apart))
 
-made_next : (plan : Plan) (worker turn : ℕ) (s : State) (more : List (ℕ × Call)) → IsStateOf plan s
+made_next : GoesFurther → (plan : Plan) (worker turn : ℕ) (s : State) (more : List (ℕ × Call)) → IsStateOf plan s
     → made plan worker s ++ calls_of worker (map (λ (call : Call). (turn, call)) (completed_by plan turn s) ++ more) ≡ made plan worker (turn_of plan turn s).0 ++ calls_of worker more
-made_next plan worker turn s more of = elim (turn_replies plan turn s of) [
+made_next further plan worker turn s more of = elim (turn_replies plan turn s of) [
   | inl same ↦
       ap (λ (cs : List Call). made plan worker s ++ calls_of worker (map (λ (call : Call). (turn, call)) cs ++ more)) (none_completed plan turn s same)
-      ∙ ap (λ (replies : List (List (Reply (List ℕ)))). take (length (get_or replies worker [])) (get_or plan.scripts worker []) ++ calls_of worker more) (sym same)
+      ∙ ap (λ (replies : List (List (Reply (List ℕ)))). made_of (get_or plan.scripts worker []) (get_or replies worker []) ++ calls_of worker more) (sym same)
   | inr c ↦
       ap (λ (cs : List Call). made plan worker s ++ calls_of worker (map (λ (call : Call). (turn, call)) cs ++ more)) (one_completed plan turn s c)
-      ∙ made_turn plan worker turn s more (eqb turn worker) refl c
+      ∙ made_turn further plan worker turn s more (eqb turn worker) refl c
 ]
 
 pub event_state : (x : State × Step) → (with_event x).0 ≡ x.0
@@ -112,14 +115,14 @@ made_later plan worker rest (t, steps.Still) of later = later t of
 made_later plan worker rest (t, steps.Made) of later = later t of ∙ ap (made plan worker) (sym (event_state (items_of plan rest t)))
 made_later plan worker rest (t, steps.Misused misuse) of later = append-nil (made plan worker t)
 
-made_so_far : (plan : Plan) → GoesOn plan → (worker : ℕ) (list : List Turn) (s : State) → IsStateOf plan s → made plan worker s ++ calls_of worker (made_calls plan list s) ≡ made plan worker (after_items plan list s)
-made_so_far plan goes_on worker [] s of = append-nil (made plan worker s)
-made_so_far plan goes_on worker (items.Worker turn ∷ rest) s of =
-    made_next plan worker turn s (unless_misused (turn_of plan turn s) (made_calls plan rest)) of
-    ∙ made_later plan worker rest (turn_of plan turn s) (goes_on turn s of) (made_so_far plan goes_on worker rest)
-made_so_far plan goes_on worker (items.Moment moment ∷ rest) s of = made_so_far plan goes_on worker rest (with_moment moment s) (moment_valid plan moment s of)
+made_so_far : GoesFurther → (plan : Plan) → GoesOn plan → (worker : ℕ) (list : List Turn) (s : State) → IsStateOf plan s → made plan worker s ++ calls_of worker (made_calls plan list s) ≡ made plan worker (after_items plan list s)
+made_so_far further plan goes_on worker [] s of = append-nil (made plan worker s)
+made_so_far further plan goes_on worker (items.Worker turn ∷ rest) s of =
+    made_next further plan worker turn s (unless_misused (turn_of plan turn s) (made_calls plan rest)) of
+    ∙ made_later plan worker rest (turn_of plan turn s) (goes_on turn s of) (made_so_far further plan goes_on worker rest)
+made_so_far further plan goes_on worker (items.Moment moment ∷ rest) s of = made_so_far further plan goes_on worker rest (with_moment moment s) (moment_valid plan moment s of)
 
-pub made_in_order : (plan : Plan) → GoesOn plan → (list : List Turn) (worker : ℕ) → IsStateOf plan (start plan) → calls_of worker (made_calls plan list (start plan)) ≡ made plan worker (after_items plan list (start plan))
-made_in_order plan goes_on list worker of =
-    ap (λ (n : ℕ). take n (get_or plan.scripts worker []) ++ calls_of worker (made_calls plan list (start plan))) (sym (none_yet plan.workers worker))
-    ∙ made_so_far plan goes_on worker list (start plan) of
+pub made_in_order : GoesFurther → (plan : Plan) → GoesOn plan → (list : List Turn) (worker : ℕ) → IsStateOf plan (start plan) → calls_of worker (made_calls plan list (start plan)) ≡ made plan worker (after_items plan list (start plan))
+made_in_order further plan goes_on list worker of =
+    ap (λ (done : List (Reply (List ℕ))). made_of (get_or plan.scripts worker []) done ++ calls_of worker (made_calls plan list (start plan))) (sym (none_replied plan.workers worker))
+    ∙ made_so_far further plan goes_on worker list (start plan) of

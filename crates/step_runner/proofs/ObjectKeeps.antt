@@ -7,6 +7,7 @@ use Rattle.std.proofs.Math.Seq.{map-set_same}
 use Rattle.sync_types.specs.declared.atomic_object.Number.{Number}
 use Rattle.sync_types.specs.declared.atomic_object.Number.TheVariants.{Int64}
 use Rattle.script_calls.specs.declared.call.Call.{Call}
+use Rattle.script_calls.specs.declared.call.ComposedCall.TheVariants.{IfEqual}
 use Rattle.script_calls.specs.declared.call.Operation.{Operation}
 use Rattle.script_calls.specs.declared.call.Operation.TheVariants as operations
 use Rattle.mutex_core.specs.MutexMachine as mutex
@@ -55,6 +56,7 @@ turn_keeps : Laws → (workers : ℕ) (operation : Operation) (worker moment : �
 turn_keeps laws workers (operations.Map call) worker moment (states.Map m) has = record { kind = refl; machine = λ h. h }
 turn_keeps laws workers operations.Range worker moment (states.Map m) has = same workers (states.Map m)
 turn_keeps laws workers (operations.Atomic call) worker moment (states.Atomic number) has = record { kind = ap (λ kind. kinds.Atomic kind) (after_type call number has); machine = λ h. h }
+turn_keeps laws workers (operations.Composed (IfEqual value passes)) worker moment (states.Atomic number) has = same workers (states.Atomic number)
 turn_keeps laws workers (operations.Mutex call) worker moment (states.Mutex m) has = record {
   kind = refl;
   machine = mutex_machine laws workers worker moment (mutex_due call (mutex.place_of m worker)) m;

@@ -7,6 +7,7 @@ use Rattle.std.proofs.lemmas.Option.{get_or_from_slice_get, slice_get_within}
 use Rattle.sync_types.specs.declared.atomic_object.Number.{Number}
 use Rattle.sync_types.specs.declared.atomic_object.Number.TheVariants.{Int64}
 use Rattle.script_calls.specs.declared.call.Call.{Call}
+use Rattle.script_calls.specs.declared.call.ComposedCall.TheVariants.{IfEqual}
 use Rattle.script_calls.specs.declared.call.Operation.{Operation}
 use Rattle.script_calls.specs.declared.call.Operation.TheVariants as operations
 use Rattle.script_calls.specs.declared.call.Reply.{Reply}
@@ -295,6 +296,7 @@ turn_uses : Uses → (workers : ℕ) (operation : Operation) (worker moment : �
 turn_uses uses workers (operations.Map call) worker moment (states.Map m) below is = omega arith
 turn_uses uses workers operations.Range worker moment (states.Map m) below is = omega arith
 turn_uses uses workers (operations.Atomic call) worker moment (states.Atomic number) below is = omega arith
+turn_uses uses workers (operations.Composed (IfEqual value passes)) worker moment (states.Atomic number) below is = omega arith
 turn_uses uses workers (operations.Mutex call) worker moment (states.Mutex m) below is = mutex_uses uses.mutexes call worker moment m (omega (arith, below, is.1)) is.0
 turn_uses uses workers (operations.RwMutex call) worker moment (states.RwMutex m) below is = rw_uses uses.rw_mutexes call worker moment m (omega (arith, below, is.1)) is.0
 turn_uses uses workers (operations.WaitGroup call) worker moment (states.WaitGroup g first) below is = group_uses uses call worker moment first g (omega (arith, below, is))

@@ -2,6 +2,7 @@
 use Rattle.std.proofs.Common.{◌≡◌, ℕ, Bool, true, false, List, [], ◌∷◌, ◌++◌, map, length, get_or, Option, Some, None, refl, sym, ap, ◌∙◌, subst}
 use Rattle.std.specs.Prelude.{is_some, not}
 use Rattle.std.specs.List.{list_all, range_with_len}
+use Rattle.script_calls.specs.Runs.{have_tests}
 use Rattle.script_calls.specs.declared.call.Call.{Call}
 use Rattle.workload.specs.declared.turn.Turn.{Turn}
 use Rattle.workload.specs.declared.turn.Turn.TheVariants as items
@@ -21,7 +22,9 @@ use Rattle.step_runner.specs.Outcomes.{rounds, is_misused, StepsTo}
 use Rattle.step_runner.specs.State.{State, start, IsStateOf}
 use Rattle.step_runner.specs.Turns.{next_call, turn_of, item_of, with_event, and_then, items_of}
 use Rattle.step_runner.specs.Computed.{turns}
+use Rattle.step_runner.proofs.ScriptRuns.{in_script}
 use Rattle.step_runner.proofs.TurnLemmas.{true_false, both_true, all_get, all_at, Takes, takes_by, turn_cases, StepUses}
+use Rattle.step_runner.proofs.RoundLemmas.{LeavesRest}
 use Rattle.step_runner.proofs.RunLemmas.{GoesOn, UsesUp, turns_of, item_valid}
 use Rattle.step_runner.proofs.EndLemmas.{done_replied, is_done, is_misused_by, is_deadlocked, state_of}
 
@@ -43,7 +46,8 @@ AllTakeOneTurn plan = list_all (list_all (λ call. takes_one_turn call.operation
 next_takes_one_turn : (plan : Plan) (worker : ℕ) (s : State) (call : Call) → AllTakeOneTurn plan → next_call plan worker s ≡ Some call → takes_one_turn call.operation ≡ true
 next_takes_one_turn plan worker s call all is =
     let one : Call → Bool = λ call. takes_one_turn call.operation in
-    all_get one (get_or plan.scripts worker []) (length (get_or s.replies worker [])) call (all_at one plan.scripts worker all) is
+    let at = in_script (get_or plan.scripts worker []) (get_or s.replies worker []) call is in
+    all_get one (get_or plan.scripts worker []) at.0 call (all_at one plan.scripts worker all) at.1
 
 turn_goes : Completing → (plan : Plan) (worker : ℕ) (s : State) → AllTakeOneTurn plan → IsStateOf plan s → Goes plan worker s (turn_of plan worker s).1
 turn_goes completes plan worker s all of = turn_cases (λ step. Goes plan worker s step.1) plan worker s of (record {
@@ -106,15 +110,15 @@ still_ended completes plan uses all (worker ∷ workers) s t of is =
 -- ---- the run
 
 -- a run of such scripts is no misuse and no deadlock
-done_by : Completing → (plan : Plan) → GoesOn plan → UsesUp plan → AllTakeOneTurn plan → IsStateOf plan (start plan) → (x : Outcome) → turns plan ≡ x → (report : Report) × StepsTo plan (outcomes.Done report) × (map length report.replies ≡ map length plan.scripts)
-done_by completes plan goes_on uses all of (outcomes.Done report) is = (report, is_done plan goes_on uses of report is, done_replied plan goes_on uses of report (is_done plan goes_on uses of report is))
-done_by completes plan goes_on uses all of (outcomes.Misused report misuse) is =
+done_by : Completing → LeavesRest → (plan : Plan) → GoesOn plan → UsesUp plan → AllTakeOneTurn plan → IsStateOf plan (start plan) → (x : Outcome) → turns plan ≡ x → (report : Report) × StepsTo plan (outcomes.Done report) × (have_tests plan.scripts ≡ false → map length report.replies ≡ map length plan.scripts)
+done_by completes rest plan goes_on uses all of (outcomes.Done report) is = (report, is_done plan goes_on uses of report is, λ straight. done_replied plan goes_on uses rest of straight report (is_done plan goes_on uses of report is))
+done_by completes rest plan goes_on uses all of (outcomes.Misused report misuse) is =
     let misused = is_misused_by plan goes_on uses of report misuse is in
     absurd (true_false (ap (λ (y : State × Step). is_misused y.1) (sym misused.is) ∙ items_go completes plan goes_on all (plan.schedule ++ rounds misused.count plan.workers) (start plan) of))
-done_by completes plan goes_on uses all of (outcomes.Deadlocked report) is =
+done_by completes rest plan goes_on uses all of (outcomes.Deadlocked report) is =
     let dead = is_deadlocked plan goes_on uses of report is in
     let valid = state_of plan goes_on uses dead.state of dead.reached in
     absurd (true_false (sym (still_ended completes plan uses all (range_with_len 0 plan.workers) dead.state dead.state valid dead.still) ∙ dead.going))
 
-pub one_turn_calls_end : Completing → (plan : Plan) → GoesOn plan → UsesUp plan → AllTakeOneTurn plan → IsStateOf plan (start plan) → (report : Report) × StepsTo plan (outcomes.Done report) × (map length report.replies ≡ map length plan.scripts)
-one_turn_calls_end completes plan goes_on uses all of = done_by completes plan goes_on uses all of (turns plan) refl
+pub one_turn_calls_end : Completing → LeavesRest → (plan : Plan) → GoesOn plan → UsesUp plan → AllTakeOneTurn plan → IsStateOf plan (start plan) → (report : Report) × StepsTo plan (outcomes.Done report) × (have_tests plan.scripts ≡ false → map length report.replies ≡ map length plan.scripts)
+one_turn_calls_end completes rest plan goes_on uses all of = done_by completes rest plan goes_on uses all of (turns plan) refl

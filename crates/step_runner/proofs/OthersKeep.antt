@@ -1,6 +1,7 @@
 -- Another's turn leaves a worker's call where it is: what is left of it is the same, and so is where the worker stands.
 use Rattle.std.proofs.Common.{◌≡◌, ◌≢◌, ℕ, Bool, true, false, Option, Some, None, inl, inr, refl, sym, ap, ◌∙◌}
 use Rattle.std.specs.Prelude.{ℤ, if◌then◌else◌}
+use Rattle.script_calls.specs.declared.call.ComposedCall.TheVariants.{IfEqual}
 use Rattle.script_calls.specs.declared.call.Operation.{Operation}
 use Rattle.script_calls.specs.declared.call.Operation.TheVariants as operations
 use Rattle.sync_types.specs.declared.atomic_object.Number.{Number}
@@ -183,6 +184,7 @@ module _ (laws : Laws) (x by moment : ℕ) (apart : x ≢ by) where
   turn_same workers (operations.Map call) (states.Map m) is = tt
   turn_same workers operations.Range (states.Map m) is = tt
   turn_same workers (operations.Atomic call) (states.Atomic number) is = tt
+  turn_same workers (operations.Composed (IfEqual value passes)) (states.Atomic number) is = tt
   turn_same workers (operations.Mutex call) (states.Mutex m) is = mutex_made_same (mutex_due call (mutex.place_of m by)) m is.0
   turn_same workers (operations.RwMutex call) (states.RwMutex m) is =
       made_kept rw.next rw_stages.rw_event rw_stages.rw_meaning by moment (λ n. (rw_waits (rw.place_of n x) ≡ rw_waits (rw.place_of m x)) × ((call : RwMutexCall) → StandsAtRw call x m → StandsAtRw call x n)) (rw_due call (rw.place_of m by)) m

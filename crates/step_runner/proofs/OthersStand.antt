@@ -10,6 +10,7 @@ use Rattle.sync_types.specs.SequentialAtomic.{atomic_reply}
 use Rattle.sync_types.specs.declared.atomic_object.Number.{Number}
 use Rattle.sync_types.specs.declared.atomic_object.Number.TheVariants.{Int64}
 use Rattle.sync_types.specs.declared.atomic_object.AtomicCall.{AtomicCall}
+use Rattle.script_calls.specs.declared.call.ComposedCall.TheVariants.{IfEqual}
 use Rattle.script_calls.specs.declared.call.Operation.{Operation}
 use Rattle.script_calls.specs.declared.call.Operation.TheVariants as operations
 use Rattle.sync_types.specs.declared.map_object.MapCall.{MapCall}
@@ -89,6 +90,7 @@ pub turn_other : Stands → (workers x by : ℕ) (operation : Operation) (moment
 turn_other laws workers x by (operations.Map call) moment (states.Map m) is apart out = tt
 turn_other laws workers x by operations.Range moment (states.Map m) is apart out = tt
 turn_other laws workers x by (operations.Atomic call) moment (states.Atomic number) is apart out = tt
+turn_other laws workers x by (operations.Composed (IfEqual value passes)) moment (states.Atomic number) is apart out = tt
 turn_other laws workers x by (operations.Mutex call) moment (states.Mutex m) is apart out = mutex_made_other laws.mutexes x by moment (mutex_due call (mutex.place_of m by)) m is.0 apart out
 turn_other laws workers x by (operations.RwMutex call) moment (states.RwMutex m) is apart out =
     make_moves rw.next stage_event rw_meaning by moment (λ n. rw.place_of n x ≡ rw_place.Out) (rw_due call (rw.place_of m by)) m out (λ e. rw_other laws.rw_mutexes m x by e is.0 apart out)

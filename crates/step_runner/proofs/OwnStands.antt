@@ -6,6 +6,7 @@ use Rattle.std.proofs.lemmas.Bool.{eq-eqb}
 use Rattle.script_calls.specs.Replies.{is_reply_to}
 use Rattle.sync_types.specs.declared.atomic_object.Number.{Number}
 use Rattle.sync_types.specs.declared.atomic_object.Number.TheVariants.{Int64}
+use Rattle.script_calls.specs.declared.call.ComposedCall.TheVariants.{IfEqual}
 use Rattle.script_calls.specs.declared.call.Operation.{Operation}
 use Rattle.script_calls.specs.declared.call.Operation.TheVariants as operations
 use Rattle.script_calls.specs.declared.call.Reply.{Reply}
@@ -322,6 +323,7 @@ pub turn_own : Stands → (workers x : ℕ) (operation : Operation) (moment : �
 turn_own laws workers x (operations.Map call) moment (states.Map m) below is out = (laws.forms.map call m, tt)
 turn_own laws workers x operations.Range moment (states.Map m) below is out = (refl, tt)
 turn_own laws workers x (operations.Atomic call) moment (states.Atomic held) below is out = (laws.forms.atomic call held, tt)
+turn_own laws workers x (operations.Composed (IfEqual value passes)) moment (states.Atomic held) below is out = (refl, tt)
 turn_own laws workers x (operations.Mutex call) moment (states.Mutex m) below is out = mutex_own laws.mutexes call x moment m (omega (arith, below, is.1)) is.0 out
 turn_own laws workers x (operations.RwMutex call) moment (states.RwMutex m) below is out = rw_own laws.rw_mutexes call x moment m (omega (arith, below, is.1)) is.0 out
 turn_own laws workers x (operations.WaitGroup call) moment (states.WaitGroup g first) below is out = group_own call x moment first g

@@ -8,6 +8,7 @@ use Rattle.script_calls.specs.Outcome.{has_pairs_to}
 use Rattle.sync_types.specs.declared.atomic_object.Number.{Number}
 use Rattle.sync_types.specs.declared.atomic_object.Number.TheVariants.{Int64}
 use Rattle.script_calls.specs.declared.call.Call.{Call}
+use Rattle.script_calls.specs.declared.call.ComposedCall.TheVariants.{IfEqual}
 use Rattle.script_calls.specs.declared.call.Operation.{Operation}
 use Rattle.script_calls.specs.declared.call.Operation.TheVariants as operations
 use Rattle.script_calls.specs.declared.call.Reply.{Reply}
@@ -81,6 +82,7 @@ turn_on_keeps : (names : List (List ℕ)) (most : ℕ) (operation : Operation) (
 turn_on_keeps names most (operations.Map call) worker moment (states.Map m) named room has = (call_keys names call m named has, refl)
 turn_on_keeps names most operations.Range worker moment (states.Map m) named room has = (has, le-leb (length (entries m)) most (omega (arith, len-entries m, count_keys names m has, room)))
 turn_on_keeps names most (operations.Atomic call) worker moment (states.Atomic number) named room has = (tt, refl)
+turn_on_keeps names most (operations.Composed (IfEqual value passes)) worker moment (states.Atomic number) named room has = (tt, refl)
 turn_on_keeps names most (operations.Mutex call) worker moment (states.Mutex m) named room has =
     (tt, make_answer (ShowsTo most) tt tt (λ misuse. tt) locked (λ outcome. refl) mutex.next mutex_event mutex_meaning worker moment (mutex_due call (mutex.place_of m worker)) m)
 turn_on_keeps names most (operations.RwMutex call) worker moment (states.RwMutex m) named room has =

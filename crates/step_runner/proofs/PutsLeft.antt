@@ -1,9 +1,9 @@
 -- A pool has room for every put that is left to make on it.
-use Rattle.std.proofs.Common.{◌≡◌, ℕ, zero, suc, ◌+◌, ◌-◌, ◌<◌, ◌≤◌, true, cond, ◌&&◌, List, [], ◌∷◌, ◌++◌, drop, length, get_or, set, replicate, Some, refl, sym, ap, ◌∙◌, subst, arith}
+use Rattle.std.proofs.Common.{◌≡◌, ℕ, zero, suc, ◌+◌, ◌-◌, ◌<◌, ◌≤◌, true, cond, ◌&&◌, List, [], ◌∷◌, ◌++◌, length, get_or, set, replicate, Some, None, refl, sym, ap, ◌∙◌, subst, arith}
 use Rattle.std.specs.Prelude.{slice_get, count_by}
 use Rattle.std.proofs.lemmas.Bool.{eq-eqb}
-use Rattle.std.proofs.lemmas.List.{length-append}
 use Rattle.std.proofs.lemmas.List.Sums.{sum_by-cons}
+use Rattle.script_calls.specs.Runs.{passed_over, left_of}
 use Rattle.script_calls.specs.declared.call.Call.{Call}
 use Rattle.script_calls.specs.declared.call.Operation.TheVariants as operations
 use Rattle.script_calls.specs.declared.call.Reply.{Reply}
@@ -25,6 +25,7 @@ use Rattle.step_runner.specs.TurnAtObjects.{turn_at}
 use Rattle.workload.specs.Puts.{is_put_at, puts_at}
 use Rattle.step_runner.specs.State.{State, start, with_reply, IsStateOf}
 use Rattle.step_runner.specs.Turns.{next_call, turn_of, after_items}
+use Rattle.step_runner.proofs.ScriptRuns.{GoesFurther, split_first, none_left, count_behind}
 use Rattle.step_runner.proofs.StartLemmas.{each_start}
 use Rattle.step_runner.proofs.TurnLemmas.{Takes, moved, ready, takes_by, turn_cases}
 use Rattle.step_runner.proofs.RunLemmas.{GoesOn, Kept, items_keep, moment_valid}
@@ -34,38 +35,41 @@ pub record Rooms : Type 0 where
   pub begins : (workers room : ℕ) (kind : ObjectKind) → HasRoomFor room (new_object workers room kind)
   pub goes_on : (worker moment : ℕ) (left : ℕ → ℕ) (call : Call) (objects : List ObjectState) → put_of call.object call ≤ left call.object → EachAt (λ place. HasRoomFor (left place)) objects
       → EachAt (λ place. HasRoomFor (left_behind (turn_at call worker moment objects).1 (put_of place call) (left place))) (turn_at call worker moment objects).0
+  pub further : GoesFurther
   pub kept : (worker item left : ℕ) (p : pool.PoolState ℕ) → worker < pool.callers_of p → 1 ≤ left → HasRoomFor left (states.Pool p) → (pool.next p worker (event.Put item)).1 ≡ pool_reply.Kept
 
 -- ---- the puts that are left
 
--- those of one script, behind so many calls
-abbrev pub left_in : ℕ → List Call → ℕ → ℕ
-left_in place script done = count_by (is_put_at place) (drop done script)
+-- those of one script, behind these replies
+abbrev pub left_in : ℕ → List Call → List (Reply (List ℕ)) → ℕ
+left_in place script given = count_by (is_put_at place) (left_of script given)
 
--- those of all scripts, behind these replies
+-- those of all scripts
 abbrev pub puts_left : ℕ → List (List Call) → List (List (Reply (List ℕ))) → ℕ
 puts_left place [] replies = 0
-puts_left place (script ∷ scripts) [] = left_in place script 0 + puts_left place scripts []
-puts_left place (script ∷ scripts) (done ∷ replies) = left_in place script (length done) + puts_left place scripts replies
+puts_left place (script ∷ scripts) [] = left_in place script [] + puts_left place scripts []
+puts_left place (script ∷ scripts) (given ∷ replies) = left_in place script given + puts_left place scripts replies
 
-left_next : (place : ℕ) (script : List Call) (n : ℕ) (call : Call) → slice_get script n ≡ Some call → left_in place script n ≡ put_of place call + left_in place script (suc n)
-left_next place [] n call is = absurd cc
-left_next place (first ∷ script) zero call is =
-    let same : first ≡ call = cc in
-    sum_by-cons (put_of place) first script ∙ ap (λ (c : Call). put_of place c + count_by (is_put_at place) script) same
-left_next place (first ∷ script) (suc n) call is = left_next place script n call is
+left_next : GoesFurther → (place : ℕ) (script : List Call) (given : List (Reply (List ℕ))) (call : Call) (reply : Reply (List ℕ)) → slice_get (left_of script given) 0 ≡ Some call
+    → left_in place script (given ++ reply ∷ []) + put_of place call ≤ left_in place script given
+left_next further place script given call reply is =
+    let left = split_first (left_of script given) call is in
+    let behind = ap (λ (l : List Call). count_by (is_put_at place) l) (further.left script given call left.0 reply left.1) in
+    let before = ap (λ (l : List Call). count_by (is_put_at place) l) left.1 ∙ sum_by-cons (put_of place) call left.0 in
+    omega (arith, behind, before, count_behind (is_put_at place) (passed_over call reply) left.0)
 
 -- one call more is completed
-one_put_fewer : (place : ℕ) (scripts : List (List Call)) (replies : List (List (Reply (List ℕ)))) (worker : ℕ) (call : Call) (reply : Reply (List ℕ)) → worker < length replies
-    → slice_get (get_or scripts worker []) (length (get_or replies worker [])) ≡ Some call
-    → puts_left place scripts (set replies worker (get_or replies worker [] ++ reply ∷ [])) + put_of place call ≡ puts_left place scripts replies
-one_put_fewer place [] replies worker call reply here is = absurd cc
-one_put_fewer place (script ∷ scripts) [] worker call reply here is = absurd (omega (arith, here))
-one_put_fewer place (script ∷ scripts) (done ∷ replies) zero call reply here is =
-    let more : length (done ++ reply ∷ []) ≡ suc (length done) = omega (arith, length-append done (reply ∷ [])) in
-    omega (arith, ap (left_in place script) more, left_next place script (length done) call is)
-one_put_fewer place (script ∷ scripts) (done ∷ replies) (suc worker) call reply here is =
-    omega (arith, one_put_fewer place scripts replies worker call reply (omega (arith, here)) is)
+one_put_fewer : GoesFurther → (place : ℕ) (scripts : List (List Call)) (replies : List (List (Reply (List ℕ)))) (worker : ℕ) (call : Call) (reply : Reply (List ℕ)) → worker < length replies
+    → slice_get (left_of (get_or scripts worker []) (get_or replies worker [])) 0 ≡ Some call
+    → puts_left place scripts (set replies worker (get_or replies worker [] ++ reply ∷ [])) + put_of place call ≤ puts_left place scripts replies
+one_put_fewer further place [] replies worker call reply here is = absurd (no_call (ap (λ (l : List Call). slice_get l 0) (sym (none_left (get_or replies worker []))) ∙ is))
+  where
+    no_call : None ≡ Some call → ⊥
+    no_call e = cc
+one_put_fewer further place (script ∷ scripts) [] worker call reply here is = absurd (omega (arith, here))
+one_put_fewer further place (script ∷ scripts) (given ∷ replies) zero call reply here is = omega (arith, left_next further place script given call reply is)
+one_put_fewer further place (script ∷ scripts) (given ∷ replies) (suc worker) call reply here is =
+    omega (arith, one_put_fewer further place scripts replies worker call reply (omega (arith, here)) is)
 
 none_made : (place : ℕ) (scripts : List (List Call)) (n : ℕ) → puts_left place scripts (replicate {A = List (Reply (List ℕ))} n []) ≡ puts_at place scripts
 none_made place [] n = refl
@@ -73,6 +77,14 @@ none_made place (script ∷ scripts) zero = omega (arith, none_made place script
 none_made place (script ∷ scripts) (suc n) = omega (arith, none_made place scripts n, sum_by-cons (count_by (is_put_at place)) script scripts)
 
 -- ---- every state
+
+-- room for fewer puts than there is room for
+fewer_fit : (more fewer : ℕ) (object : ObjectState) → fewer ≤ more → HasRoomFor more object → HasRoomFor fewer object
+fewer_fit more fewer (states.Pool p) less room = record {
+  primary = λ k part at. omega (arith, less, room.primary k part at);
+  victims = λ k part at. omega (arith, less, room.victims k part at);
+}
+fewer_fit more fewer object less room = tt
 
 -- each object has room for the puts that are left to make there
 abbrev AllFit : (ℕ → ℕ) → List ObjectState → Type 0
@@ -87,22 +99,22 @@ pub record HasRoom (plan : Plan) (s : State) : Type 0 where
   pub fits : AllFit (left_at plan s) s.objects
 
 -- a put before which a worker stands is left to make
-some_left : (plan : Plan) (worker : ℕ) (s : State) (call : Call) (place : ℕ) → IsStateOf plan s → worker < plan.workers → next_call plan worker s ≡ Some call → put_of place call ≤ left_at plan s place
-some_left plan worker s call place of below is =
-    omega (arith, one_put_fewer place plan.scripts s.replies worker call replies.Returned (omega (arith, of.workers, below)) is)
+some_left : GoesFurther → (plan : Plan) (worker : ℕ) (s : State) (call : Call) (place : ℕ) → IsStateOf plan s → worker < plan.workers → next_call plan worker s ≡ Some call → put_of place call ≤ left_at plan s place
+some_left further plan worker s call place of below is =
+    omega (arith, one_put_fewer further place plan.scripts s.replies worker call replies.Returned (omega (arith, of.workers, below)) is)
 
 takes_fits : Rooms → (plan : Plan) (worker : ℕ) (s : State) (call : Call) (objects : List ObjectState) (answer : Answer) → HasRoom plan s → Takes plan worker s call objects answer
     → AllFit (λ place. left_behind answer (put_of place call) (left_at plan s place)) objects
 takes_fits rooms plan worker s call objects answer has takes =
     takes_by (λ x. AllFit (λ place. left_behind x.1 (put_of place call) (left_at plan s place)) x.0) plan worker s call objects answer has.of takes
-    (λ r. rooms.goes_on worker s.moment (left_at plan s) call s.objects (some_left plan worker s call call.object has.of takes.below takes.next) has.fits)
+    (λ r. rooms.goes_on worker s.moment (left_at plan s) call s.objects (some_left rooms.further plan worker s call call.object has.of takes.below takes.next) has.fits)
 
 completed_fits : Rooms → (plan : Plan) (worker : ℕ) (s : State) (call : Call) (objects : List ObjectState) (reply : Reply (List ℕ)) → HasRoom plan s → Takes plan worker s call objects (answers.Completed reply)
     → AllFit (left_at plan (with_reply worker reply (moved objects s))) objects
 completed_fits rooms plan worker s call objects reply has takes place object at =
-    let fewer = one_put_fewer place plan.scripts s.replies worker call reply (omega (arith, has.of.workers, takes.below)) takes.next in
-    let left : left_at plan s place - put_of place call ≡ left_at plan (with_reply worker reply (moved objects s)) place = omega (arith, fewer) in
-    subst (λ n. HasRoomFor n object) left (takes_fits rooms plan worker s call objects (answers.Completed reply) has takes place object at)
+    let fewer = one_put_fewer rooms.further place plan.scripts s.replies worker call reply (omega (arith, has.of.workers, takes.below)) takes.next in
+    fewer_fit (left_at plan s place - put_of place call) (left_at plan (with_reply worker reply (moved objects s)) place) object (omega (arith, fewer))
+    (takes_fits rooms plan worker s call objects (answers.Completed reply) has takes place object at)
 
 turn_fits : Rooms → (plan : Plan) (worker : ℕ) (s : State) → HasRoom plan s → AllFit (left_at plan (turn_of plan worker s).0) (turn_of plan worker s).0.objects
 turn_fits rooms plan worker s has = turn_cases (λ step. AllFit (left_at plan step.0) step.0.objects) plan worker s has.of (record {
@@ -137,4 +149,4 @@ put_is_kept rooms plan worker s place item p has is there =
     let below : worker < plan.workers = (ready plan worker s call has.of is).below in
     let parts : length p.primary ≡ plan.workers = (has.of.machines place (states.Pool p) there).0 in
     let one : put_of place call ≡ 1 = ap (λ b. cond (b && true) 1 0) (eq-eqb place place refl) in
-    rooms.kept worker item (left_at plan s place) p (omega (arith, below, parts)) (omega (arith, some_left plan worker s call place has.of below is, one)) (has.fits place (states.Pool p) there)
+    rooms.kept worker item (left_at plan s place) p (omega (arith, below, parts)) (omega (arith, some_left rooms.further plan worker s call place has.of below is, one)) (has.fits place (states.Pool p) there)

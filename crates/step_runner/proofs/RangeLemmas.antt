@@ -10,6 +10,7 @@ use Rattle.sync_types.specs.declared.atomic_object.AtomicKind.{AtomicKind}
 use Rattle.sync_types.specs.declared.atomic_object.Number.{Number}
 use Rattle.sync_types.specs.declared.atomic_object.Number.TheVariants.{Int64}
 use Rattle.script_calls.specs.declared.call.Call.{Call}
+use Rattle.script_calls.specs.declared.call.ComposedCall.TheVariants.{IfEqual}
 use Rattle.script_calls.specs.declared.call.Operation.{Operation}
 use Rattle.script_calls.specs.declared.call.Operation.TheVariants as operations
 use Rattle.wait_cores.specs.OnceMachine as once
@@ -39,6 +40,7 @@ turn_on_stays : StaysInRange → (operation : Operation) (worker moment : ℕ) (
 turn_on_stays law (operations.Atomic call) worker moment (states.Atomic held) has is =
     subst (λ (kind : AtomicKind). is_of kind (atomic_after call held) ≡ true) (sym (after_type call held has)) (law (atomics.kind_of held) call held is has)
 turn_on_stays law (operations.Map call) worker moment (states.Map m) has is = tt
+turn_on_stays law (operations.Composed (IfEqual value passes)) worker moment (states.Atomic held) has is = is
 turn_on_stays law operations.Range worker moment (states.Map m) has is = tt
 turn_on_stays law (operations.Mutex call) worker moment (states.Mutex m) has is = tt
 turn_on_stays law (operations.RwMutex call) worker moment (states.RwMutex m) has is = tt

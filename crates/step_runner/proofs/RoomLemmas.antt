@@ -8,6 +8,7 @@ use Rattle.std.proofs.lemmas.List.{length-take}
 use Rattle.sync_types.specs.declared.atomic_object.Number.{Number}
 use Rattle.sync_types.specs.declared.atomic_object.Number.TheVariants.{Int64}
 use Rattle.script_calls.specs.declared.call.Call.{Call}
+use Rattle.script_calls.specs.declared.call.ComposedCall.TheVariants.{IfEqual}
 use Rattle.script_calls.specs.declared.call.Operation.{Operation}
 use Rattle.script_calls.specs.declared.call.Operation.TheVariants as operations
 use Rattle.sync_types.specs.declared.pool_call.PoolCall.TheVariants as pool_calls
@@ -197,6 +198,7 @@ turn_on_fits one left (operations.Pool pool_calls.Sweep) worker moment (states.P
 turn_on_fits one left (operations.Map call) worker moment (states.Map m) is some fit = tt
 turn_on_fits one left operations.Range worker moment (states.Map m) is some fit = tt
 turn_on_fits one left (operations.Atomic call) worker moment (states.Atomic number) is some fit = tt
+turn_on_fits one left (operations.Composed (IfEqual value passes)) worker moment (states.Atomic number) is some fit = tt
 turn_on_fits one left (operations.Mutex call) worker moment (states.Mutex m) is some fit = tt
 turn_on_fits one left (operations.RwMutex call) worker moment (states.RwMutex m) is some fit = tt
 turn_on_fits one left (operations.WaitGroup call) worker moment (states.WaitGroup g first) is some fit = tt

@@ -1,10 +1,10 @@
 -- Rounds, and what comes behind every script's end.
-use Rattle.std.proofs.Common.{◌≡◌, ◌≢◌, ℕ, zero, suc, ◌+◌, ◌-◌, ◌<◌, ◌≤◌, Bool, true, false, eqb, List, [], ◌∷◌, map, length, get_or, Option, Some, None, refl, sym, ap, ◌∙◌, subst, inl, inr, arith}
-use Rattle.std.specs.Prelude.{is_some, not, nat_lt, if◌then◌else◌}
+use Rattle.std.proofs.Common.{◌≡◌, ◌≢◌, ℕ, zero, suc, ◌+◌, ◌<◌, ◌≤◌, Bool, true, false, eqb, List, [], ◌∷◌, map, drop, length, get_or, Option, Some, None, refl, sym, ap, ◌∙◌, subst, length-drop, arith}
+use Rattle.std.specs.Prelude.{is_some, not, nat_lt, slice_get, if◌then◌else◌}
 use Rattle.std.specs.List.{list_all, range_with_len}
 use Rattle.std.specs.Option.{option_map_or}
 use Rattle.std.proofs.lemmas.Bool.{eqb-true, eqb-false, ltb-true, ltb-false}
-use Rattle.std.proofs.lemmas.Option.{slice_get_past, slice_get_cases}
+use Rattle.script_calls.specs.Runs.{has_test, have_tests, left_of}
 use Rattle.script_calls.specs.declared.call.Call.{Call}
 use Rattle.script_calls.specs.declared.call.Reply.{Reply}
 use Rattle.workload.specs.declared.turn.Turn.{Turn}
@@ -17,33 +17,15 @@ use Rattle.script_calls.specs.declared.outcome.Ending.TheVariants as endings
 use Rattle.step_runner.specs.LeftToDo.{left_to_do}
 use Rattle.step_runner.specs.State.{State, with_moment, IsStateOf}
 use Rattle.step_runner.specs.TurnAtObjects.{turn_at}
-use Rattle.step_runner.specs.Turns.{next_call, settled_with, turn_of, and_then, items_of, round, has_ended}
+use Rattle.step_runner.specs.Turns.{left_for, next_call, settled_with, turn_of, and_then, items_of, round, has_ended}
 use Rattle.step_runner.specs.Computed.{behind_round, rounds_of, all_rounds}
+use Rattle.step_runner.proofs.ScriptRuns.{none_first, none_left, no_test}
 use Rattle.step_runner.proofs.TurnLemmas.{both, both_true, true_false, valid_scripts}
 use Rattle.step_runner.proofs.RunLemmas.{GoesOn, UsesUp, turns_of, ItemsUse, items_valid, workers_use}
 
 -- ---- the workers whose scripts have ended
 
-some_none : {X : Type 0} (x : X) → Some x ≡ None → ⊥
-some_none x e = cc
-
--- how many calls of a worker are left
-abbrev left_at : Plan → State → ℕ → ℕ
-left_at plan s worker = length (get_or plan.scripts worker []) - length (get_or s.replies worker [])
-
-none_left_at : (plan : Plan) (worker : ℕ) (s : State) → next_call plan worker s ≡ None → left_at plan s worker ≡ 0
-none_left_at plan worker s is =
-    let script = get_or plan.scripts worker [] in
-    let done = length (get_or s.replies worker []) in
-    elim (slice_get_cases script done).1 as (λ c. length script - done ≡ 0) [
-      | inl found ↦ absurd (some_none found.0 (sym found.2 ∙ is))
-      | inr past ↦ omega (arith, past.0)
-    ]
-
-none_next : (plan : Plan) (worker : ℕ) (s : State) → left_at plan s worker ≡ 0 → next_call plan worker s ≡ None
-none_next plan worker s none = slice_get_past (get_or plan.scripts worker []) (length (get_or s.replies worker [])) (omega (arith, none))
-
-past_end : (scripts : List (List Call)) (k : ℕ) → length scripts ≤ k → length (get_or scripts k []) ≡ 0
+past_end : (scripts : List (List Call)) (k : ℕ) → length scripts ≤ k → get_or scripts k [] ≡ []
 past_end [] k past = refl
 past_end (script ∷ scripts) zero past = absurd (omega arith)
 past_end (script ∷ scripts) (suc k) past = past_end scripts k (omega arith)
@@ -80,8 +62,7 @@ ended_next plan s of ended k = elim (nat_lt k plan.workers) as (λ b. nat_lt k p
   | true ↦ λ e. not_some (next_call plan k s) (each_from (is_at_end plan s) 0 plan.workers ended k (omega arith) (omega (arith, ltb-true k plan.workers e)))
   | false ↦ λ e.
       let past : length plan.scripts ≤ k = omega (arith, valid_scripts plan of.valid, ltb-false k plan.workers e) in
-      let none : length (get_or plan.scripts k []) ≡ 0 = past_end plan.scripts k past in
-      none_next plan k s (omega (arith, none))
+      ap (λ (script : List Call). slice_get (left_of script (get_or s.replies k [])) 0) (past_end plan.scripts k past) ∙ ap (λ (l : List Call). slice_get l 0) (none_left (get_or s.replies k []))
 ] refl
 
 -- where a worker stands before a call, not every script has ended
@@ -176,7 +157,10 @@ going_before plan s t step of is some = elim (has_ended plan s) as (λ b. has_en
   | false ↦ λ e. refl
 ] refl
 
--- replies for all calls where every script has ended
+-- nothing is left of any script where every script has ended
+pub nothing_left : (plan : Plan) (s : State) → IsStateOf plan s → has_ended plan s ≡ true → (k : ℕ) → left_for plan k s ≡ []
+nothing_left plan s of ended k = none_first (left_for plan k s) (ended_next plan s of ended k)
+
 same_lengths : (scripts : List (List Call)) (replies : List (List (Reply (List ℕ)))) → length replies ≡ length scripts → ((k : ℕ) → length (get_or replies k []) ≡ length (get_or scripts k [])) → map length replies ≡ map length scripts
 same_lengths [] [] e each = refl
 same_lengths [] (r ∷ rs) e each = absurd (omega arith)
@@ -186,6 +170,17 @@ same_lengths (c ∷ cs) (r ∷ rs) e each =
     let first : length r ≡ length c = each 0 in
     λ i. first i ∷ rest i
 
-pub all_replied : (plan : Plan) (s : State) → IsStateOf plan s → has_ended plan s ≡ true → map length s.replies ≡ map length plan.scripts
-all_replied plan s of ended =
-    same_lengths plan.scripts s.replies (of.workers ∙ sym (valid_scripts plan of.valid)) (λ k. omega (arith, none_left_at plan k s (ended_next plan s of ended k), of.within k))
+-- what the law says of a script without tests
+abbrev pub LeavesRest : Type 0
+LeavesRest = (script : List Call) (given : List (Reply (List ℕ))) → has_test script ≡ false → left_of script given ≡ drop (length given) script
+
+-- then all calls have replies
+pub all_replied : LeavesRest → (plan : Plan) (s : State) → IsStateOf plan s → have_tests plan.scripts ≡ false → has_ended plan s ≡ true → map length s.replies ≡ map length plan.scripts
+all_replied rest plan s of straight ended = same_lengths plan.scripts s.replies (of.workers ∙ sym (valid_scripts plan of.valid)) same
+  where
+    same : (k : ℕ) → length (get_or s.replies k []) ≡ length (get_or plan.scripts k [])
+    same k =
+        let script = get_or plan.scripts k [] in
+        let given = get_or s.replies k [] in
+        let none : drop (length given) script ≡ [] = sym (rest script given (no_test plan.scripts k straight)) ∙ nothing_left plan s of ended k in
+        omega (arith, of.within k, length-drop (length given) script, ap (length {A = Call}) none)

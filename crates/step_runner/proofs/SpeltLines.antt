@@ -50,22 +50,6 @@ pub map-push : {X Y : Type 0} (f : X → Y) (xs : List X) (x : X) → map f (xs 
 map-push f [] x = refl
 map-push {Y = Y} f (y ∷ xs) x = ap (λ (l : List Y). f y ∷ l) (map-push f xs x)
 
--- what stands behind so many
-pub get-behind : {X : Type 0} (xs ys : List X) → slice_get (xs ++ ys) (length xs) ≡ slice_get ys 0
-get-behind [] ys = refl
-get-behind (x ∷ xs) ys = get-behind xs ys
-
-pub split_first : {X : Type 0} (ys : List X) (y : X) → slice_get ys 0 ≡ Some y → (rest : List X) × (ys ≡ y ∷ rest)
-split_first [] y at = absurd cc
-split_first {X = X} (x ∷ ys) y at = (ys, ap (λ (z : X). z ∷ ys) (one at))
-  where
-    one : {a b : X} → Some a ≡ Some b → a ≡ b
-    one e = cc
-
-pub none_first : {X : Type 0} (ys : List X) → slice_get ys 0 ≡ None → ys ≡ []
-none_first [] at = refl
-none_first (x ∷ ys) at = absurd cc
-
 -- ---- all workers
 
 -- a list is what stands at each of its places

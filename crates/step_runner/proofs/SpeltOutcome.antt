@@ -3,17 +3,20 @@ use Rattle.std.proofs.Common.{◌≡◌, ℕ, zero, suc, ◌+◌, ◌≤◌, Lis
 use Rattle.std.specs.Prelude.{slice_get}
 use Rattle.std.specs.List.{range_with_len}
 use Rattle.std.proofs.lemmas.List.{length-map}
+use Rattle.std.proofs.lemmas.List.FromFn.{length-range_with_len}
 use Rattle.script_calls.specs.declared.call.Reply.{Reply}
 use Rattle.sync_types.specs.declared.misuse.Misuse.{Misuse}
 use Rattle.script_calls.specs.declared.outcome.Outcome.{Outcome}
 use Rattle.script_calls.specs.declared.outcome.Outcome.TheVariants as outcomes
 use Rattle.script_calls.specs.declared.outcome.Report.{Report}
 use Rattle.script_calls.specs.Outcome.{left_by}
+use Rattle.script_calls.specs.Runs.{left_of, RunsAlong}
+use Rattle.script_calls.specs.declared.call.Call.{Call}
 use Rattle.workload.specs.declared.turn.Turn.{Turn}
 use Rattle.workload.specs.Draft.{all_keys, distinct_count}
 use Rattle.workload.specs.Plan.{Plan}
 use Rattle.run_record.specs.Explains.{AreLines}
-use Rattle.run_record.specs.Lines.{Line, script_of, items_of, replies_of, IsLineOf}
+use Rattle.run_record.specs.Lines.{Line, calls_made, items_of, replies_of, IsLineOf}
 use Rattle.run_record.specs.Record.{Record}
 use Rattle.step_runner.specs.Items.{Item}
 use Rattle.step_runner.specs.Recorded.{recorded_reply}
@@ -27,6 +30,7 @@ use Rattle.step_runner.specs.Turns.{items_of as after_all, after_items}
 use Rattle.step_runner.proofs.FormLemmas.{TurnStands, standing_kept, start_stands}
 use Rattle.step_runner.proofs.RunKeys.{Keys, keys_kept, start_keys}
 use Rattle.step_runner.proofs.RunLemmas.{GoesOn, Kept}
+use Rattle.step_runner.proofs.Numbered.{NamesAside, get_mapped, left_numbered}
 use Rattle.step_runner.proofs.SpeltLines.{list-range, range-get}
 use Rattle.step_runner.proofs.SpeltRun.{Spells, Run, items_fall, nothing, begun}
 use Rattle.step_runner.proofs.TurnLemmas.{TurnsUse, valid_scripts}
@@ -66,12 +70,7 @@ same_map : {X Y : Type 0} (f g : X → Y) → ((x : X) → f x ≡ g x) → (xs 
 same_map f g same [] = refl
 same_map f g same (x ∷ xs) = λ i. same x i ∷ same_map f g same xs i
 
-get_mapped : {X Y : Type 0} (f : List X → List Y) (xs : List (List X)) (k : ℕ) → f [] ≡ [] → get_or (map f xs) k [] ≡ f (get_or xs k [])
-get_mapped f [] k none = sym none
-get_mapped f (x ∷ xs) zero none = refl
-get_mapped f (x ∷ xs) (suc k) none = get_mapped f xs k none
-
-module _ (plan : Plan) (made : List Item) (s : State) (of : IsStateOf plan s) (parts : ℕ → ℕ → List Item) (met : ℕ → Option Misuse)
+module _ (names : NamesAside) (plan : Plan) (made : List Item) (s : State) (of : IsStateOf plan s) (parts : ℕ → ℕ → List Item) (met : ℕ → Option Misuse)
     (falls : (worker : ℕ) → Falls plan worker made (parts worker) (get_or s.replies worker []) (met worker)) where
   abbrev line_of : ℕ → Line
   line_of worker = (falls worker).line
@@ -94,16 +93,18 @@ module _ (plan : Plan) (made : List Item) (s : State) (of : IsStateOf plan s) (p
   are_lines r outcome lists replies = (
     lines,
     record {
-      scripts = of_lines script_of plan.scripts (valid_scripts plan of.valid) (λ worker. (falls worker).script);
+      count = length-map workers line_of ∙ length-range_with_len 0 plan.workers ∙ sym (valid_scripts plan of.valid);
+      runs = λ worker line at. subst (λ (l : Line). RunsAlong (get_or plan.scripts worker []) (calls_made l) l.rest) (ap line_of (sym (from_zero worker)) ∙ range-get line_of 0 plan.workers worker line at) (falls worker).runs;
       lists = two_maps line_of items_of workers ∙ same_map (λ worker. items_of (line_of worker)) (list_of plan made) (λ worker. (falls worker).items) workers ∙ sym lists;
       replies = of_lines replies_of (numbered plan s.replies) (length-map s.replies (map (recorded_reply plan)) ∙ of.workers) (λ worker. (falls worker).replies ∙ sym (get_mapped (map (recorded_reply plan)) s.replies worker refl)) ∙ sym replies;
       each = λ worker line at. subst (IsLineOf plan worker) (ap line_of (sym (from_zero worker)) ∙ range-get line_of 0 plan.workers worker line at) (falls worker).is;
     },
     λ worker line at.
-        let same : (worker : ℕ) → length (get_or (left_by outcome).replies worker []) ≡ length (get_or s.replies worker []) = λ worker.
-        ap (λ (all : List (List (Reply ℕ))). length (get_or all worker [])) replies ∙ ap (length {A = Reply ℕ}) (get_mapped (map (recorded_reply plan)) s.replies worker refl) ∙ length-map (get_or s.replies worker []) (recorded_reply plan) in
+        let script = get_or plan.scripts worker [] in
+        let same : left_of script (get_or (left_by outcome).replies worker []) ≡ left_of script (get_or s.replies worker []) =
+        ap (λ (all : List (List (Reply ℕ))). left_of script (get_or all worker [])) replies ∙ left_numbered names plan worker s.replies in
         subst (λ (l : Line). (l.ending ≡ ending_of plan worker (get_or (left_by outcome).replies worker []) (met worker)) × (l.halts ≡ [])) (ap line_of (sym (from_zero worker)) ∙ range-get line_of 0 plan.workers worker line at)
-        ((falls worker).ends ∙ ap (λ (n : ℕ). ending_by (slice_get (get_or plan.scripts worker []) n) (met worker)) (sym (same worker)), (falls worker).halts),
+        ((falls worker).ends ∙ ap (λ (l : List Call). ending_by (slice_get l 0) (met worker)) (sym same), (falls worker).halts),
   )
 
 -- ---- at the end
@@ -116,7 +117,7 @@ module _ (laws : SpeltLaws) (plan : Plan) (goes : GoesOn plan) (of : IsStateOf p
   lined : (outcome : Outcome) (count : ℕ) (s : State) (step : Step) → after_all plan (plan.schedule ++ rounds count plan.workers) (start plan) ≡ (s, step) → (left_by outcome).replies ≡ numbered plan s.replies → Lined plan outcome count
   lined outcome count s step is replies r lists =
       let turns = plan.schedule ++ rounds count plan.workers in
-      are_lines plan (all_made plan turns (start plan)) (after_items plan turns (start plan)) (kept turns) (λ worker number. made_for plan worker number turns (start plan)) (λ worker. misuse_of plan worker turns (start plan)) (run_falls laws plan goes of turns) r outcome lists
+      are_lines laws.spells.runs.names plan (all_made plan turns (start plan)) (after_items plan turns (start plan)) (kept turns) (λ worker number. made_for plan worker number turns (start plan)) (λ worker. misuse_of plan worker turns (start plan)) (run_falls laws plan goes of turns) r outcome lists
       (replies ∙ ap (λ (x : State × Step). numbered plan x.0.replies) (sym is))
 
   pub outcome_lined : (outcome : Outcome) → StepsTo plan outcome → (count : ℕ) × Lined plan outcome count

@@ -1,11 +1,12 @@
 -- The items of each call of a run spell it.
-use Rattle.std.proofs.Common.{◌≡◌, ◌≢◌, ℕ, zero, suc, ◌+◌, ◌<◌, Bool, true, false, eqb, List, [], ◌∷◌, ◌++◌, map, filter, length, get_or, replicate, Option, Some, None, refl, sym, ap, ◌∙◌, subst, append-nil, append_assoc, arith, ◌&&◌}
+use Rattle.std.proofs.Common.{◌≡◌, ◌≢◌, ℕ, ◌+◌, ◌<◌, Bool, true, false, eqb, List, [], ◌∷◌, ◌++◌, map, drop, filter, length, get_or, Option, Some, None, refl, sym, ap, ◌∙◌, subst, append-nil, append_assoc, arith, ◌&&◌}
 use Rattle.std.specs.Prelude.{◌==◌, Ok, Err, slice_get, sum_by, All, if◌then◌else◌}
 use Rattle.std.specs.Option.{option_map_or}
 use Rattle.std.proofs.lemmas.Bool.{eq-eqb, eqb-true, eqb-false}
 use Rattle.std.proofs.lemmas.List.{length-map, get_or-set_same}
 use Rattle.std.proofs.lemmas.List.Elements.{filter-append}
 use Rattle.sync_model.specs.declared.answer.Answer.TheVariants.{Done}
+use Rattle.script_calls.specs.Runs.{passed_over, left_of, made_of, RunsAlong}
 use Rattle.script_calls.specs.declared.call.Call.{Call}
 use Rattle.script_calls.specs.declared.call.Reply.{Reply}
 use Rattle.sync_types.specs.declared.misuse.Misuse.{Misuse}
@@ -15,6 +16,7 @@ use Rattle.workload.specs.declared.object.ObjectLine.{ObjectLine}
 use Rattle.workload.specs.declared.turn.Turn.{Turn}
 use Rattle.workload.specs.declared.turn.Turn.TheVariants as items
 use Rattle.workload.specs.Draft.{all_keys, distinct_count}
+use Rattle.workload.specs.Keys.{keys_in, key_number}
 use Rattle.workload.specs.Plan.{Plan}
 use Rattle.workload.specs.Puts.{puts_at}
 use Rattle.run_record.specs.Calls.{SpellsCall}
@@ -41,15 +43,25 @@ use Rattle.step_runner.specs.RunItems.{made_by, unless_ended, all_made}
 use Rattle.step_runner.specs.CallTurns.{stands_before}
 use Rattle.step_runner.specs.Spelt.{by_worker, list_of, part_by, made_for, misuse_by, misuse_of, ending_by, Falls}
 use Rattle.step_runner.specs.State.{State, start, with_reply, with_moment, IsStateOf}
-use Rattle.step_runner.specs.Turns.{next_call, settled, turn_of, and_then, items_of as after_all, after_items}
+use Rattle.step_runner.specs.Turns.{left_for, next_call, settled, turn_of, and_then, items_of as after_all, after_items}
 use Rattle.step_runner.proofs.FormLemmas.{TurnStands, Standing, own_at, kinds_in}
 use Rattle.step_runner.proofs.MadeLemmas.{event_state}
+use Rattle.step_runner.proofs.Numbered.{NamesAside}
 use Rattle.step_runner.proofs.RunKeys.{HasKeys}
 use Rattle.step_runner.proofs.RunLemmas.{GoesOn, Kept}
-use Rattle.step_runner.proofs.SpeltLines.{count-append, recorded-append, flat-push, spelt-push, map-push, get-behind, split_first, none_first}
+use Rattle.step_runner.proofs.SpeltLines.{count-append, recorded-append, flat-push, spelt-push, map-push}
 use Rattle.step_runner.proofs.SpeltTurns.{items_in, count_in, ByTurns, same_parts, more_last, more_spelt, part_of_other, part_of_own, part_elsewhere}
-use Rattle.step_runner.proofs.StartLemmas.{each_start}
+use Rattle.step_runner.proofs.ScriptRuns.{split_first, none_first}
+use Rattle.step_runner.proofs.StartLemmas.{each_start, none_replied}
 use Rattle.step_runner.proofs.TurnLemmas.{TurnsUse, Takes, takes_by, turn_cases, moved, ready, replied_other, turn_before}
+
+-- what the laws of runs say
+pub record RunsTold : Type 0 where
+  pub told : (script rest : List Call) (made : List (Call × Reply ℕ)) → RunsAlong script made rest
+      → (map (λ (one : Call × Reply ℕ). one.0) made ≡ made_of script (map (λ (one : Call × Reply ℕ). one.1) made)) × (rest ≡ left_of script (map (λ (one : Call × Reply ℕ). one.1) made))
+  pub along : (script : List Call) (made : List (Call × Reply ℕ)) (call : Call) (rest : List Call) (reply : Reply ℕ) → RunsAlong script made (call ∷ rest)
+      → RunsAlong script (made ++ (call, reply) ∷ []) (drop (passed_over call reply) rest)
+  pub names : NamesAside
 
 -- what the laws of turns say
 pub record Spells : Type 0 where
@@ -69,6 +81,7 @@ pub record Spells : Type 0 where
       → IsWithin worker call objects × ((items : List Made) (answer : CallAnswer (Reply ℕ)) → left_at plan worker before call objects items answer → SpellsCall plan worker before call items answer)
   pub goes_on : (plan : Plan) (worker before : ℕ) (call : Call) (objects : List ObjectState) → IsReady plan.workers worker call objects → (later : List Made) × (answer : CallAnswer (Reply ℕ)) × left_at plan worker before call objects later answer
   pub by_itself : (worker moment : ℕ) (call : Call) (objects : List ObjectState) → filter (λ item. item.caller == worker) (items_at call worker moment objects) ≡ items_at call worker moment objects
+  pub runs : RunsTold
   pub by_no_other : (worker other moment : ℕ) (call : Call) (objects : List ObjectState) → worker ≢ other → filter (λ item. item.caller == other) (items_at call worker moment objects) ≡ []
 
 -- ---- what is so of a worker's items so far
@@ -91,23 +104,35 @@ Stands plan worker before last None objects = (last ≡ []) × EachAt (λ place.
 Stands plan worker before last (Some call) objects =
     IsWithin worker call objects × ((later : List Made) (answer : CallAnswer (Reply ℕ)) → left_at plan worker (before + count_in last) call objects later answer → SpellsCall plan worker before call (last ++ later) answer)
 
+-- the completed calls with their replies, as a line has them
+abbrev calls_in : List SpeltCall → List (Call × Reply ℕ)
+calls_in spelt = map (λ (x : SpeltCall). (x.call, x.reply)) spelt
+
 pub record SoFar (plan : Plan) (worker : ℕ) (made : Trace) (s : State) : Type 0 where
   spelt : List SpeltCall
   last : List Made
   rest : List Call
-  script : map (λ (x : SpeltCall). x.call) spelt ++ rest ≡ get_or plan.scripts worker []
+  runs : RunsAlong (get_or plan.scripts worker []) (calls_in spelt) rest
   replies : map (λ (x : SpeltCall). x.reply) spelt ≡ map (recorded_reply plan) (get_or s.replies worker [])
   items : items_in spelt ++ last ≡ list_of plan made.all worker
   turns : ByTurns plan spelt last (made.parts worker)
   are : AreSpelt plan worker 0 spelt
   stands : Stands plan worker (count_in (items_in spelt)) last (next_call plan worker s) s.objects
 
+-- the rest is what the worker's replies leave of its script
+rest_left : Spells → (plan : Plan) (worker : ℕ) (made : Trace) (s : State) (h : SoFar plan worker made s) → h.rest ≡ left_for plan worker s
+rest_left laws plan worker made s h =
+    let script = get_or plan.scripts worker [] in
+    let given = get_or s.replies worker [] in
+    (laws.runs.told script h.rest (calls_in h.spelt) h.runs).1 ∙ ap (λ (given : List (Reply ℕ)). left_of script given) (replies_of h.spelt ∙ h.replies) ∙ laws.runs.names.left (key_number (keys_in plan.scripts)) script given
+  where
+    replies_of : (spelt : List SpeltCall) → map (λ (one : Call × Reply ℕ). one.1) (calls_in spelt) ≡ map (λ (x : SpeltCall). x.reply) spelt
+    replies_of [] = refl
+    replies_of (one ∷ spelt) = ap (λ (l : List (Reply ℕ)). one.reply ∷ l) (replies_of spelt)
+
 -- the next call is the first that is left
-next_left : (plan : Plan) (worker : ℕ) (made : Trace) (s : State) (h : SoFar plan worker made s) → next_call plan worker s ≡ slice_get h.rest 0
-next_left plan worker made s h =
-    let count : length (get_or s.replies worker []) ≡ length (map (λ (x : SpeltCall). x.call) h.spelt) =
-    sym (length-map (get_or s.replies worker []) (recorded_reply plan)) ∙ ap (length {A = Reply ℕ}) (sym h.replies) ∙ length-map h.spelt (λ (x : SpeltCall). x.reply) ∙ sym (length-map h.spelt (λ (x : SpeltCall). x.call)) in
-    (λ i. slice_get (sym h.script i) (count i)) ∙ get-behind (map (λ (x : SpeltCall). x.call) h.spelt) h.rest
+next_left : Spells → (plan : Plan) (worker : ℕ) (made : Trace) (s : State) (h : SoFar plan worker made s) → next_call plan worker s ≡ slice_get h.rest 0
+next_left laws plan worker made s h = ap (λ (l : List Call). slice_get l 0) (sym (rest_left laws plan worker made s h))
 
 -- it has as many replies as calls were completed
 count_spelt : (plan : Plan) (worker : ℕ) (made : Trace) (s : State) (h : SoFar plan worker made s) → length (get_or s.replies worker []) ≡ length h.spelt
@@ -127,22 +152,22 @@ ends_line laws plan worker made s of h = by_next (next_call plan worker s) refl
         let stands = subst (λ (o : Option Call). Stands plan worker (count_in (items_in h.spelt)) h.last o s.objects) none h.stands in
         record {
           line = record { spelt = h.spelt; last = h.last; halts = []; rest = h.rest; ending = whole };
-          script = h.script;
+          runs = h.runs;
           items = unhalted (items_in h.spelt) h.last ∙ h.items;
           replies = h.replies;
           turns = h.turns.each;
           behind = h.turns.current;
           ends = sym (ap (λ (o : Option Call). ending_by o None) none);
-          is = record { calls = h.are; ends = (none_first h.rest (sym (next_left plan worker made s h) ∙ none), stands.0); halts = refl };
+          is = record { calls = h.are; ends = (none_first h.rest (sym (next_left laws plan worker made s h) ∙ none), stands.0); halts = refl };
           halts = refl;
         }
     by_next (Some call) some =
         let stands = subst (λ (o : Option Call). Stands plan worker (count_in (items_in h.spelt)) h.last o s.objects) some h.stands in
-        let split = split_first h.rest call (sym (next_left plan worker made s h) ∙ some) in
+        let split = split_first h.rest call (sym (next_left laws plan worker made s h) ∙ some) in
         let can = laws.goes_on plan worker (count_in (items_in h.spelt) + count_in h.last) call s.objects (ready plan worker s call of some) in
         record {
           line = record { spelt = h.spelt; last = h.last; halts = []; rest = call ∷ split.0; ending = unfinished };
-          script = ap (λ (l : List Call). map (λ (x : SpeltCall). x.call) h.spelt ++ l) (sym split.1) ∙ h.script;
+          runs = subst (RunsAlong (get_or plan.scripts worker []) (calls_in h.spelt)) split.1 h.runs;
           items = unhalted (items_in h.spelt) h.last ∙ h.items;
           replies = h.replies;
           turns = h.turns.each;
@@ -217,12 +242,12 @@ module _ (laws : Spells) (stand_laws : TurnStands) (uses : TurnsUse) (plan : Pla
       spelt = h.spelt;
       last = h.last;
       rest = h.rest;
-      script = h.script;
+      runs = h.runs;
       replies = h.replies ∙ ap (map (recorded_reply plan)) (sym same);
       items = h.items ∙ sym (other_list made.all worker apart);
       turns = same_parts plan h.spelt h.last (made.parts worker) ((more plan made by s).parts worker) (λ k. ap (λ (l : List Item). made.parts worker k ++ l) (part_of_other plan worker k by s apart) ∙ append-nil (made.parts worker k)) h.turns;
       are = h.are;
-      stands = subst (λ (done : List (Reply (List ℕ))). Stands plan worker (count_in (items_in h.spelt)) h.last (slice_get (get_or plan.scripts worker []) (length done)) t.objects) (sym same) stands;
+      stands = subst (λ (done : List (Reply (List ℕ))). Stands plan worker (count_in (items_in h.spelt)) h.last (slice_get (left_of (get_or plan.scripts worker []) done) 0) t.objects) (sym same) stands;
     }
 
     other_behind : Behind plan worker by (more plan made by s) (turn_of plan by s)
@@ -266,7 +291,7 @@ module _ (laws : Spells) (stand_laws : TurnStands) (uses : TurnsUse) (plan : Pla
           (stands.0, λ later answer l. stands.1 later answer (subst (λ (n : ℕ). left_at plan by n call s.objects later answer) (sym count_is) l))
 
       rest_is : (rest : List Call) × (h.rest ≡ call ∷ rest)
-      rest_is = split_first h.rest call (sym (next_left plan by made s h) ∙ some)
+      rest_is = split_first h.rest call (sym (next_left laws plan by made s h) ∙ some)
 
       list_is : list_of plan (made.all ++ made_by plan by s) by ≡ items_in h.spelt ++ (h.last ++ turn_made)
       list_is = own_list made.all call some ∙ ap (λ (l : List Made). l ++ turn_made) (sym h.items) ∙ append_assoc (items_in h.spelt) h.last turn_made
@@ -302,7 +327,7 @@ module _ (laws : Spells) (stand_laws : TurnStands) (uses : TurnsUse) (plan : Pla
             spelt = h.spelt;
             last = h.last;
             rest = h.rest;
-            script = h.script;
+            runs = h.runs;
             replies = h.replies;
             items = sym (list_is ∙ ap (λ (l : List Made). items_in h.spelt ++ (h.last ++ l)) t.0 ∙ ap (λ (l : List Made). items_in h.spelt ++ l) (append-nil h.last));
             turns = subst (λ (l : List Made). ByTurns plan h.spelt l ((more plan made by s).parts by)) (ap (λ (l : List Made). h.last ++ l) t.0 ∙ append-nil h.last) own_turns;
@@ -319,7 +344,7 @@ module _ (laws : Spells) (stand_laws : TurnStands) (uses : TurnsUse) (plan : Pla
             spelt = h.spelt;
             last = h.last ++ turn_made;
             rest = h.rest;
-            script = h.script;
+            runs = h.runs;
             replies = h.replies;
             items = sym list_is;
             turns = own_turns;
@@ -351,6 +376,7 @@ module _ (laws : Spells) (stand_laws : TurnStands) (uses : TurnsUse) (plan : Pla
       own_completed objects reply takes =
           let t = with_reply by reply (moved objects s) in
           let one = one_more reply in
+          let script = get_or plan.scripts by [] in
           let here : by < length s.replies = omega (arith, takes.below, of.workers) in
           let now : get_or t.replies by [] ≡ get_or s.replies by [] ++ reply ∷ [] = get_or-set_same s.replies by (get_or s.replies by [] ++ reply ∷ []) [] here in
           let spells = own_stands.1 turn_made (Done (Ok (recorded_reply plan reply))) (told objects (answers.Completed reply) takes).0 in
@@ -358,9 +384,9 @@ module _ (laws : Spells) (stand_laws : TurnStands) (uses : TurnsUse) (plan : Pla
           record {
             spelt = h.spelt ++ one ∷ [];
             last = [];
-            rest = rest_is.0;
-            script = ap (λ (l : List Call). l ++ rest_is.0) (map-push (λ (x : SpeltCall). x.call) h.spelt one) ∙ append_assoc (map (λ (x : SpeltCall). x.call) h.spelt) (call ∷ []) rest_is.0
-                ∙ ap (λ (l : List Call). map (λ (x : SpeltCall). x.call) h.spelt ++ l) (sym rest_is.1) ∙ h.script;
+            rest = drop (passed_over call one.reply) rest_is.0;
+            runs = subst (λ (made : List (Call × Reply ℕ)). RunsAlong script made (drop (passed_over call one.reply) rest_is.0)) (sym (map-push (λ (x : SpeltCall). (x.call, x.reply)) h.spelt one))
+                (laws.runs.along script (calls_in h.spelt) call rest_is.0 one.reply (subst (RunsAlong script (calls_in h.spelt)) rest_is.1 h.runs));
             replies = map-push (λ (x : SpeltCall). x.reply) h.spelt one ∙ ap (λ (l : List (Reply ℕ)). l ++ recorded_reply plan reply ∷ []) h.replies
                 ∙ sym (map-push (recorded_reply plan) (get_or s.replies by []) reply) ∙ ap (map (recorded_reply plan)) (sym now);
             items = append-nil (items_in (h.spelt ++ one ∷ [])) ∙ flat-push h.spelt one ∙ sym list_is;
@@ -375,7 +401,7 @@ module _ (laws : Spells) (stand_laws : TurnStands) (uses : TurnsUse) (plan : Pla
           let spells = own_stands.1 turn_made (Done (Err misuse)) (told objects (answers.Misused misuse) takes).0 in
           record {
             line = record { spelt = h.spelt; last = h.last ++ turn_made; halts = []; rest = call ∷ rest_is.0; ending = misused misuse };
-            script = ap (λ (l : List Call). map (λ (x : SpeltCall). x.call) h.spelt ++ l) (sym rest_is.1) ∙ h.script;
+            runs = subst (RunsAlong (get_or plan.scripts by []) (calls_in h.spelt)) rest_is.1 h.runs;
             items = unhalted (items_in h.spelt) (h.last ++ turn_made) ∙ sym list_is;
             replies = h.replies;
             turns = own_turns.each;
@@ -393,7 +419,7 @@ module _ (laws : Spells) (stand_laws : TurnStands) (uses : TurnsUse) (plan : Pla
           spelt = h.spelt;
           last = h.last;
           rest = h.rest;
-          script = h.script;
+          runs = h.runs;
           replies = h.replies;
           items = h.items ∙ sym (ap (λ (l : List Item). list_of plan (made.all ++ l) by) nothing ∙ ap (λ (l : List Item). list_of plan l by) (append-nil made.all));
           turns = same_parts plan h.spelt h.last (made.parts by) ((more plan made by s).parts by)
@@ -441,7 +467,7 @@ module _ (laws : Spells) (stand_laws : TurnStands) (uses : TurnsUse) (plan : Pla
   joined made list s = record { all = made.all ++ all_made plan list s; parts = λ worker number. made.parts worker number ++ made_for plan worker number list s }
 
   with_clock : (worker moment : ℕ) (made : Trace) (s : State) → SoFar plan worker made s → SoFar plan worker made (with_moment moment s)
-  with_clock worker moment made s h = record { spelt = h.spelt; last = h.last; rest = h.rest; script = h.script; replies = h.replies; items = h.items; turns = h.turns; are = h.are; stands = h.stands }
+  with_clock worker moment made s h = record { spelt = h.spelt; last = h.last; rest = h.rest; runs = h.runs; replies = h.replies; items = h.items; turns = h.turns; are = h.are; stands = h.stands }
 
   goes_behind : (made : Trace) (by : ℕ) (s : State) (rest : List Turn) (t : State) → joined (more plan made by s) rest t ≡ behind_all made by s rest (t, steps.Still)
   goes_behind made by s rest t =
@@ -480,11 +506,6 @@ module _ (laws : Spells) (stand_laws : TurnStands) (uses : TurnsUse) (plan : Pla
 
 -- ---- from the start on
 
-none_replied : (n worker : ℕ) → get_or (replicate {A = List (Reply (List ℕ))} n []) worker [] ≡ []
-none_replied zero worker = refl
-none_replied (suc n) zero = refl
-none_replied (suc n) (suc worker) = none_replied n worker
-
 -- nothing was made
 abbrev pub nothing : Trace
 nothing = record { all = []; parts = λ worker number. [] }
@@ -494,7 +515,7 @@ begun laws stand_laws plan of run worker = record {
   spelt = [];
   last = [];
   rest = get_or plan.scripts worker [];
-  script = refl;
+  runs = refl;
   replies = ap (map (recorded_reply plan)) (sym (none_replied plan.workers worker));
   items = refl;
   turns = record { each = λ k one at. absurd cc; current = refl; later = λ k far. refl };

@@ -1,6 +1,7 @@
 -- The state in which a run begins.
-use Rattle.std.proofs.Common.{◌≡◌, ℕ, zero, suc, ◌+◌, true, List, [], ◌∷◌, map, length, get_or, replicate, subst, refl, arith}
+use Rattle.std.proofs.Common.{◌≡◌, ℕ, zero, suc, ◌+◌, ◌≤◌, true, List, [], ◌∷◌, map, length, get_or, replicate, subst, refl, sym, arith}
 use Rattle.std.proofs.lemmas.List.{length-replicate}
+use Rattle.script_calls.specs.Runs.{made_of}
 use Rattle.script_calls.specs.declared.call.Reply.{Reply}
 use Rattle.workload.specs.declared.object.ObjectKind.{ObjectKind}
 use Rattle.workload.specs.declared.object.ObjectLine.{ObjectLine}
@@ -35,10 +36,10 @@ new_kinds : Begins → (plan : Plan) (place : ℕ) (lines : List ObjectLine) →
 new_kinds begins plan place [] = refl
 new_kinds begins plan place (line ∷ lines) = λ i. (begins plan.workers (puts_at place plan.scripts) line.kind).0 i ∷ new_kinds begins plan (place + 1) lines i
 
-pub none_yet : (n k : ℕ) → length (get_or (replicate {A = List (Reply (List ℕ))} n []) k []) ≡ 0
-none_yet zero k = refl
-none_yet (suc n) zero = refl
-none_yet (suc n) (suc k) = none_yet n k
+pub none_replied : (n k : ℕ) → get_or (replicate {A = List (Reply (List ℕ))} n []) k [] ≡ []
+none_replied zero k = refl
+none_replied (suc n) zero = refl
+none_replied (suc n) (suc k) = none_replied n k
 
 pub start_is : Begins → (plan : Plan) → is_valid plan ≡ true → IsStateOf plan (start plan)
 start_is begins plan valid = record {
@@ -46,5 +47,6 @@ start_is begins plan valid = record {
   objects = new_kinds begins plan 0 plan.objects;
   machines = each_start (λ place. IsMachineOf plan.workers) plan (λ place kind. (begins plan.workers (puts_at place plan.scripts) kind).1);
   workers = length-replicate plan.workers [];
-  within = λ k. omega (arith, none_yet plan.workers k);
+  within = λ k. subst (λ (replies : List (Reply (List ℕ))). length replies ≤ length (get_or plan.scripts k [])) (sym (none_replied plan.workers k)) (omega arith);
+  made = λ k. subst (λ (replies : List (Reply (List ℕ))). length (made_of (get_or plan.scripts k []) replies) ≡ length replies) (sym (none_replied plan.workers k)) refl;
 }

@@ -1,12 +1,13 @@
 -- What one turn does to the state of a run.
-use Rattle.std.proofs.Common.{◌≡◌, ◌≢◌, ℕ, zero, suc, ◌+◌, ◌<◌, ◌≤◌, Bool, true, false, eqb, ◌&&◌, List, [], ◌∷◌, ◌++◌, map, length, get_or, Option, Some, None, refl, sym, ap, ◌∙◌, subst, arith}
+use Rattle.std.proofs.Common.{◌≡◌, ◌≢◌, ℕ, zero, suc, ◌+◌, ◌<◌, ◌≤◌, Bool, true, false, eqb, ◌&&◌, List, [], ◌∷◌, ◌++◌, map, length, get_or, Option, Some, None, refl, sym, ap, ◌∙◌, subst, length-drop, arith}
 use Rattle.std.specs.Prelude.{slice_get, sum_by}
-use Rattle.std.specs.List.{list_all}
+use Rattle.std.specs.List.{list_all, range_with_len}
 use Rattle.std.specs.Option.{option_map, option_map_or}
 use Rattle.std.proofs.lemmas.Bool.{eqb-true, eqb-false}
 use Rattle.std.proofs.lemmas.List.{length-set, length-append, get_or-set_same, get_or-set_other}
-use Rattle.std.proofs.lemmas.List.Sums.{sum_by-cons, sum_by-set}
+use Rattle.std.proofs.lemmas.List.Sums.{sum_by-cons}
 use Rattle.std.proofs.lemmas.Option.{slice_get-map, slice_get_within}
+use Rattle.script_calls.specs.Runs.{passed_over, left_of, made_of}
 use Rattle.script_calls.specs.declared.call.Call.{Call}
 use Rattle.script_calls.specs.declared.call.Reply.{Reply}
 use Rattle.sync_types.specs.declared.misuse.Misuse.{Misuse}
@@ -23,7 +24,8 @@ use Rattle.step_runner.specs.TurnAtObjects.{turn_at}
 use Rattle.step_runner.specs.declared.step.Step.{Step}
 use Rattle.step_runner.specs.declared.step.Step.TheVariants as steps
 use Rattle.step_runner.specs.State.{State, with_reply, IsStateOf}
-use Rattle.step_runner.specs.Turns.{next_call, settled, settled_with, turn_of}
+use Rattle.step_runner.specs.Turns.{left_for, next_call, settled, settled_with, turn_of}
+use Rattle.step_runner.proofs.ScriptRuns.{GoesFurther, split_first, in_script}
 use Rattle.step_runner.specs.LeftToDo.{calls_left, left_to_do}
 
 -- ---- what the laws of turns say of the objects
@@ -97,7 +99,8 @@ valid_refers plan e = (both (plan_schedule plan) (plan_refers plan) (valid_rest 
 -- the call before which a worker stands is on an object that has it
 call_is_on : (plan : Plan) (worker : ℕ) (s : State) (call : Call) → is_valid plan ≡ true → next_call plan worker s ≡ Some call → is_on (slice_get plan.objects call.object) call ≡ true
 call_is_on plan worker s call valid is =
-    all_get (on_plan plan) (get_or plan.scripts worker []) (length (get_or s.replies worker [])) call (all_at (on_plan plan) plan.scripts worker (valid_rest plan valid).0) is
+    let at = in_script (get_or plan.scripts worker []) (get_or s.replies worker []) call is in
+    all_get (on_plan plan) (get_or plan.scripts worker []) at.0 call (all_at (on_plan plan) plan.scripts worker (valid_rest plan valid).0) at.1
 
 -- the kind of an object is the one that the plan says
 pub kind_there : (plan : Plan) (s : State) (object : ℕ) → IsStateOf plan s → option_map kind_of (slice_get s.objects object) ≡ option_map (λ (line : ObjectLine). line.kind) (slice_get plan.objects object)
@@ -164,8 +167,9 @@ in_range (script ∷ scripts) (suc worker) some = omega (arith, in_range scripts
 -- a worker that has a call left is there
 is_there : (plan : Plan) (worker : ℕ) (s : State) (call : Call) → is_valid plan ≡ true → next_call plan worker s ≡ Some call → worker < plan.workers
 is_there plan worker s call valid is =
-    let room : length (get_or s.replies worker []) < length (get_or plan.scripts worker []) = slice_get_within _ _ call is in
-    let there : worker < length plan.scripts = in_range plan.scripts worker (omega arith) in
+    let at = in_script (get_or plan.scripts worker []) (get_or s.replies worker []) call is in
+    let room : at.0 < length (get_or plan.scripts worker []) = slice_get_within _ _ call at.1 in
+    let there : worker < length plan.scripts = in_range plan.scripts worker (omega (arith, room)) in
     omega (arith, there, valid_scripts plan valid)
 
 -- the object of the call before which a worker stands is ready for it
@@ -235,6 +239,7 @@ moved_of laws plan worker s call objects answer of takes = record {
   machines = takes_by (λ x. EachAt (λ place. IsMachineOf plan.workers) x.0) plan worker s call objects answer of takes (λ r. laws.machines plan.workers worker s.moment call s.objects r of.machines);
   workers = of.workers;
   within = of.within;
+  made = of.made;
 }
 
 -- one reply more
@@ -246,48 +251,84 @@ replied_more worker reply s here =
 pub replied_other : (worker other : ℕ) (reply : Reply (List ℕ)) (s : State) → other ≢ worker → get_or (with_reply worker reply s).replies other [] ≡ get_or s.replies other []
 replied_other worker other reply s apart = get_or-set_other s.replies worker other (get_or s.replies worker [] ++ reply ∷ []) [] apart
 
-pub replied_of : (plan : Plan) (worker : ℕ) (s : State) (call : Call) (reply : Reply (List ℕ)) → IsStateOf plan s → worker < plan.workers → next_call plan worker s ≡ Some call → IsStateOf plan (with_reply worker reply s)
-replied_of plan worker s call reply of below is =
+-- what is so of each worker's replies behind one more
+pub replied_each : (P : ℕ → List (Reply (List ℕ)) → Type 0) (worker : ℕ) (reply : Reply (List ℕ)) (s : State) → worker < length s.replies → P worker (get_or s.replies worker [] ++ reply ∷ [])
+    → ((k : ℕ) → P k (get_or s.replies k [])) → (k : ℕ) → P k (get_or (with_reply worker reply s).replies k [])
+replied_each P worker reply s here own others k = elim (eqb k worker) as (λ b. eqb k worker ≡ b → P k (get_or (with_reply worker reply s).replies k [])) [
+  | true ↦ λ e.
+      let same : worker ≡ k = sym (eqb-true k worker e) in
+      subst (λ (w : ℕ). P w (get_or (with_reply worker reply s).replies w [])) same
+      (subst (P worker) (sym (get_or-set_same s.replies worker (get_or s.replies worker [] ++ reply ∷ []) [] here)) own)
+  | false ↦ λ e. subst (P k) (sym (replied_other worker k reply s (eqb-false k worker e))) (others k)
+] refl
+
+pub replied_of : GoesFurther → (plan : Plan) (worker : ℕ) (s : State) (call : Call) (reply : Reply (List ℕ)) → IsStateOf plan s → worker < plan.workers → next_call plan worker s ≡ Some call → IsStateOf plan (with_reply worker reply s)
+replied_of further plan worker s call reply of below is =
     let here : worker < length s.replies = omega (arith, of.workers) in
-    let room : length (get_or s.replies worker []) < length (get_or plan.scripts worker []) = slice_get_within _ _ call is in
-    let own = replied_more worker reply s here in
+    let script = get_or plan.scripts worker [] in
+    let given = get_or s.replies worker [] in
+    let left = split_first (left_of script given) call is in
+    let room : length given < length script = omega (arith, of.made worker, further.few script given, ap (length {A = Call}) left.1) in
+    let more : length (given ++ reply ∷ []) ≡ length given + 1 = length-append given (reply ∷ []) in
+    let made : length (made_of script (given ++ reply ∷ [])) ≡ length given + 1 =
+    ap (length {A = Call}) (further.made script given call left.0 reply left.1) ∙ length-append (made_of script given) (call ∷ []) ∙ ap (λ (n : ℕ). n + 1) (of.made worker) in
     record {
       valid = of.valid;
       objects = of.objects;
       machines = of.machines;
-      workers = length-set s.replies worker (get_or s.replies worker [] ++ reply ∷ []) ∙ of.workers;
-      within = λ k. elim (eqb k worker) as (λ b. eqb k worker ≡ b → length (get_or (with_reply worker reply s).replies k []) ≤ length (get_or plan.scripts k [])) [
-        | true ↦ λ e. let same : k ≡ worker = eqb-true k worker e in rw same (omega (arith, own, room))
-        | false ↦ λ e. let apart : k ≢ worker = eqb-false k worker e in omega (arith, ap (length {A = (Reply (List ℕ))}) (replied_other worker k reply s apart), of.within k)
-      ] refl;
+      workers = length-set s.replies worker (given ++ reply ∷ []) ∙ of.workers;
+      within = replied_each (λ k replies. length replies ≤ length (get_or plan.scripts k [])) worker reply s here (omega (arith, more, room)) of.within;
+      made = replied_each (λ k replies. length (made_of (get_or plan.scripts k []) replies) ≡ length replies) worker reply s here (made ∙ sym more) of.made;
     }
 
 -- a turn keeps what states keep
-pub turn_valid : TurnsKeep → (plan : Plan) (worker : ℕ) (s : State) → IsStateOf plan s → IsStateOf plan (turn_of plan worker s).0
-turn_valid laws plan worker s of = turn_cases (λ step. IsStateOf plan step.0) plan worker s of (record {
+pub turn_valid : TurnsKeep → GoesFurther → (plan : Plan) (worker : ℕ) (s : State) → IsStateOf plan s → IsStateOf plan (turn_of plan worker s).0
+turn_valid laws further plan worker s of = turn_cases (λ step. IsStateOf plan step.0) plan worker s of (record {
   ended = λ is. of;
   still = λ call objects takes. moved_of laws plan worker s call objects answers.Still of takes;
   unfinished = λ call objects takes. moved_of laws plan worker s call objects answers.Unfinished of takes;
   completed = λ call objects reply takes.
-      replied_of plan worker (moved objects s) call reply (moved_of laws plan worker s call objects (answers.Completed reply) of takes) takes.below takes.next;
+      replied_of further plan worker (moved objects s) call reply (moved_of laws plan worker s call objects (answers.Completed reply) of takes) takes.below takes.next;
   misused = λ call objects misuse takes. moved_of laws plan worker s call objects (answers.Misused misuse) of takes;
 })
 
 -- ---- what is left to do behind a turn
 
-sum_within : (scripts : List (List Call)) (replies : List (List (Reply (List ℕ)))) → ((k : ℕ) → length (get_or replies k []) ≤ length (get_or scripts k [])) → sum_by length replies ≤ sum_by length scripts
-sum_within [] [] within = omega arith
-sum_within [] (done ∷ replies) within = omega (arith, within 0, sum_within [] replies (λ k. within (suc k)), sum_by-cons (length {A = (Reply (List ℕ))}) done replies)
-sum_within (script ∷ scripts) [] within = omega arith
-sum_within (script ∷ scripts) (done ∷ replies) within =
-    omega (arith, within 0, sum_within scripts replies (λ k. within (suc k)), sum_by-cons (length {A = (Reply (List ℕ))}) done replies, sum_by-cons (length {A = Call}) script scripts)
+-- a sum over workers, none of which has more now, and one has less
+sum_less : (old new : ℕ → ℕ) (first count : ℕ) → ((k : ℕ) → new k ≤ old k) → sum_by new (range_with_len first count) ≤ sum_by old (range_with_len first count)
+sum_less old new first zero less = omega arith
+sum_less old new first (suc count) less =
+    omega (arith, less first, sum_less old new (first + 1) count less, sum_by-cons new first (range_with_len (first + 1) count), sum_by-cons old first (range_with_len (first + 1) count))
 
-replied_left : (plan : Plan) (worker : ℕ) (s : State) (reply : Reply (List ℕ)) → worker < length s.replies → IsStateOf plan (with_reply worker reply s) → calls_left plan (with_reply worker reply s) + 1 ≡ calls_left plan s
-replied_left plan worker s reply here of =
-    let more = get_or s.replies worker [] ++ reply ∷ [] in
-    let sum = sum_by-set (length {A = (Reply (List ℕ))}) s.replies worker more [] here in
-    let within = sum_within plan.scripts (with_reply worker reply s).replies of.within in
-    omega (arith, sum, within, length-append (get_or s.replies worker []) (reply ∷ []))
+sum_fewer : (old new : ℕ → ℕ) (worker first count : ℕ) → ((k : ℕ) → new k ≤ old k) → new worker + 1 ≤ old worker → first ≤ worker → worker < first + count
+    → sum_by new (range_with_len first count) + 1 ≤ sum_by old (range_with_len first count)
+sum_fewer old new worker first zero less fewer from below = absurd (omega (arith, from, below))
+sum_fewer old new worker first (suc count) less fewer from below =
+    let rest = range_with_len (first + 1) count in
+    elim (eqb first worker) as (λ b. eqb first worker ≡ b → sum_by new (first ∷ rest) + 1 ≤ sum_by old (first ∷ rest)) [
+      | true ↦ λ e.
+          let here : new first + 1 ≤ old first = subst (λ (k : ℕ). new k + 1 ≤ old k) (sym (eqb-true first worker e)) fewer in
+          omega (arith, here, sum_less old new (first + 1) count less, sum_by-cons new first rest, sum_by-cons old first rest)
+      | false ↦ λ e.
+          let apart : first ≢ worker = eqb-false first worker e in
+          omega (arith, less first, sum_fewer old new worker (first + 1) count less fewer (omega (arith, apart, from)) (omega (arith, below)), sum_by-cons new first rest, sum_by-cons old first rest)
+    ] refl
+
+-- one call fewer is left, at least
+replied_left : GoesFurther → (plan : Plan) (worker : ℕ) (s : State) (call : Call) (reply : Reply (List ℕ)) → worker < length s.replies → worker < plan.workers → next_call plan worker s ≡ Some call
+    → calls_left plan (with_reply worker reply s) + 1 ≤ calls_left plan s
+replied_left further plan worker s call reply here below is =
+    let script = get_or plan.scripts worker [] in
+    let given = get_or s.replies worker [] in
+    let left = split_first (left_of script given) call is in
+    let behind = further.left script given call left.0 reply left.1 in
+    let fewer : length (left_of script (given ++ reply ∷ [])) + 1 ≤ length (left_of script given) =
+    omega (arith, ap (length {A = Call}) behind, length-drop (passed_over call reply) left.0, ap (length {A = Call}) left.1) in
+    let now : get_or (with_reply worker reply s).replies worker [] ≡ given ++ reply ∷ [] = get_or-set_same s.replies worker (given ++ reply ∷ []) [] here in
+    sum_fewer (λ k. length (left_for plan k s)) (λ k. length (left_for plan k (with_reply worker reply s))) worker 0 plan.workers
+    (replied_each (λ k replies. length (left_of (get_or plan.scripts k []) replies) ≤ length (left_for plan k s)) worker reply s here (omega (arith, fewer)) (λ k. omega arith))
+    (subst (λ (replies : List (Reply (List ℕ))). length (left_of script replies) + 1 ≤ length (left_of script given)) (sym now) fewer)
+    (omega arith) (omega (arith, below))
 
 -- no event: the state stays; an event: less is left to do; a misuse: no call is completed
 abbrev pub StepUses : Plan → State → State × Step → Type 0
@@ -295,16 +336,15 @@ StepUses plan s (t, steps.Still) = t ≡ s
 StepUses plan s (t, steps.Made) = left_to_do plan t < left_to_do plan s
 StepUses plan s (t, steps.Misused misuse) = t.replies ≡ s.replies
 
-pub turn_used : TurnsKeep → TurnsUse → (plan : Plan) (worker : ℕ) (s : State) → IsStateOf plan s → StepUses plan s (turn_of plan worker s)
-turn_used laws uses plan worker s of = turn_cases (StepUses plan s) plan worker s of (record {
+pub turn_used : GoesFurther → TurnsUse → (plan : Plan) (worker : ℕ) (s : State) → IsStateOf plan s → StepUses plan s (turn_of plan worker s)
+turn_used further uses plan worker s of = turn_cases (StepUses plan s) plan worker s of (record {
   ended = λ is. refl;
   still = λ call objects takes. ap (λ (os : List ObjectState). record s { objects = os }) (takes_use uses plan worker s call objects answers.Still of takes);
   unfinished = λ call objects takes.
       let less : sum_by object_left objects < sum_by object_left s.objects = takes_use uses plan worker s call objects answers.Unfinished of takes in
       omega (arith, less);
   completed = λ call objects reply takes.
-      let valid = moved_of laws plan worker s call objects (answers.Completed reply) of takes in
-      let fewer = replied_left plan worker (moved objects s) reply (omega (arith, of.workers, takes.below)) (replied_of plan worker (moved objects s) call reply valid takes.below takes.next) in
+      let fewer = replied_left further plan worker (moved objects s) call reply (omega (arith, of.workers, takes.below)) takes.below takes.next in
       let few : sum_by object_left objects < sum_by object_left s.objects + 4 = takes_use uses plan worker s call objects (answers.Completed reply) of takes in
       omega (arith, few, fewer);
   misused = λ call objects misuse takes. refl;

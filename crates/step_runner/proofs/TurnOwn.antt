@@ -3,12 +3,14 @@ use Rattle.std.proofs.Common.{◌≡◌, ℕ, ◌+◌, ◌<◌, true, false, Lis
 use Rattle.std.specs.Prelude.{ℤ, Ok, Err, Result}
 use Rattle.std.specs.FinMap.{entries}
 use Rattle.std.specs.Int.{w64, int_wrapping_add}
-use Rattle.sync_types.specs.SequentialAtomic.{atomic_reply}
+use Rattle.sync_types.specs.SequentialAtomic.{is_same, atomic_reply}
 use Rattle.sync_types.specs.SequentialMap.{map_reply}
 use Rattle.sync_model.specs.declared.answer.Answer.TheVariants.{Done}
-use Rattle.sync_types.specs.declared.atomic_object.AtomicCall.TheVariants.{Add}
+use Rattle.sync_types.specs.declared.atomic_object.AtomicCall.TheVariants.{Load, Add}
+use Rattle.sync_types.specs.declared.atomic_object.AtomicReply.TheVariants.{Held}
 use Rattle.sync_types.specs.declared.atomic_object.Number.{Number}
 use Rattle.sync_types.specs.declared.atomic_object.Number.TheVariants.{Int64}
+use Rattle.script_calls.specs.declared.call.ComposedCall.TheVariants.{IfEqual}
 use Rattle.script_calls.specs.declared.call.Operation.{Operation}
 use Rattle.script_calls.specs.declared.call.Operation.TheVariants as operations
 use Rattle.script_calls.specs.declared.call.Reply.TheVariants as replies
@@ -204,6 +206,9 @@ module _ (laws : Laws) (plan : Plan) (worker before place moment : ℕ) where
       )
   turn_own (operations.Atomic call) (states.Atomic number) has alone below is keys out stands =
       ((atomic_reply call number, places plan (shared_calls plan before place (operations.Atomic call) (replies.Atomic (atomic_reply call number))), refl), tt)
+  turn_own (operations.Composed (IfEqual value passes)) (states.Atomic number) has alone below is keys out stands =
+      let load = (Held number, places plan (shared_calls plan before place (operations.Atomic Load) (replies.Atomic (Held number))), refl) in
+      ((Done (Ok (is_same number value)), (Done (Ok (replies.Atomic (Held number))), load, refl), refl), tt)
   turn_own (operations.Mutex call) (states.Mutex m) has alone below is keys out stands =
       let step = turn_on (operations.Mutex call) worker moment (states.Mutex m) in
       (mutex_tells laws.machines.mutexes plan place worker moment before call (mutex.place_of m worker) m refl (omega (arith, below, is.1)) is.0, behind (operations.Mutex call) worker step.1 step.0 tt tt)

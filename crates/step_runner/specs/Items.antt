@@ -5,10 +5,12 @@ use Rattle.std.specs.List.{list_any}
 use Rattle.std.specs.Option.{option_map_or}
 use Rattle.sync_types.specs.SequentialAtomic.{atomic_reply, atomic_after}
 use Rattle.sync_types.specs.SequentialMap.{map_reply}
-use Rattle.sync_types.specs.declared.atomic_object.AtomicCall.TheVariants.{Add}
+use Rattle.sync_types.specs.declared.atomic_object.AtomicCall.TheVariants.{Load, Add}
+use Rattle.sync_types.specs.declared.atomic_object.AtomicReply.TheVariants.{Held}
 use Rattle.sync_types.specs.declared.atomic_object.Number.{Number}
 use Rattle.sync_types.specs.declared.atomic_object.Number.TheVariants.{Int64}
 use Rattle.script_calls.specs.declared.call.Call.{Call}
+use Rattle.script_calls.specs.declared.call.ComposedCall.TheVariants.{IfEqual}
 use Rattle.script_calls.specs.declared.call.Operation.{Operation}
 use Rattle.script_calls.specs.declared.call.Operation.TheVariants as operations
 use Rattle.script_calls.specs.declared.call.Reply.{Reply}
@@ -110,6 +112,7 @@ abbrev pub items_on : Operation → ℕ → ℕ → ℕ → ObjectState → List
 items_on (operations.Map call) worker moment object (states.Map m) = placed_at worker object (operations.Map call) (replies.Map (map_reply call m))
 items_on operations.Range worker moment object (states.Map m) = placed_at worker object operations.Range (replies.Pairs (entries m))
 items_on (operations.Atomic call) worker moment object (states.Atomic number) = placed_at worker object (operations.Atomic call) (replies.Atomic (atomic_reply call number))
+items_on (operations.Composed (IfEqual value passes)) worker moment object (states.Atomic number) = placed_at worker object (operations.Atomic Load) (replies.Atomic (Held number))
 items_on (operations.Mutex call) worker moment object (states.Mutex m) = stage_items events.Mutex answered.Mutex mutex.next mutex_stages.mutex_event worker moment object (mutex_due call (mutex.place_of m worker)) m
 items_on (operations.RwMutex call) worker moment object (states.RwMutex m) = stage_items events.RwMutex answered.RwMutex rw.next rw_stages.rw_event worker moment object (rw_due call (rw.place_of m worker)) m
 items_on (operations.WaitGroup call) worker moment object (states.WaitGroup g first) = stage_items events.WaitGroup answered.WaitGroup group.next group_event worker moment object (group_due call (group.place_of g worker)) g

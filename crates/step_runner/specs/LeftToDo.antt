@@ -1,12 +1,14 @@
 -- What is left to do in a run: a number that each event lowers.
-use Rattle.std.specs.Prelude.{ℕ, ◌+◌, ◌-◌, ◌*◌, length, sum_by}
+use Rattle.std.specs.Prelude.{ℕ, ◌+◌, ◌*◌, length, sum_by}
+use Rattle.std.specs.List.{range_with_len}
 use Rattle.workload.specs.Plan.{Plan}
 use Rattle.step_runner.specs.ObjectLeft.{object_left}
 use Rattle.step_runner.specs.State.{State}
+use Rattle.step_runner.specs.Turns.{left_for}
 
--- how many calls aren't completed, all workers together
+-- how many calls are left of the scripts, all workers together
 abbrev pub calls_left : Plan → State → ℕ
-calls_left plan s = sum_by length plan.scripts - sum_by length s.replies
+calls_left plan s = sum_by (λ worker. length (left_for plan worker s)) (range_with_len 0 plan.workers)
 
 -- an event that completes a call raises what can be done at the objects by less than 4, and any other event lowers it
 abbrev pub left_to_do : Plan → State → ℕ

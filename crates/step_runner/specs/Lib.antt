@@ -1,10 +1,10 @@
 pub mod CallTurns
 pub mod Computed
 pub mod Ends
-pub mod Forms
 pub mod LeftToDo
 pub mod MadeCalls
 pub mod Outcomes
+pub mod Places
 pub mod RunItems
 pub mod Spelt
 pub mod State

@@ -1,14 +1,21 @@
 -- The items that a run makes: what was done on which object, by whom and with which answer, in order.
 use Rattle.std.specs.Prelude.{◌≡◌, ℕ, List, [], ◌∷◌, ◌++◌, get_or, slice_get, Some}
 use Rattle.std.specs.Option.{option_map_or}
+use Rattle.sync_types.specs.SequentialAtomic.{is_same}
+use Rattle.sync_types.specs.declared.atomic_object.AtomicCall.TheVariants.{Load}
+use Rattle.sync_types.specs.declared.atomic_object.AtomicReply.TheVariants.{Held, Compared}
+use Rattle.sync_types.specs.declared.atomic_object.Number.{Number}
 use Rattle.script_calls.specs.declared.call.Call.{Call}
+use Rattle.script_calls.specs.declared.call.Operation.TheVariants as operations
 use Rattle.script_calls.specs.declared.call.Reply.{Reply}
+use Rattle.script_calls.specs.declared.call.Reply.TheVariants as replies
 use Rattle.workload.specs.declared.object.ObjectLine.{ObjectLine}
 use Rattle.workload.specs.declared.turn.Turn.{Turn}
 use Rattle.workload.specs.declared.turn.Turn.TheVariants as items
 use Rattle.workload.specs.Plan.{Plan}
 use Rattle.workload.specs.Puts.{puts_at}
 use Rattle.step_runner.specs.declared.turns.object_state.ObjectState.{ObjectState}
+use Rattle.step_runner.specs.declared.turns.object_state.ObjectState.TheVariants as states
 use Rattle.step_runner.specs.LeadsTo.{on_object, LeadsTo}
 use Rattle.step_runner.specs.Items.{Item, placed, items_at}
 use Rattle.step_runner.specs.Objects.{new_object}
@@ -44,3 +51,10 @@ abbrev pub IsAnswered : Plan → ℕ → Call → State → Type 0
 IsAnswered plan worker call s =
     (reply : Reply (List ℕ)) × (made_by plan worker s ≡ record { object = call.object; caller = worker; deed = placed call.operation reply } ∷ [])
     × (get_or (turn_of plan worker s).0.replies worker [] ≡ get_or s.replies worker [] ++ reply ∷ [])
+
+-- the worker's next turn makes one load of its call's atomic, and completes the call by what it found: whether that is the value
+abbrev pub IsTested : Plan → ℕ → Call → Number → State → Type 0
+IsTested plan worker call value s =
+    (found : Number) × (slice_get s.objects call.object ≡ Some (states.Atomic found))
+    × (made_by plan worker s ≡ record { object = call.object; caller = worker; deed = placed (operations.Atomic Load) (replies.Atomic (Held found)) } ∷ [])
+    × (get_or (turn_of plan worker s).0.replies worker [] ≡ get_or s.replies worker [] ++ replies.Atomic (Compared (is_same found value)) ∷ [])

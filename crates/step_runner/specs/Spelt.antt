@@ -6,10 +6,11 @@ use Rattle.script_calls.specs.declared.call.Reply.{Reply}
 use Rattle.sync_types.specs.declared.misuse.Misuse.{Misuse}
 use Rattle.script_calls.specs.declared.outcome.Outcome.{Outcome}
 use Rattle.script_calls.specs.Outcome.{left_by}
+use Rattle.script_calls.specs.Runs.{left_of, RunsAlong}
 use Rattle.workload.specs.Plan.{Plan}
 use Rattle.workload.specs.declared.turn.Turn.{Turn}
 use Rattle.workload.specs.declared.turn.Turn.TheVariants as items
-use Rattle.run_record.specs.Lines.{SpeltCall, LineEnd, whole, misused, unfinished, Line, script_of, items_of, replies_of, IsLineOf}
+use Rattle.run_record.specs.Lines.{SpeltCall, LineEnd, whole, misused, unfinished, Line, calls_made, items_of, replies_of, IsLineOf}
 use Rattle.run_record.specs.Record.{shared_in}
 use Rattle.run_record.specs.declared.made.Made.{Made}
 use Rattle.step_runner.specs.Items.{Item}
@@ -64,19 +65,19 @@ ending_by next (Some misuse) = misused misuse
 ending_by None None = whole
 ending_by (Some call) None = unfinished
 
--- of a worker with so many replies
+-- of a worker with these replies
 abbrev pub ending_of : {K : Type 0} → Plan → ℕ → List (Reply K) → Option Misuse → LineEnd
-ending_of plan worker given met = ending_by (slice_get (get_or plan.scripts worker []) (length given)) met
+ending_of plan worker given met = ending_by (slice_get (left_of (get_or plan.scripts worker []) given) 0) met
 
 -- each line of an outcome ends so, by the worker's replies and the misuse that it met, and halts nothing
 abbrev pub EndAs : Plan → Outcome → (ℕ → Option Misuse) → List Line → Type 0
 EndAs plan outcome met lines = (worker : ℕ) (line : Line) → slice_get lines worker ≡ Some line → (line.ending ≡ ending_of plan worker (get_or (left_by outcome).replies worker []) (met worker)) × (line.halts ≡ [])
 
--- a worker's items fall into the calls of its script: those that were completed, each spelt by its items, with these replies, and behind them at most one more. The items of
+-- a worker's items fall into the calls of a run of its script: those that were completed, each spelt by its items, with these replies, and behind them at most one more. The items of
 -- each call are those that its own turns made
 pub record Falls (plan : Plan) (worker : ℕ) (made : List Item) (made_for_call : ℕ → List Item) (given : List (Reply (List ℕ))) (met : Option Misuse) : Type 0 where
   pub line : Line
-  pub script : script_of line ≡ get_or plan.scripts worker []
+  pub runs : RunsAlong (get_or plan.scripts worker []) (calls_made line) line.rest
   pub items : items_of line ≡ list_of plan made worker
   pub replies : replies_of line ≡ map (recorded_reply plan) given
   pub is : IsLineOf plan worker line

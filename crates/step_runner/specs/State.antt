@@ -1,5 +1,6 @@
 -- What a run knows between two turns.
 use Rattle.std.specs.Prelude.{◌≡◌, ℕ, ◌+◌, ◌≤◌, true, List, [], ◌∷◌, ◌++◌, map, length, get_or, set, replicate}
+use Rattle.script_calls.specs.Runs.{made_of}
 use Rattle.script_calls.specs.declared.call.Reply.{Reply}
 use Rattle.workload.specs.declared.object.ObjectLine.{ObjectLine}
 use Rattle.workload.specs.Plan.{Plan, is_valid}
@@ -29,10 +30,11 @@ with_reply worker reply s = record s { replies = set s.replies worker (get_or s.
 abbrev pub with_moment : ℕ → State → State
 with_moment moment s = record s { moment = moment }
 
--- the plan is valid, the objects and workers are its own, each machine is ready for its turns, and no worker has more replies than calls
+-- the plan is valid, the objects and workers are its own, each machine is ready for its turns, and a worker's replies are to as many calls of its script
 pub record IsStateOf (plan : Plan) (s : State) : Type 0 where
   pub valid : is_valid plan ≡ true
   pub objects : map kind_of s.objects ≡ map (λ object. object.kind) plan.objects
   pub machines : EachAt (λ place. IsMachineOf plan.workers) s.objects
   pub workers : length s.replies ≡ plan.workers
   pub within : (worker : ℕ) → length (get_or s.replies worker []) ≤ length (get_or plan.scripts worker [])
+  pub made : (worker : ℕ) → length (made_of (get_or plan.scripts worker []) (get_or s.replies worker [])) ≡ length (get_or s.replies worker [])

@@ -2,12 +2,14 @@
 use Rattle.std.specs.Prelude.{ℕ, ℤ, List, set, slice_get, Option, Some, None, Result, Ok}
 use Rattle.std.specs.FinMap.{entries}
 use Rattle.std.specs.Option.{option_map_or}
-use Rattle.sync_types.specs.SequentialAtomic.{atomic_reply, atomic_after}
+use Rattle.sync_types.specs.SequentialAtomic.{is_same, atomic_reply, atomic_after}
 use Rattle.sync_types.specs.SequentialMap.{map_reply, map_after}
 use Rattle.sync_types.specs.declared.atomic_object.AtomicCall.TheVariants.{Add}
+use Rattle.sync_types.specs.declared.atomic_object.AtomicReply.TheVariants.{Compared}
 use Rattle.sync_types.specs.declared.atomic_object.Number.{Number}
 use Rattle.sync_types.specs.declared.atomic_object.Number.TheVariants.{Int64}
 use Rattle.script_calls.specs.declared.call.Call.{Call}
+use Rattle.script_calls.specs.declared.call.ComposedCall.TheVariants.{IfEqual}
 use Rattle.script_calls.specs.declared.call.Operation.{Operation}
 use Rattle.script_calls.specs.declared.call.Operation.TheVariants as operations
 use Rattle.script_calls.specs.declared.call.Reply.TheVariants as replies
@@ -55,6 +57,8 @@ turn_on (operations.Map call) worker moment (states.Map m) = (states.Map (map_af
 -- the keys in byte order
 turn_on operations.Range worker moment (states.Map m) = (states.Map m, answers.Completed (replies.Pairs (entries m)))
 turn_on (operations.Atomic call) worker moment (states.Atomic number) = (states.Atomic (atomic_after call number), answers.Completed (replies.Atomic (atomic_reply call number)))
+-- one load, whose reply is compared
+turn_on (operations.Composed (IfEqual value passes)) worker moment (states.Atomic number) = (states.Atomic number, answers.Completed (replies.Atomic (Compared (is_same number value))))
 turn_on (operations.Mutex call) worker moment (states.Mutex m) = turned states.Mutex locked (make mutex.next mutex_event mutex_meaning worker moment (mutex_due call (mutex.place_of m worker)) m)
 turn_on (operations.RwMutex call) worker moment (states.RwMutex m) = turned states.RwMutex locked (make rw.next rw_event rw_meaning worker moment (rw_due call (rw.place_of m worker)) m)
 turn_on (operations.WaitGroup call) worker moment (states.WaitGroup g first) =

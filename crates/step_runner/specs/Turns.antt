@@ -1,7 +1,8 @@
 -- The run of a workload by its schedule: who takes a turn when.
-use Rattle.std.specs.Prelude.{ℕ, Bool, not, List, [], ◌∷◌, map, length, get_or, slice_get, Option, is_some}
+use Rattle.std.specs.Prelude.{ℕ, Bool, not, List, [], ◌∷◌, map, get_or, slice_get, Option, is_some}
 use Rattle.std.specs.List.{list_all, range_with_len}
 use Rattle.std.specs.Option.{option_map_or}
+use Rattle.script_calls.specs.Runs.{left_of}
 use Rattle.script_calls.specs.declared.call.Call.{Call}
 use Rattle.workload.specs.declared.turn.Turn.{Turn}
 use Rattle.workload.specs.declared.turn.Turn.TheVariants as items
@@ -16,9 +17,13 @@ use Rattle.step_runner.specs.State.{State, with_reply, with_moment}
 
 -- ---- a turn
 
+-- what is left of a worker's script behind its replies
+abbrev pub left_for : Plan → ℕ → State → List Call
+left_for plan worker s = left_of (get_or plan.scripts worker []) (get_or s.replies worker [])
+
 -- the call before which a worker stands, unless its script has ended
 abbrev pub next_call : Plan → ℕ → State → Option Call
-next_call plan worker s = slice_get (get_or plan.scripts worker []) (length (get_or s.replies worker []))
+next_call plan worker s = slice_get (left_for plan worker s) 0
 
 -- what an answer means for the worker and for the run
 abbrev pub settled : ℕ → Answer → State → State × Step

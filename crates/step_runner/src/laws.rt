@@ -7,6 +7,7 @@ ghost use Rattle.std.specs.Cmp.Lexicographic.{slice_cmp};
 ghost use Rattle.std.specs.FinMap.{FinMap, contains_key};
 ghost use Rattle.sync_types.specs.declared.atomic_object.Number.{Number};
 ghost use Rattle.script_calls.specs.declared.call.Call.{Call};
+ghost use Rattle.script_calls.specs.declared.call.ComposedCall.{ComposedCall};
 ghost use Rattle.script_calls.specs.declared.call.Operation.TheVariants as operations;
 ghost use Rattle.sync_types.specs.declared.misuse.Misuse.{Misuse};
 ghost use Rattle.sync_types.specs.declared.pool_call.PoolCall.{PoolCall};
@@ -30,6 +31,7 @@ ghost use Rattle.step_runner.specs.Completes.{takes_one_turn};
 ghost use Rattle.step_runner.specs.PlacedCalls.{is_placed};
 ghost use Rattle.step_runner.specs.Objects.{kind_of, IsMachineOf};
 ghost use Rattle.script_calls.specs.Outcome.{has_pairs_to};
+ghost use Rattle.script_calls.specs.Runs.{have_tests, left_of, made_of};
 ghost use Rattle.step_runner.specs.declared.step.Step.TheVariants as steps;
 ghost use Rattle.script_calls.specs.declared.outcome.Report.{Report};
 ghost use Rattle.script_calls.specs.declared.outcome.Outcome.{Outcome};
@@ -39,36 +41,37 @@ ghost use Rattle.step_runner.specs.Ends.{scheduled_ends};
 ghost use Rattle.step_runner.specs.LeftToDo.{left_to_do};
 ghost use Rattle.step_runner.specs.MadeCalls.{made_calls, calls_of};
 ghost use Rattle.step_runner.specs.Outcomes.{rounds, is_misused, StepsTo};
-ghost use Rattle.step_runner.specs.RunItems.{all_made, IsAnswered, LeadTo};
+ghost use Rattle.step_runner.specs.RunItems.{all_made, IsAnswered, IsTested, LeadTo};
 ghost use Rattle.step_runner.specs.Spelt.{lists_of, made_for, misuse_of, EndAs, Falls};
 ghost use Rattle.step_runner.specs.State.{State, IsStateOf, start, with_moment};
 ghost use Rattle.step_runner.specs.Turns.{next_call, turn_of, items_of, after_items, has_ended};
-ghost use Rattle.step_runner.specs.Forms.{all_have_forms, has_forms};
+ghost use Rattle.workload.specs.Forms.{all_have_forms, has_forms};
 ghost use Rattle.step_runner.specs.Computed.{rounds_of, all_rounds, turns};
 
 use crate::turns::laws::spelling::{
     calls_are_entered_whole, items_are_their_workers, turns_spell_their_calls,
 };
 use crate::turns::laws::{
-    a_placed_call_is_one_item, few_turns_are_left_of_a_call, items_lead_from_turn_to_turn,
+    a_placed_call_is_one_item, an_ifeq_is_one_load, few_turns_are_left_of_a_call, items_lead_from_turn_to_turn,
     maps_keep_to_the_keys_of_calls, numbers_stay_in_range, pools_have_room,
     some_calls_take_one_turn, turns_keep_kinds_and_machines, turns_use_something_up,
     workers_stand_in_their_calls,
 };
-use script_calls::laws as form;
+use script_calls::laws as scripts;
 use sync_types::Name;
 use workload::laws::keys_are_numbered_by_first_appearance;
 
 /// What is true of the state in which a run begins stays true with each turn, and so at every moment:
 /// each object is of the kind that the workload says, the state of each mutex and of each reader/writer
-/// mutex is valid, the workers are the callers of each machine, and no worker has more replies than its
-/// script has calls.
+/// mutex is valid, the workers are the callers of each machine, and each reply of a worker is to a call
+/// that it made of its script.
 pub fn validity()
     ensures begins { (plan : Plan) → is_valid plan ≡ true → IsStateOf plan (start plan) }
     ensures goes_on { (plan : Plan) (worker : ℕ) (state : State) → IsStateOf plan state → IsStateOf plan (turn_of plan worker state).0 }
     ensures always { (plan : Plan) (items : List Turn) → is_valid plan ≡ true → IsStateOf plan (after_items plan items (start plan)) }
 {
     turns_keep_kinds_and_machines();
+    scripts::runs_go_on::<Name>();
 }
 
 /// A turn without an event changes nothing, and each event lowers what is left to do. A misuse completes
@@ -78,13 +81,13 @@ pub fn events_use_something_up()
     ensures made { (plan : Plan) (worker : ℕ) (old new : State) → IsStateOf plan old → turn_of plan worker old ≡ (new, steps.Made) → left_to_do plan new < left_to_do plan old }
     ensures misused { (plan : Plan) (worker : ℕ) (old new : State) (misuse : Misuse) → IsStateOf plan old → turn_of plan worker old ≡ (new, steps.Misused misuse) → new.replies ≡ old.replies }
 {
-    turns_keep_kinds_and_machines();
     turns_use_something_up();
+    scripts::runs_go_on::<Name>();
 }
 
 /// A call takes at most four turns that make an event, but those with which its worker goes back to the queue of a mutex. For
 /// each of these another worker took a turn that unlocked, and told the worker to go on. The number of the call counts from 0
-/// in its worker's script.
+/// among the calls that its worker makes.
 pub fn a_call_takes_few_turns()
     ensures few { (plan : Plan) (items : List Turn) (worker number : ℕ) → is_valid plan ≡ true → count_turns plan (advances plan worker number) items (start plan) ≤ 4 }
     ensures woken { (plan : Plan) (items : List Turn) (worker number : ℕ) → is_valid plan ≡ true → count_turns plan (requeues plan worker number) items (start plan) ≤ count_turns plan (wakes plan worker number) items (start plan) }
@@ -105,27 +108,32 @@ pub fn runs_come_to_rest()
 }
 
 /// A run by schedule comes to one outcome, which `turns` computes. It is Done exactly where its schedule and some whole
-/// rounds bring every script to its end, and then each call has its reply; Misused exactly where one of their turns is a
-/// misuse; and Deadlocked exactly where a whole round behind them makes no event while a script has calls left.
+/// rounds bring every script to its end, and then nothing is left of any script behind its replies: where no call passes
+/// others over, each call has its reply. It is Misused exactly where one of their turns is a
+/// misuse, and Deadlocked exactly where a whole round behind them makes no event while a script has calls left.
 pub fn each_run_has_one_outcome()
     ensures exact { (plan : Plan) (outcome : Outcome) → is_valid plan ≡ true → turns plan ≡ outcome ↔ StepsTo plan outcome }
     ensures one { (plan : Plan) (outcome other : Outcome) → is_valid plan ≡ true → StepsTo plan outcome → StepsTo plan other → outcome ≡ other }
     ensures some { (plan : Plan) → is_valid plan ≡ true → StepsTo plan (turns plan) }
-    ensures complete { (plan : Plan) (report : Report) → is_valid plan ≡ true → StepsTo plan (outcomes.Done report) → map length report.replies ≡ map length plan.scripts }
+    ensures complete { (plan : Plan) (report : Report) (worker : ℕ) → is_valid plan ≡ true → StepsTo plan (outcomes.Done report) → left_of (get_or plan.scripts worker []) (get_or report.replies worker []) ≡ [] }
+    ensures straight { (plan : Plan) (report : Report) → is_valid plan ≡ true → have_tests plan.scripts ≡ false → StepsTo plan (outcomes.Done report) → map length report.replies ≡ map length plan.scripts }
 {
     validity();
     events_use_something_up();
+    scripts::a_script_without_tests_is_its_own_run::<Name>();
+    scripts::runs_do_not_hang_on_names::<Name, u32>();
 }
 
-/// Where every call is on a map, an atomic or a pool the run is Done, and each worker has as many replies
-/// as calls.
+/// Where every call is on a map, an atomic or a pool the run is Done. Where no call passes others over, each worker has
+/// as many replies as calls.
 pub fn scripts_of_one_turn_calls_end()
     ensures { (plan : Plan) → is_valid plan ≡ true → list_all (list_all (λ call. takes_one_turn call.operation)) plan.scripts ≡ true
-        → (report : Report) × StepsTo plan (outcomes.Done report) × (map length report.replies ≡ map length plan.scripts) }
+        → (report : Report) × StepsTo plan (outcomes.Done report) × (have_tests plan.scripts ≡ false → map length report.replies ≡ map length plan.scripts) }
 {
     validity();
     events_use_something_up();
     some_calls_take_one_turn();
+    scripts::a_script_without_tests_is_its_own_run::<Name>();
 }
 
 /// At no moment has a worker more replies than its script has calls.
@@ -135,12 +143,15 @@ pub fn replies_stay_within_scripts()
     validity();
 }
 
-/// At every moment the calls that a worker has completed are the first of its script, in order, as many
-/// as it has replies.
+/// At every moment the calls that a worker has completed are those of its script in order, but those that were passed over,
+/// as many as it has replies. Where no call passes others over, they are the first of its script.
 pub fn calls_are_made_in_order()
-    ensures { (plan : Plan) (items : List Turn) (worker : ℕ) → is_valid plan ≡ true → calls_of worker (made_calls plan items (start plan)) ≡ take (length (get_or (after_items plan items (start plan)).replies worker [])) (get_or plan.scripts worker []) }
+    ensures made { (plan : Plan) (items : List Turn) (worker : ℕ) → is_valid plan ≡ true → calls_of worker (made_calls plan items (start plan)) ≡ made_of (get_or plan.scripts worker []) (get_or (after_items plan items (start plan)).replies worker []) }
+    ensures straight { (plan : Plan) (items : List Turn) (worker : ℕ) → is_valid plan ≡ true → have_tests plan.scripts ≡ false → calls_of worker (made_calls plan items (start plan)) ≡ take (length (get_or (after_items plan items (start plan)).replies worker [])) (get_or plan.scripts worker []) }
 {
     validity();
+    scripts::runs_go_on::<Name>();
+    scripts::a_script_without_tests_is_its_own_run::<Name>();
 }
 
 /// At every moment each object is of the kind that the workload says, an atomic holds a number in the
@@ -186,8 +197,18 @@ pub fn placed_calls_are_answered_by_their_items()
     a_placed_call_is_one_item();
 }
 
-/// At every moment, behind any turns up to the first misuse, a worker's items fall into the calls of its script, in order: each
-/// completed call is spelt by the items of its own turns, as a record's are, and its reply is read off them. Behind them stand the
+/// At every moment the next turn of a worker that stands before an `ifeq` makes one load of its atomic, of what the atomic holds, and
+/// answers true exactly where that is the value.
+pub fn an_ifeq_tells_what_its_load_found()
+    ensures { (plan : Plan) (items : List Turn) (worker : ℕ) (call : Call) (value : Number) (passes : ℕ) → is_valid plan ≡ true → next_call plan worker (after_items plan items (start plan)) ≡ Some call
+        → call.operation ≡ operations.Composed (ComposedCall.IfEqual value passes) → IsTested plan worker call value (after_items plan items (start plan)) }
+{
+    validity();
+    an_ifeq_is_one_load();
+}
+
+/// At every moment, behind any turns up to the first misuse, a worker's items fall into the calls of a run of its script, in order:
+/// each completed call is spelt by the items of its own turns, as a record's are, and its reply is read off them. Behind them stand the
 /// first items of at most one more call, or that call as a misuse: each list ends by the call before which its worker stands, and by the
 /// misuse that it met. It has no halt. So the lists of any record that has the run's items are lines of the outcome.
 pub fn the_items_of_each_call_spell_it()
@@ -202,6 +223,9 @@ pub fn the_items_of_each_call_spell_it()
     turns_spell_their_calls();
     calls_are_entered_whole();
     items_are_their_workers();
+    scripts::a_run_is_told_by_its_replies::<u32>();
+    scripts::runs_go_on::<u32>();
+    scripts::runs_do_not_hang_on_names::<Name, u32>();
 }
 
 /// Where no turn was a misuse, no worker met one; where one was, its worker met it.
@@ -237,7 +261,8 @@ pub fn replies_have_their_form()
 {
     validity();
     workers_stand_in_their_calls();
-    form::replies_have_their_form::<Name, u32>();
+    scripts::replies_have_their_form::<Name, u32>();
+    scripts::runs_do_not_hang_on_names::<Name, u32>();
 }
 
 /// At every moment a worker that stands before a put finds room for its item: by schedule no put is dropped.
@@ -249,6 +274,7 @@ pub fn no_put_is_dropped()
 {
     validity();
     pools_have_room();
+    scripts::runs_go_on::<Name>();
 }
 
 /// Once every script has ended, nothing that is left of the schedule makes an event or has an effect, but

@@ -3,9 +3,9 @@ ghost use Rattle.std.specs.Prelude.{◌≡◌, true, IfOk};
 ghost use Rattle.script_calls.specs.Outcome.{shows_to};
 ghost use Rattle.workload.specs.declared.limits.TheConstants.{MAX_KEYS};
 ghost use Rattle.workload.specs.Plan.{is_turn};
-ghost use Rattle.step_runner.specs.Forms.{has_forms};
+ghost use Rattle.workload.specs.Forms.{has_forms};
 ghost use Rattle.step_runner.specs.Outcomes.{StepsTo};
-ghost use Rattle.step_runner.specs.State.{IsStateOf};
+ghost use Rattle.step_runner.specs.Places.{IsKeptFor};
 ghost use Rattle.step_runner.specs.Turns.{item_of, items_of, round, has_ended};
 ghost use Rattle.step_runner.specs.Computed.{all_rounds, behind_schedule, outcome_of, turns};
 
@@ -28,10 +28,10 @@ fn take_item(
     item: Turn,
     state: &mut State,
 ) -> Result<Step, AllocError>
-    requires of { IsStateOf workload.now state.old }
+    requires of { IsKeptFor workload.now state.old }
     requires item { is_turn workload.now.workers item ≡ true }
-    ensures item { IfOk result (λ step. item_of workload.now item state.old ≡ (state.new, step)) }
-    ensures of { IfOk result (λ _. IsStateOf workload.now state.new) }
+    ensures item { IfOk result (λ step. item_of workload.now item state.old.state ≡ (state.new.state, step)) }
+    ensures of { IfOk result (λ _. IsKeptFor workload.now state.new) }
 {
     match item {
         Turn::Worker(worker) => take_turn(alloc, workload, worker, state),
@@ -44,9 +44,9 @@ fn take_item(
 
 /// Takes the items of the schedule in order, to the first misuse.
 fn take_schedule(alloc: Global, workload: &Workload, state: &mut State) -> Result<Step, AllocError>
-    requires { IsStateOf workload.now state.old }
-    ensures items { IfOk result (λ step. items_of workload.now workload.now.schedule state.old ≡ (state.new, step)) }
-    ensures of { IfOk result (λ _. IsStateOf workload.now state.new) }
+    requires { IsKeptFor workload.now state.old }
+    ensures items { IfOk result (λ step. items_of workload.now workload.now.schedule state.old.state ≡ (state.new.state, step)) }
+    ensures of { IfOk result (λ _. IsKeptFor workload.now state.new) }
 {
     let mut so_far = Step::Still;
     for item in workload.schedule() {
@@ -61,9 +61,9 @@ fn take_schedule(alloc: Global, workload: &Workload, state: &mut State) -> Resul
 
 /// Takes a round, to the first misuse: each worker from 0 up takes one turn.
 fn take_round(alloc: Global, workload: &Workload, state: &mut State) -> Result<Step, AllocError>
-    requires { IsStateOf workload.now state.old }
-    ensures items { IfOk result (λ step. items_of workload.now (round workload.now.workers) state.old ≡ (state.new, step)) }
-    ensures of { IfOk result (λ _. IsStateOf workload.now state.new) }
+    requires { IsKeptFor workload.now state.old }
+    ensures items { IfOk result (λ step. items_of workload.now (round workload.now.workers) state.old.state ≡ (state.new.state, step)) }
+    ensures of { IfOk result (λ _. IsKeptFor workload.now state.new) }
 {
     let mut so_far = Step::Still;
     for worker in 0..workload.workers() {
@@ -78,8 +78,8 @@ fn take_round(alloc: Global, workload: &Workload, state: &mut State) -> Result<S
 
 /// Whether every script has ended.
 fn has_ended(workload: &Workload, state: &State) -> bool
-    requires { IsStateOf workload.now state.now }
-    ensures { result ≡ has_ended workload.now state.now }
+    requires { IsKeptFor workload.now state.now }
+    ensures { result ≡ has_ended workload.now state.now.state }
 {
     for worker in 0..workload.workers() {
         if next_call(workload, worker, state).is_some() {
@@ -91,8 +91,8 @@ fn has_ended(workload: &Workload, state: &State) -> bool
 
 /// Takes rounds until every script has ended, a turn is a misuse, or a whole round makes no event.
 fn take_rounds(alloc: Global, workload: &Workload, state: &mut State) -> Result<Ending, AllocError>
-    requires { IsStateOf workload.now state.old }
-    ensures { IfOk result (λ ending. all_rounds workload.now state.old ≡ (state.new, ending)) }
+    requires { IsKeptFor workload.now state.old }
+    ensures { IfOk result (λ ending. all_rounds workload.now state.old.state ≡ (state.new.state, ending)) }
 {
     laws::events_use_something_up();
     laws::validity();
@@ -108,8 +108,8 @@ fn take_rounds(alloc: Global, workload: &Workload, state: &mut State) -> Result<
 
 /// Takes the schedule, and behind it rounds unless a turn of the schedule was a misuse.
 fn take_all(alloc: Global, workload: &Workload, state: &mut State) -> Result<Ending, AllocError>
-    requires { IsStateOf workload.now state.old }
-    ensures { IfOk result (λ ending. behind_schedule workload.now (items_of workload.now workload.now.schedule state.old) ≡ (state.new, ending)) }
+    requires { IsKeptFor workload.now state.old }
+    ensures { IfOk result (λ ending. behind_schedule workload.now (items_of workload.now workload.now.schedule state.old.state) ≡ (state.new.state, ending)) }
 {
     match take_schedule(alloc, workload, state)? {
         Step::Still | Step::Made => take_rounds(alloc, workload, state),
@@ -124,7 +124,7 @@ fn outcome(
     state: State,
     ending: Ending,
 ) -> Result<Outcome, AllocError>
-    ensures { IfOk result (λ outcome. outcome ≡ outcome_of workload.now (state, ending)) }
+    ensures { IfOk result (λ outcome. outcome ≡ outcome_of workload.now (state.state, ending)) }
 {
     let State {
         objects,

@@ -1,7 +1,7 @@
 //! One turn of a worker.
 ghost use Rattle.std.specs.Prelude.{◌≡◌, ◌<◌, IfOk};
 ghost use Rattle.std.specs.Option.{option_copied};
-ghost use Rattle.step_runner.specs.State.{IsStateOf};
+ghost use Rattle.step_runner.specs.Places.{IsKeptFor};
 ghost use Rattle.step_runner.specs.Turns.{next_call, turn_of};
 
 use crate::laws;
@@ -9,16 +9,18 @@ use crate::state::State;
 use crate::step::Step;
 use crate::turns::{Taker, take_turn_at};
 use script_calls::Call;
+use script_calls::laws::runs_go_on;
 use std::alloc::{AllocError, Global};
+use sync_types::Name;
 use workload::Workload;
 
 /// The call before which a worker stands, unless its script has ended.
 pub fn next_call<'a>(workload: &'a Workload, worker: u32, state: &State) -> Option<&'a Call>
-    requires of { IsStateOf workload.now state.now }
+    requires of { IsKeptFor workload.now state.now }
     requires worker { worker < workload.now.workers }
-    ensures { option_copied result ≡ next_call workload.now worker state.now }
+    ensures { option_copied result ≡ next_call workload.now worker state.now.state }
 {
-    workload.script(worker).get(state.completed(worker))
+    workload.script(worker).get(state.place(worker))
 }
 
 /// Gives a worker one turn. Where its script has ended it makes no event.
@@ -28,12 +30,13 @@ pub fn take_turn(
     worker: u32,
     state: &mut State,
 ) -> Result<Step, AllocError>
-    requires of { IsStateOf workload.now state.old }
+    requires of { IsKeptFor workload.now state.old }
     requires worker { worker < workload.now.workers }
-    ensures turn { IfOk result (λ step. turn_of workload.now worker state.old ≡ (state.new, step)) }
-    ensures of { IfOk result (λ _. IsStateOf workload.now state.new) }
+    ensures turn { IfOk result (λ step. turn_of workload.now worker state.old.state ≡ (state.new.state, step)) }
+    ensures of { IfOk result (λ _. IsKeptFor workload.now state.new) }
 {
     laws::validity();
+    runs_go_on::<Name>();
     match next_call(workload, worker, state) {
         None => Ok(Step::Still),
         Some(call) => {
@@ -43,7 +46,7 @@ pub fn take_turn(
                 moment: state.moment,
             };
             let answer = take_turn_at(alloc, &mut state.objects, call, taker)?;
-            state.settle(worker, answer)
+            state.settle(worker, call, answer)
         }
     }
 }

@@ -1,6 +1,9 @@
 //! What a turn keeps at the objects of a run, whatever the workload, and what it uses up.
 ghost use Rattle.std.specs.Prelude.{◌≡◌, ◌≢◌, ℕ, ◌<◌, ◌≤◌, true, false, List, [], ◌++◌, Option, Some, map, slice_get, sum_by};
+ghost use Rattle.sync_types.specs.declared.atomic_object.Number.{Number};
 ghost use Rattle.script_calls.specs.declared.call.Call.{Call};
+ghost use Rattle.script_calls.specs.declared.call.ComposedCall.{ComposedCall};
+ghost use Rattle.script_calls.specs.declared.call.Operation.TheVariants as operations;
 ghost use Rattle.pool_core.specs.PoolMachine as pool;
 ghost use Rattle.pool_core.specs.declared.pool_event.PoolEvent.{PoolEvent};
 ghost use Rattle.pool_core.specs.declared.pool_event.PoolReply.{PoolReply};
@@ -18,7 +21,7 @@ ghost use Rattle.step_runner.specs.MapKeys.{AreAmong, HasObjectKeysIn};
 ghost use Rattle.step_runner.specs.ObjectLeft.{object_left, UsesBy};
 ghost use Rattle.step_runner.specs.Objects.{new_object, kind_of, IsMachineOf, EachAt};
 ghost use Rattle.step_runner.specs.Pairs.{ShowsTo};
-ghost use Rattle.step_runner.specs.PlacedCalls.{is_placed, IsAnswered};
+ghost use Rattle.step_runner.specs.PlacedCalls.{is_placed, IsAnswered, IsTested};
 ghost use Rattle.step_runner.specs.PoolRoom.{put_of, HasRoomFor, left_behind};
 ghost use Rattle.step_runner.specs.Ready.{IsReady};
 ghost use Rattle.step_runner.specs.ReplyForm.{HasForm};
@@ -166,4 +169,11 @@ pub fn items_lead_from_turn_to_turn()
 pub fn a_placed_call_is_one_item()
     ensures { (workers worker moment : ℕ) (call : Call) (objects : List ObjectState) → IsReady workers worker call objects → is_placed call.operation ≡ true
         → IsAnswered call worker (items_at call worker moment objects) (turn_at call worker moment objects).1 }
+{}
+
+/// A turn before an `ifeq` makes one load of its atomic, of what the atomic holds, and completes the call: it answers whether that is
+/// the value.
+pub fn an_ifeq_is_one_load()
+    ensures { (workers worker moment : ℕ) (call : Call) (objects : List ObjectState) (value : Number) (passes : ℕ) → IsReady workers worker call objects → call.operation ≡ operations.Composed (ComposedCall.IfEqual value passes)
+        → IsTested call value worker objects (items_at call worker moment objects) (turn_at call worker moment objects).1 }
 {}

@@ -3,6 +3,7 @@ ghost use Rattle.std.specs.Prelude.{◌≡◌, true, IfOk};
 ghost use Rattle.sync_types.specs.SequentialAtomic.{is_atomic_call};
 ghost use Rattle.sync_types.specs.declared.atomic_object.AtomicKind.{AtomicKind};
 ghost use Rattle.script_calls.specs.declared.call.Operation.TheVariants as operations;
+ghost use Rattle.workload.specs.Plan.{has_call};
 ghost use Rattle.workload.specs.declared.object.ObjectKind.TheVariants as kinds;
 ghost use Rattle.step_runner.specs.Objects.{kind_of};
 ghost use Rattle.step_runner.specs.TurnAtObjects.{turn_on};
@@ -10,9 +11,9 @@ ghost use Rattle.step_runner.specs.TurnAtObjects.{turn_on};
 use crate::turns::answer::Answer;
 use crate::turns::object_state::ObjectState;
 use crate::turns::stages::Taker;
-use script_calls::Reply;
+use script_calls::{ComposedCall, Reply};
 use std::alloc::{AllocError, Global};
-use sync_types::{AtomicCall, MapCall, Name, atomic_object, map_object};
+use sync_types::{AtomicCall, MapCall, Name, Number, atomic_object, map_object};
 
 /// Makes a call on a map, which is completed in this turn.
 pub(crate) fn take_map_turn(
@@ -60,6 +61,24 @@ pub(crate) fn take_atomic_turn(object: &mut ObjectState, call: AtomicCall, taker
     match object {
         ObjectState::Atomic(number) => {
             let reply = atomic_object::apply(number, call);
+            Answer::Completed(Reply::Atomic(reply))
+        }
+        _ => Answer::Still,
+    }
+}
+
+/// Makes a call on an atomic that is made of others, which is completed in this turn. An `ifeq` tells whether the atomic holds a
+/// number: so does a compare-and-swap on a copy of what it holds.
+pub(crate) fn take_composed_turn(object: &ObjectState, call: ComposedCall, taker: Taker) -> Answer
+    requires { has_call (kind_of object.now) (operations.Composed call) ≡ true }
+    ensures { turn_on (operations.Composed call) taker.worker taker.moment object.now ≡ (object.now, result) }
+{
+    let ComposedCall::IfEqual { value, .. } = call;
+    match object {
+        ObjectState::Atomic(number) => {
+            let mut held = *number;
+            let (old, new) = (value, value);
+            let reply = atomic_object::apply(&mut held, AtomicCall::CompareAndSwap { old, new });
             Answer::Completed(Reply::Atomic(reply))
         }
         _ => Answer::Still,

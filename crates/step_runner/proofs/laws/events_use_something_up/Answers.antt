@@ -5,8 +5,8 @@ use Rattle.step_runner.specs.Turns.{turn_of}
 use Rattle.step_runner.proofs.TurnLemmas.{StepUses, turn_used}
 use Rattle.step_runner.proofs.laws.events_use_something_up.Goals as goal
 
-used : goal.After-turns_use_something_up → (plan : Plan) (worker : ℕ) (s : State) → IsStateOf plan s → StepUses plan s (turn_of plan worker s)
-used c = turn_used (record { kinds = c.turns_keep_kinds_and_machines.ensures.kinds; machines = c.turns_keep_kinds_and_machines.ensures.machines }) c.turns_use_something_up.ensures
+used : goal.After-runs_go_on → (plan : Plan) (worker : ℕ) (s : State) → IsStateOf plan s → StepUses plan s (turn_of plan worker s)
+used c = turn_used (record { left = c.runs_go_on.ensures.left; made = c.runs_go_on.ensures.made; few = c.runs_go_on.ensures.few }) c.turns_use_something_up.ensures
 
 pub returns-clause-still : goal.returns-clause-still
 returns-clause-still c plan worker old new of is = subst (StepUses plan old) is (used c plan worker old of)

@@ -1,7 +1,7 @@
 use Rattle.step_runner.proofs.FormLemmas.{TurnStands, items_stand, run_forms}
 use Rattle.step_runner.proofs.laws.replies_have_their_form.Goals as goal
 
-abbrev stands : goal.After-replies_have_their_form → TurnStands
+abbrev stands : goal.After-runs_do_not_hang_on_names → TurnStands
 stands c = record {
   begins = c.workers_stand_in_their_calls.ensures.begins;
   forms = c.workers_stand_in_their_calls.ensures.forms;
@@ -13,4 +13,4 @@ pub returns-clause-always : goal.returns-clause-always
 returns-clause-always c plan items valid = (items_stand (stands c) plan (c.validity.ensures.goes_on plan) (c.validity.ensures.begins plan valid) items).forms
 
 pub returns-clause-left : goal.returns-clause-left
-returns-clause-left c plan valid = run_forms (stands c) c.replies_have_their_form.ensures.renamed plan (c.validity.ensures.goes_on plan) (c.validity.ensures.begins plan valid)
+returns-clause-left c plan valid = run_forms (stands c) c.replies_have_their_form.ensures.renamed (record { left = c.runs_do_not_hang_on_names.ensures.left; made = c.runs_do_not_hang_on_names.ensures.made }) plan (c.validity.ensures.goes_on plan) (c.validity.ensures.begins plan valid)

@@ -1,7 +1,7 @@
 use Rattle.step_runner.proofs.SpeltOutcome.{SpeltLaws, run_falls, outcome_lined}
 use Rattle.step_runner.proofs.laws.the_items_of_each_call_spell_it.Goals as goal
 
-abbrev laws : goal.After-items_are_their_workers → SpeltLaws
+abbrev laws : goal.After-runs_do_not_hang_on_names → SpeltLaws
 laws c = record {
   spells = record {
     own = λ plan worker before moment call objects ready keys out within. c.turns_spell_their_calls.ensures.own plan worker before moment call objects ready keys out within;
@@ -10,6 +10,11 @@ laws c = record {
     begins = c.calls_are_entered_whole.ensures.begins;
     enters = λ plan worker before call objects ready kinds idle out. c.calls_are_entered_whole.ensures.enters plan worker before call objects ready kinds idle out;
     goes_on = λ plan worker before call objects ready. c.calls_are_entered_whole.ensures.goes_on plan worker before call objects ready;
+    runs = record {
+      told = c.a_run_is_told_by_its_replies.ensures.told;
+      along = c.runs_go_on.ensures.along;
+      names = record { left = c.runs_do_not_hang_on_names.ensures.left; made = c.runs_do_not_hang_on_names.ensures.made };
+    };
     by_itself = c.items_are_their_workers.ensures.own;
     by_no_other = λ worker other moment call objects apart. c.items_are_their_workers.ensures.others worker other moment call objects apart;
   };

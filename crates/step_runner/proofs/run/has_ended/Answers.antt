@@ -11,8 +11,8 @@ is_some-copied (Some x) = refl
 
 pub returns-then-is_some : goal.returns-then-is_some
 returns-then-is_some c =
-    let some : is_some (next_call c.args.workload.now c.loop-worker.worker c.args.state.now) ≡ true = ap is_some (sym c.next_call.ensures) ∙ is_some-copied c.next_call.result ∙ sym c.if-is_some.ensures in
-    sym (not_ended c.args.workload.now c.args.state.now c.loop-worker.worker c.requires some)
+    let some : is_some (next_call c.args.workload.now c.loop-worker.worker c.args.state.now.state) ≡ true = ap is_some (sym c.next_call.ensures) ∙ is_some-copied c.next_call.result ∙ sym c.if-is_some.ensures in
+    sym (not_ended c.args.workload.now c.args.state.now.state c.loop-worker.worker c.requires.of some)
 
 pub returns : goal.returns
-returns c = sym (ended_where c.args.workload.now c.args.state.now (λ k below. c.loop-worker.invariant k (omega (arith, c.workers-worker-end.ensures.workers))))
+returns c = sym (ended_where c.args.workload.now c.args.state.now.state (λ k below. c.loop-worker.invariant k (omega (arith, c.workers-worker-end.ensures.workers))))

@@ -1,14 +1,14 @@
 use Rattle.std.proofs.Common.{◌≡◌}
 use Rattle.step_runner.specs.LeftToDo.{left_to_do}
-use Rattle.step_runner.specs.State.{IsStateOf}
+use Rattle.step_runner.specs.Places.{IsKeptFor}
 use Rattle.step_runner.specs.Computed.{all_rounds}
 use Rattle.step_runner.proofs.run.take_rounds.Given as goal
 
 abbrev pub invariant-loop-alloc : goal.invariant-loop-alloc
 invariant-loop-alloc l = record {
-  of : IsStateOf l.workload l.state;
-  rest : all_rounds l.workload l.state ≡ all_rounds l.workload l.initial.state;
+  of : IsKeptFor l.workload l.state;
+  rest : all_rounds l.workload l.state.state ≡ all_rounds l.workload l.initial.state.state;
 }
 
 abbrev pub decreases-loop-alloc : goal.decreases-loop-alloc
-decreases-loop-alloc l = left_to_do l.workload l.state
+decreases-loop-alloc l = left_to_do l.workload l.state.state
