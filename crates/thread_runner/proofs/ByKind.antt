@@ -5,7 +5,10 @@ use Rattle.std.proofs.lemmas.Bool.{false≢true}
 use Rattle.std.proofs.lemmas.Option.{same_Some}
 use Rattle.sync_types.specs.declared.atomic_object.AtomicCall.{AtomicCall}
 use Rattle.sync_types.specs.declared.atomic_object.AtomicKind.{AtomicKind}
+use Rattle.sync_types.specs.declared.atomic_object.Number.{Number}
 use Rattle.script_calls.specs.declared.call.Call.{Call}
+use Rattle.script_calls.specs.declared.call.ComposedCall.{ComposedCall}
+use Rattle.script_calls.specs.declared.call.ComposedCall.TheVariants.{IfEqual}
 use Rattle.script_calls.specs.declared.call.Operation.{Operation}
 use Rattle.script_calls.specs.declared.call.Operation.TheVariants as operations
 use Rattle.script_calls.specs.declared.call.Reply.{Reply}
@@ -21,6 +24,7 @@ use Rattle.run_record.specs.AtomicKind.{atomic_call}
 use Rattle.run_record.specs.MapKind.{map_call, range_call}
 use Rattle.run_record.specs.Objects.{map_number, atomic_number, first_part}
 use Rattle.run_record.specs.PoolKind.{pool_call}
+use Rattle.run_record.specs.Tests.{if_equal_call}
 use Rattle.run_record.specs.Calls.{call_on, call_at, SpellsCall}
 use Rattle.thread_objects.specs.Catalog.{IsAt}
 use Rattle.thread_objects.specs.Working.{Desk, Works}
@@ -38,7 +42,17 @@ pub atomic_type : (kind : ObjectKind) (call : AtomicCall) → has_call kind (ope
 atomic_type (kinds.Atomic type) call has = (type, refl)
 atomic_type kind call has = absurd (false≢true has)
 
+-- so is one that has a call that is made of others
+pub composed_type : (kind : ObjectKind) (call : ComposedCall) → has_call kind (operations.Composed call) ≡ true → (type : AtomicKind) × (kind ≡ kinds.Atomic type)
+composed_type (kinds.Atomic type) call has = (type, refl)
+composed_type kind call has = absurd (false≢true has)
+
 module _ (plan : Plan) (worker before place : ℕ) (old new : Desk) (answer : CallAnswer (Reply ℕ)) where
+  -- an `ifeq` is the call on an atomic that is made of others
+  pub if_equal_made : (type : AtomicKind) (call : ComposedCall) (value : Number) → ((compared : Number) (passes : ℕ) → call ≡ IfEqual compared passes → value ≡ compared)
+      → Works (if_equal_call (atomic_number plan.objects place) value) old answer new → Works (call_on plan worker before place (kinds.Atomic type) (operations.Composed call)) old answer new
+  if_equal_made type (IfEqual compared passes) value is works = subst (λ (n : Number). Works (if_equal_call (atomic_number plan.objects place) n) old answer new) (is compared passes refl) works
+
   abbrev MadeOn : ObjectKind → Operation → Type 0
   MadeOn kind operation = Works (call_on plan worker before place kind operation) old answer new
 
@@ -67,6 +81,11 @@ module _ (plan : Plan) (worker before place : ℕ) (old new : Desk) (answer : Ca
 
     pub on_atomic : (call : AtomicCall) → operation ≡ operations.Atomic call → Works (atomic_call (atomic_number plan.objects place) call) old answer new → MadeOn kind operation
     on_atomic call is works = let type = atomic_type kind call (has_own (operations.Atomic call) is) in subst (λ (o : Operation). MadeOn kind o) (sym is) (atomic_made kind call works type.0 type.1)
+
+    pub on_composed : (call : ComposedCall) → operation ≡ operations.Composed call → ((type : AtomicKind) → MadeOn (kinds.Atomic type) (operations.Composed call)) → MadeOn kind operation
+    on_composed call is works =
+        let type = composed_type kind call (has_own (operations.Composed call) is) in
+        subst (λ (o : Operation). MadeOn kind o) (sym is) (subst (λ (k : ObjectKind). MadeOn k (operations.Composed call)) (sym type.1) (works type.0))
 
     pub on_range : operation ≡ operations.Range → Works (range_call (keys_in plan.scripts) (map_number plan.objects place) before) old answer new → MadeOn kind operation
     on_range is works = subst (λ (o : Operation). MadeOn kind o) (sym is) (range_made kind works (has_own operations.Range is))

@@ -16,7 +16,7 @@ use Rattle.run_record.specs.declared.made.Made.{Made}
 use Rattle.run_record.specs.declared.made.Made.TheVariants.{Entered}
 use Rattle.run_record.specs.Explains.{AreLines, IsRecordOf, HasEnded}
 use Rattle.run_record.specs.InOneOrder.{InOneOrder}
-use Rattle.run_record.specs.Lines.{Line, script_of, items_of, replies_of, HaltsStop, HaltsEach, halted_by}
+use Rattle.run_record.specs.Lines.{Line, items_of, replies_of, HaltsStop, HaltsEach, halted_by}
 use Rattle.run_record.specs.Objects.{contents_of}
 use Rattle.run_record.specs.Record.{Record, ObjectEntry, stop, journal_of, list_of, shared_in, entries_in, calls_of, front_of}
 use Rattle.thread_objects.specs.Working.{Desk, Moves}
@@ -153,7 +153,8 @@ module _ (plan : Plan) (history : List SharedEntry) (journals : List (List Objec
   -- and the lines are those of its lists
   pub are_lines : (outcome : Outcome) → (left_by outcome).replies ≡ replies → AreLines plan joined outcome lines
   are_lines outcome is = record {
-    scripts = mapped_is script_of lines plan.scripts all.scripts (λ worker line at. (all.did worker line at).calls);
+    count = all.scripts;
+    runs = λ worker line at. (all.did worker line at).calls;
     lists = refl;
     replies = mapped_is replies_of lines replies all.answered (λ worker line at. (all.did worker line at).answers) ∙ sym is;
     each = λ worker line at. (all.did worker line at).is;

@@ -1,11 +1,11 @@
 -- A worker's line, call by call.
-use Rattle.std.proofs.Common.{◌≡◌, ℕ, zero, suc, ◌+◌, ◌<◌, List, [], ◌∷◌, ◌++◌, length, take, drop, map, Some, slice_get, All, refl, sym, ap, ◌∙◌, subst, arith, Ok, Err}
+use Rattle.std.proofs.Common.{◌≡◌, ℕ, ◌+◌, List, [], ◌∷◌, ◌++◌, length, drop, map, All, refl, sym, ap, ◌∙◌, subst, arith, Ok, Err}
 use Rattle.std.specs.List.{flat_map}
-use Rattle.std.proofs.lemmas.List.{append-nil, append_assoc, take-append-drop, take_all, map_push, length-append}
-use Rattle.std.proofs.lemmas.Option.{none-some}
+use Rattle.std.proofs.lemmas.List.{append-nil, append_assoc, map_push, length-append}
 use Rattle.sync_model.specs.declared.answer.Answer.TheVariants.{Done, Halted}
 use Rattle.script_calls.specs.declared.call.Call.{Call}
 use Rattle.script_calls.specs.declared.call.Reply.{Reply}
+use Rattle.script_calls.specs.Runs.{passed_over, RunsAlong}
 use Rattle.sync_model.specs.declared.item.Item.{Item}
 use Rattle.sync_types.specs.declared.misuse.Misuse.{Misuse}
 use Rattle.workload.specs.Plan.{Plan}
@@ -16,7 +16,6 @@ use Rattle.run_record.specs.Lines.{Line, SpeltCall, whole, misused, halted, AreS
 use Rattle.run_record.specs.Record.{shared_in}
 use Rattle.thread_objects.specs.Working.{Desk, Moves, Works}
 use Rattle.thread_runner.specs.DidLines.{DidLine, Went}
-use Rattle.thread_runner.proofs.ItemLists.{first_is}
 
 -- what two lists of items do, one after the other, both do
 abbrev pub Joins : Type 0
@@ -40,19 +39,12 @@ module _ (plan : Plan) (worker : ℕ) where
       let count : length (shared_in (y.items ++ items_in xs)) ≡ length (shared_in y.items) + length (shared_in (items_in xs)) = ap (λ (l : List Item). length l) (shared y.items (items_in xs)) ∙ length-append (shared_in y.items) (shared_in (items_in xs)) in
       (are.0, spelt_push shared (before + length (shared_in y.items)) xs x are.1 (subst (λ n. SpellsCall plan worker n x.call x.items (Done (Ok x.reply))) (omega (arith, count)) spelt))
 
-drop_from : (j : ℕ) (xs : List Call) (x : Call) → slice_get xs j ≡ Some x → drop j xs ≡ x ∷ drop (suc j) xs
-drop_from j [] x found = absurd (none-some x found)
-drop_from zero (y ∷ xs) x found = ap (λ (z : Call). z ∷ xs) (first_is y x xs found)
-drop_from (suc j) (y ∷ xs) x found = drop_from j xs x found
+-- with one more reply a run goes on behind the next call and those that it passes over
+abbrev pub RunsOn : Type 0
+RunsOn = (script : List Call) (made : List (Call × Reply ℕ)) (call : Call) (rest : List Call) (reply : Reply ℕ) → RunsAlong script made (call ∷ rest) → RunsAlong script (made ++ (call, reply) ∷ []) (drop (passed_over call reply) rest)
 
-took : (j : ℕ) (xs : List Call) (x : Call) → slice_get xs j ≡ Some x → take (j + 1) xs ≡ take j xs ++ x ∷ []
-took j xs x found =
-    let next : j + 1 ≡ suc j = omega arith in
-    ap (λ n. take n xs) next ∙ more j xs found where
-      more : (j : ℕ) (xs : List Call) → slice_get xs j ≡ Some x → take (suc j) xs ≡ take j xs ++ x ∷ []
-      more j [] found = absurd (none-some x found)
-      more zero (y ∷ xs) found = ap (λ (z : Call). z ∷ []) (first_is y x xs found)
-      more (suc j) (y ∷ xs) found = ap (λ (l : List Call). y ∷ l) (more j xs found)
+abbrev pairs_in : List SpeltCall → List (Call × Reply ℕ)
+pairs_in spelt = map (λ s. (s.call, s.reply)) spelt
 
 module _ (plan : Plan) (worker : ℕ) (script : List Call) (old : Desk) (none : old.calls ≡ []) where
   abbrev DidLineOf : List Call → List (Reply ℕ) → Desk → Desk → Type 0
@@ -62,7 +54,7 @@ module _ (plan : Plan) (worker : ℕ) (script : List Call) (old : Desk) (none : 
   pub begun : Moves old [] old → Went plan worker script 0 [] old old
   begun rests = record { spelt = []; are = tt; calls = refl; answers = refl; moves = rests }
 
-  module _ (i : ℕ) (call : Call) (within : i < length script) (at : slice_get script i ≡ Some call) (replies : List (Reply ℕ)) (now new : Desk) (joins : Joins) (went : Went plan worker script i replies old now) where
+  module _ (place : ℕ) (call : Call) (at : drop place script ≡ call ∷ drop (place + 1) script) (replies : List (Reply ℕ)) (now new : Desk) (joins : Joins) (went : Went plan worker script place replies old now) where
     -- a worker's own calls are those of the items
     made_before : length now.calls ≡ length (shared_in (items_in went.spelt))
     made_before = ap (λ (l : List Item). length l) (went.moves.calls ∙ ap (λ (l : List Item). l ++ shared_in (items_in went.spelt)) none)
@@ -73,17 +65,20 @@ module _ (plan : Plan) (worker : ℕ) (script : List Call) (old : Desk) (none : 
     all_moves : (items : List Made) → Moves now items new → Moves old (items_in went.spelt ++ items) new
     all_moves items moves = joins old now new (items_in went.spelt) items went.moves moves
 
-    rest : script ≡ take i script ++ call ∷ drop (suc i) script
-    rest = sym (take-append-drop i script) ∙ ap (λ (l : List Call). take i script ++ l) (drop_from i script call at)
+    -- the next call is this one
+    next_is : RunsAlong script (pairs_in went.spelt) (call ∷ drop (place + 1) script)
+    next_is = subst (RunsAlong script (pairs_in went.spelt)) at went.calls
 
     -- a call that was answered comes behind the others
-    pub went_on : SharedJoins → (reply : Reply ℕ) → Works (SpellsCall plan worker (length now.calls) call) now (Done (Ok reply)) new → Went plan worker script (i + 1) (replies ++ reply ∷ []) old new
-    went_on shared reply works =
+    pub went_on : SharedJoins → RunsOn → (reply : Reply ℕ) (next : ℕ) → drop (passed_over call reply) (drop (place + 1) script) ≡ drop next script
+        → Works (SpellsCall plan worker (length now.calls) call) now (Done (Ok reply)) new → Went plan worker script next (replies ++ reply ∷ []) old new
+    went_on shared runs reply next over works =
         let one : SpeltCall = record { call = call; items = works.items; reply = reply } in
         record {
           spelt = went.spelt ++ one ∷ [];
           are = spelt_push plan worker shared 0 went.spelt one went.are (subst (λ n. SpellsCall plan worker n call works.items (Done (Ok reply))) (omega arith) (spelt_here works.items (Done (Ok reply)) works.spelt));
-          calls = map_push (λ s. s.call) went.spelt one ∙ ap (λ (l : List Call). l ++ call ∷ []) went.calls ∙ sym (took i script call at);
+          calls = subst (λ (l : List (Call × Reply ℕ)). RunsAlong script l (drop next script)) (sym (map_push (λ s. (s.call, s.reply)) went.spelt one))
+              (subst (RunsAlong script (pairs_in went.spelt ++ (call, reply) ∷ [])) over (runs script (pairs_in went.spelt) call (drop (place + 1) script) reply next_is));
           answers = map_push (λ s. s.reply) went.spelt one ∙ ap (λ (l : List (Reply ℕ)). l ++ reply ∷ []) went.answers;
           moves = subst (λ (l : List Made). Moves old l new) (sym (items_push went.spelt one)) (all_moves works.items works.moves);
         }
@@ -92,10 +87,10 @@ module _ (plan : Plan) (worker : ℕ) (script : List Call) (old : Desk) (none : 
     pub ends_misused : (misuse : Misuse) (items halts : List Made) (last : Desk) → SpellsCall plan worker (length now.calls) call items (Done (Err misuse)) → Moves now items new → Moves new halts last
         → All (IsHalt misuse) halts → entered_on halts ≡ halted_numbers plan → DidLineOf script replies old last
     ends_misused misuse items halts last spelt first second are order = (
-      record { spelt = went.spelt; last = items; halts = halts; rest = call ∷ drop (suc i) script; ending = misused misuse },
+      record { spelt = went.spelt; last = items; halts = halts; rest = call ∷ drop (place + 1) script; ending = misused misuse },
       record {
         is = record { calls = went.are; ends = spelt_here items (Done (Err misuse)) spelt; halts = are };
-        calls = ap (λ (l : List Call). l ++ call ∷ drop (suc i) script) went.calls ∙ sym rest;
+        calls = next_is;
         answers = went.answers;
         ended = tt;
         halts = order;
@@ -106,10 +101,10 @@ module _ (plan : Plan) (worker : ℕ) (script : List Call) (old : Desk) (none : 
     -- a call that met a halt
     pub ends_halted : (misuse : Misuse) → Works (SpellsCall plan worker (length now.calls) call) now (Halted misuse) new → DidLineOf script replies old new
     ends_halted misuse works = (
-      record { spelt = went.spelt; last = works.items; halts = []; rest = call ∷ drop (suc i) script; ending = halted misuse },
+      record { spelt = went.spelt; last = works.items; halts = []; rest = call ∷ drop (place + 1) script; ending = halted misuse },
       record {
         is = record { calls = went.are; ends = spelt_here works.items (Halted misuse) works.spelt; halts = refl };
-        calls = ap (λ (l : List Call). l ++ call ∷ drop (suc i) script) went.calls ∙ sym rest;
+        calls = next_is;
         answers = went.answers;
         ended = tt;
         halts = refl;
@@ -118,12 +113,12 @@ module _ (plan : Plan) (worker : ℕ) (script : List Call) (old : Desk) (none : 
     )
 
   -- the end of the script
-  pub ends_whole : (replies : List (Reply ℕ)) (now : Desk) → Went plan worker script (length script) replies old now → DidLineOf script replies old now
-  ends_whole replies now went = (
+  pub ends_whole : (replies : List (Reply ℕ)) (now : Desk) (place : ℕ) → drop place script ≡ [] → Went plan worker script place replies old now → DidLineOf script replies old now
+  ends_whole replies now place past went = (
     record { spelt = went.spelt; last = []; halts = []; rest = []; ending = whole },
     record {
       is = record { calls = went.are; ends = (refl, refl); halts = refl };
-      calls = append-nil (map (λ s. s.call) went.spelt) ∙ went.calls ∙ take_all (length script) script (omega arith);
+      calls = subst (RunsAlong script (pairs_in went.spelt)) past went.calls;
       answers = went.answers;
       ended = tt;
       halts = refl;

@@ -1,10 +1,10 @@
 -- What holds between two calls of a script.
-use Rattle.std.proofs.Common.{◌≡◌, ℕ, ◌+◌, ◌<◌, ◌≤◌, List, length, drop, Option, Some, slice_get, sym, ap, ◌∙◌, subst, arith}
-use Rattle.std.specs.Prelude.{All, IfSome, IfNone, None}
+use Rattle.std.proofs.Common.{◌≡◌, ℕ, ◌+◌, ◌<◌, ◌≤◌, List, ◌∷◌, length, drop, get_or, Option, Some, slice_get, refl, sym, ap, ◌∙◌, subst, arith}
+use Rattle.std.specs.Prelude.{All, IfSome, IfNone, None, sum_by}
 use Rattle.std.proofs.lemmas.List.Elements.{All-append}
 use Rattle.std.specs.Option.{ForSome}
-use Rattle.std.proofs.lemmas.List.Sums.{sum_by-drop_more}
-use Rattle.std.proofs.lemmas.Option.{get_or_from_slice_get, same_Some}
+use Rattle.std.proofs.lemmas.List.Sums.{sum_by-cons, sum_by-take-drop}
+use Rattle.std.proofs.lemmas.Option.{same_Some, slice_get_read}
 use Rattle.script_calls.specs.declared.call.Call.{Call}
 use Rattle.script_calls.specs.declared.call.Reply.{Reply}
 use Rattle.sync_model.specs.declared.caller.Caller.{Caller}
@@ -38,63 +38,88 @@ of_some o P x is holds = subst (λ r. IfSome r P) is holds
 pub of_none : {X : Type 0} (o : Option X) (P : Type 0) → o ≡ None → IfNone o P → P
 of_none o P is holds = subst (λ r. IfNone r P) is holds
 
+-- where a call stands at a place, the script from there on is the call and what is behind it
+abbrev pub StandsAt : Type 0
+StandsAt = (script : List Call) (place : ℕ) (call : Call) → slice_get script place ≡ Some call → drop place script ≡ call ∷ drop (place + 1) script
+
+-- the call that is read at a place of the script
+pub call_read : StandsAt → (script read : List Call) (place : ℕ) (call : Call) → place < length script → call ≡ get_or read place call → read ≡ script → drop place script ≡ call ∷ drop (place + 1) script
+call_read stands script read place call within is same = stands script place call (slice_get_read script (length script) place call refl within (is ∙ ap (λ calls. get_or calls place call) same))
+
+-- what is left behind a place and the calls that are passed over is the script from a later place on
+abbrev pub PassesOver : Type 0
+PassesOver = (script : List Call) (place passes : ℕ) → drop passes (drop (place + 1) script) ≡ drop (place + 1 + passes) script
+
+pub over_all : PassesOver → (script : List Call) (place passes count : ℕ) → count ≡ passes → drop passes (drop (place + 1) script) ≡ drop (place + (1 + count)) script
+over_all over script place passes count is =
+    let later : place + 1 + passes ≡ place + (1 + count) = omega (arith, is) in
+    over script place passes ∙ ap (λ n. drop n script) later
+
 -- what holds of a caller's calls holds still, where it makes only such calls
 pub all_behind : (plan : Plan) (old new : List Item) → All (λ x. IsCallOf plan x.call) old → MakesOnly (IsCallOf plan) old new → All (λ x. IsCallOf plan x.call) new
 all_behind plan old new all made = subst (All (λ x. IsCallOf plan x.call)) (sym made.are) (All-append (λ x. IsCallOf plan x.call) old made.made all made.each)
 
 module _ {H N : Type 0} (at : H → N → Type 0) (own : N → Option Holding) (front : N → Front) (home : H) (plan : Plan) (workers worker : ℕ) (objects : List (AnyObject N H)) (script : List Call) (room : ℕ) (start : Desk) (first : N) where
-  -- so many calls are made, and the worker is about to make the next
-  pub record AtCall (index : ℕ) (passes : List (AnyPass N)) (caller : Caller N) (replies : Bounded (Reply ℕ)) (rooms : List (Bounded (ℕ × ℕ))) : Type 0 where
+  -- the worker is about to make the call at this place of its script
+  pub record AtCall (place : ℕ) (passes : List (AnyPass N)) (caller : Caller N) (replies : Bounded (Reply ℕ)) (rooms : List (Bounded (ℕ × ℕ))) : Type 0 where
     pub seats : AreSeats at home workers worker objects passes
     pub is_caller : IsCallerAt at own home caller
     pub held : (c : ℕ) → IsHeldBy c (own first) → IsHeldBy c (own caller.note)
-    pub spare : ForSome (own caller.note) (λ holding. cost_of_calls (drop index script) ≤ holding.spare)
+    pub spare : ForSome (own caller.note) (λ holding. cost_of_calls (drop place script) ≤ holding.spare)
     pub roomy : AreRooms (length (keys_in plan.scripts)) rooms
-    pub enough : ranges_in_calls (drop index script) ≤ length rooms
+    pub enough : ranges_in_calls (drop place script) ≤ length rooms
     pub room_is : replies.room ≡ room
-    pub count : length replies.items ≤ index
+    pub count : length replies.items ≤ place
     pub calls : All (λ x. IsCallOf plan x.call) (items_of (own caller.note))
-    pub went : Went plan worker script index replies.items start (desk_with own front (owns_of passes) caller.note)
+    pub went : Went plan worker script place replies.items start (desk_with own front (owns_of passes) caller.note)
 
-  module _ (index : ℕ) (call : Call) (within : index < length script) (is_at : slice_get script index ≡ Some call) where
-    costs : cost_of_calls (drop index script) ≡ cost_of_call call + cost_of_calls (drop (index + 1) script)
-    costs = sum_by-drop_more cost_of_call script index call within ∙ ap (λ (c : Call). cost_of_call c + cost_of_calls (drop (index + 1) script)) (get_or_from_slice_get script index call call is_at)
+  module _ (place : ℕ) (call : Call) (at_place : drop place script ≡ call ∷ drop (place + 1) script) where
+    costs : cost_of_calls (drop place script) ≡ cost_of_call call + cost_of_calls (drop (place + 1) script)
+    costs = ap cost_of_calls at_place ∙ sum_by-cons cost_of_call call (drop (place + 1) script)
 
-    -- there is enough for the next call, and then for those behind it
-    pub spare_here : (note : N) → ForSome (own note) (λ holding. cost_of_calls (drop index script) ≤ holding.spare) → ForSome (own note) (λ holding. cost_of_call call ≤ holding.spare)
+    ranges : ranges_in_calls (drop place script) ≡ ranges_in_call call + ranges_in_calls (drop (place + 1) script)
+    ranges = ap ranges_in_calls at_place ∙ sum_by-cons ranges_in_call call (drop (place + 1) script)
+
+    -- there is enough for the next call, and room for its pairs, if it is a `range`
+    pub spare_here : (note : N) → ForSome (own note) (λ holding. cost_of_calls (drop place script) ≤ holding.spare) → ForSome (own note) (λ holding. cost_of_call call ≤ holding.spare)
     spare_here note spare holding is = let all = spare holding is in let sum = costs in omega (arith, all, sum)
 
-    spare_behind : (caller note : N) → ForSome (own caller) (λ holding. cost_of_calls (drop index script) ≤ holding.spare) → Spends own (cost_of_call call) caller note
-        → ForSome (own note) (λ holding. cost_of_calls (drop (index + 1) script) ≤ holding.spare)
-    spare_behind caller note spare spends holding is =
-        let all = spare spends.was spends.own_old in
-        let same : holding ≡ spends.becomes = same_Some holding spends.becomes (sym is ∙ spends.own_new) in
-        subst (λ (h : Holding). cost_of_calls (drop (index + 1) script) ≤ h.spare) (sym same) (let sum = costs in let spent = spends.spare in omega (arith, all, sum, spent))
-
-    ranges : ranges_in_calls (drop index script) ≡ ranges_in_call call + ranges_in_calls (drop (index + 1) script)
-    ranges = sum_by-drop_more ranges_in_call script index call within ∙ ap (λ (c : Call). ranges_in_call c + ranges_in_calls (drop (index + 1) script)) (get_or_from_slice_get script index call call is_at)
-
-    -- there is room for the pairs of the next call, if it is a `range`
-    pub rooms_here : (n : ℕ) → ranges_in_calls (drop index script) ≤ n → ranges_in_call call ≤ n
+    pub rooms_here : (n : ℕ) → ranges_in_calls (drop place script) ≤ n → ranges_in_call call ≤ n
     rooms_here n enough = let sum = ranges in omega (arith, sum, enough)
 
-    module _ (passes now_passes : List (AnyPass N)) (caller now_caller : Caller N) (replies now_replies : Bounded (Reply ℕ)) (rooms now_rooms : List (Bounded (ℕ × ℕ))) (before : AtCall index passes caller replies rooms) where
-      -- behind a call the worker is about to make the one behind it
-      pub after_call : AreSeats at home workers worker objects now_passes → IsCallerAt at own home now_caller → Spends own (cost_of_call call) caller.note now_caller.note
-          → AreRooms (length (keys_in plan.scripts)) now_rooms → length rooms ≤ length now_rooms + ranges_in_call call
-          → now_replies.room ≡ replies.room → length now_replies.items ≤ index + 1
-          → MakesOnly (IsCallOf plan) (items_of (own caller.note)) (items_of (own now_caller.note))
-          → Went plan worker script (index + 1) now_replies.items start (desk_with own front (owns_of now_passes) now_caller.note)
-          → AtCall (index + 1) now_passes now_caller now_replies now_rooms
-      after_call seats is_caller spends roomy left room_same count made went = record {
-        seats = seats;
-        is_caller = is_caller;
-        held = λ c of. held_behind own (cost_of_call call) caller.note now_caller.note spends c (before.held c of);
-        spare = spare_behind caller.note now_caller.note before.spare spends;
-        roomy = roomy;
-        enough = let sum = ranges in let was = before.enough in omega (arith, sum, was, left);
-        room_is = room_same ∙ before.room_is;
-        count = count;
-        calls = all_behind plan (items_of (own caller.note)) (items_of (own now_caller.note)) before.calls made;
-        went = went;
-      }
+    module _ (passes next : ℕ) (over : drop passes (drop (place + 1) script) ≡ drop next script) where
+      -- what is passed over takes nothing
+      no_more : (f : Call → ℕ) → sum_by f (drop next script) ≤ sum_by f (drop (place + 1) script)
+      no_more f =
+          let sum = sum_by-take-drop f (drop (place + 1) script) passes in
+          let same = ap (sum_by f) over in
+          omega (arith, sum, same)
+
+      -- and then for those behind it
+      spare_behind : (caller note : N) → ForSome (own caller) (λ holding. cost_of_calls (drop place script) ≤ holding.spare) → Spends own (cost_of_call call) caller note
+          → ForSome (own note) (λ holding. cost_of_calls (drop next script) ≤ holding.spare)
+      spare_behind caller note spare spends holding is =
+          let all = spare spends.was spends.own_old in
+          let same : holding ≡ spends.becomes = same_Some holding spends.becomes (sym is ∙ spends.own_new) in
+          subst (λ (h : Holding). cost_of_calls (drop next script) ≤ h.spare) (sym same) (let sum = costs in let less = no_more cost_of_call in let spent = spends.spare in omega (arith, all, sum, less, spent))
+
+      module _ (passes_before now_passes : List (AnyPass N)) (caller now_caller : Caller N) (replies now_replies : Bounded (Reply ℕ)) (rooms now_rooms : List (Bounded (ℕ × ℕ))) (before : AtCall place passes_before caller replies rooms) where
+        -- behind a call the worker is about to make the next one that isn't passed over
+        pub after_call : AreSeats at home workers worker objects now_passes → IsCallerAt at own home now_caller → Spends own (cost_of_call call) caller.note now_caller.note
+            → AreRooms (length (keys_in plan.scripts)) now_rooms → length rooms ≤ length now_rooms + ranges_in_call call
+            → now_replies.room ≡ replies.room → length now_replies.items ≤ next
+            → MakesOnly (IsCallOf plan) (items_of (own caller.note)) (items_of (own now_caller.note))
+            → Went plan worker script next now_replies.items start (desk_with own front (owns_of now_passes) now_caller.note)
+            → AtCall next now_passes now_caller now_replies now_rooms
+        after_call seats is_caller spends roomy left room_same count made went = record {
+          seats = seats;
+          is_caller = is_caller;
+          held = λ c of. held_behind own (cost_of_call call) caller.note now_caller.note spends c (before.held c of);
+          spare = spare_behind caller.note now_caller.note before.spare spends;
+          roomy = roomy;
+          enough = let sum = ranges in let was = before.enough in let less = no_more ranges_in_call in omega (arith, sum, less, was, left);
+          room_is = room_same ∙ before.room_is;
+          count = count;
+          calls = all_behind plan (items_of (own caller.note)) (items_of (own now_caller.note)) before.calls made;
+          went = went;
+        }

@@ -1,27 +1,28 @@
 -- What a worker did of its script, from its first call to its end.
-use Rattle.std.specs.Prelude.{◌≡◌, ℕ, List, [], map, take, Some}
+use Rattle.std.specs.Prelude.{◌≡◌, ℕ, List, [], map, drop, Some}
 use Rattle.std.specs.List.{flat_map}
 use Rattle.script_calls.specs.declared.call.Call.{Call}
 use Rattle.script_calls.specs.declared.call.Reply.{Reply}
+use Rattle.script_calls.specs.Runs.{RunsAlong}
 use Rattle.workload.specs.Plan.{Plan}
 use Rattle.run_record.specs.Explains.{HasEnded}
-use Rattle.run_record.specs.Lines.{Line, SpeltCall, script_of, items_of, replies_of, HaltsEach, AreSpelt, IsLineOf}
+use Rattle.run_record.specs.Lines.{Line, SpeltCall, calls_made, items_of, replies_of, HaltsEach, AreSpelt, IsLineOf}
 use Rattle.thread_objects.specs.Working.{Desk, Moves}
 
--- the line is what the worker did, who has ended: it is the record's line of the worker's script, the replies are those of the calls that were completed, a misuse has halted Stop and then each object in order, and its items are all that the worker made
+-- the line is what the worker did, who has ended: it is the record's line along the worker's script, the replies are those of the calls that were completed, a misuse has halted Stop and then each object in order, and its items are all that the worker made
 pub record DidLine (plan : Plan) (worker : ℕ) (script : List Call) (replies : List (Reply ℕ)) (old new : Desk) (line : Line) : Type 0 where
   pub is : IsLineOf plan worker line
-  pub calls : script_of line ≡ script
+  pub calls : RunsAlong script (calls_made line) line.rest
   pub answers : replies_of line ≡ replies
   pub ended : HasEnded line.ending
   pub halts : HaltsEach plan line
   pub moves : Moves old (items_of line) new
 
--- what a worker did that has made so many calls of its script, and was answered each
-pub record Went (plan : Plan) (worker : ℕ) (script : List Call) (made : ℕ) (replies : List (Reply ℕ)) (old now : Desk) : Type 0 where
+-- what a worker did that is about to make the call at this place of its script, and was answered each call before
+pub record Went (plan : Plan) (worker : ℕ) (script : List Call) (place : ℕ) (replies : List (Reply ℕ)) (old now : Desk) : Type 0 where
   pub spelt : List SpeltCall
   pub are : AreSpelt plan worker 0 spelt
-  pub calls : map (λ s. s.call) spelt ≡ take made script
+  pub calls : RunsAlong script (map (λ s. (s.call, s.reply)) spelt) (drop place script)
   pub answers : map (λ s. s.reply) spelt ≡ replies
   pub moves : Moves old (flat_map (λ s. s.items) spelt) now
 

@@ -1,7 +1,8 @@
--- What calls on several objects reply.
-use Rattle.std.specs.Prelude.{ℕ}
+-- What calls reply that are on several objects, or are made of other calls.
+use Rattle.std.specs.Prelude.{ℕ, Bool}
 use Rattle.script_calls.specs.declared.call.Reply.{Reply}
 use Rattle.script_calls.specs.declared.call.Reply.TheVariants as replies
+use Rattle.sync_types.specs.declared.atomic_object.AtomicReply.TheVariants.{Compared}
 use Rattle.sync_types.specs.declared.lock_call.LockReply.{LockReply}
 use Rattle.sync_types.specs.declared.pool_call.PoolCallReply.TheVariants as pool_replies
 use Rattle.protocols.specs.declared.pool.PoolOutcome.{PoolOutcome}
@@ -13,3 +14,7 @@ relocked reply = replies.Returned
 -- of a put into a pool, and of a sweep
 abbrev pub pool_done : PoolOutcome → Reply ℕ
 pool_done outcome = replies.Pool pool_replies.Done
+
+-- of an `ifeq`, by whether its load found the number
+abbrev pub compared : Bool → Reply ℕ
+compared met = replies.Atomic (Compared met)

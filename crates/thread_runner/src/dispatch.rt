@@ -21,6 +21,7 @@ ghost use Rattle.thread_objects.specs.Spending.{Spends};
 ghost use Rattle.thread_objects.specs.Working.{Works, desk_with};
 
 use crate::by_number::{object_at, wait_at};
+use crate::composed::composed_at;
 use crate::placed_calls::{map_at, range_at};
 use crate::pool::call_pool;
 use crate::site::Site;
@@ -115,6 +116,7 @@ fn call_at<S: Shared, C: Clock, R: Wait>(
     match operation {
         Operation::Map(call) => Some(map_at(rt, site, caller, place, call)),
         Operation::Atomic(call) => Some(atomic_at(rt, &site.catalog, caller, place, *call)),
+        Operation::Composed(call) => Some(composed_at(rt, &site.catalog, caller, place, *call)),
         Operation::Range => range_at(rt, site, caller, place, take_room(rooms)),
         Operation::Cond(CondCall::Wait) => match kind {
             ObjectKind::Cond { mutex } => Some(wait_at(

@@ -3,6 +3,7 @@
 #![tactic(auto)]
 
 mod by_number;
+mod composed;
 mod counts;
 mod deal;
 mod desk;

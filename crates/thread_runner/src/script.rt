@@ -16,6 +16,7 @@ use crate::dispatch::make_call;
 use crate::halting::halt_all;
 use crate::site::Site;
 use script_calls::Reply;
+use script_calls::laws::{a_run_goes_along_by_places, runs_go_on};
 use std::sync::Wait;
 use sync_model::{Answer, Caller, Note, Shared};
 use sync_outside::{Clock, Gate};
@@ -23,9 +24,9 @@ use sync_types::BoundedSeq;
 use thread_objects::parts::laws::moves;
 use thread_objects::{AnyPass, Worker};
 
-/// Makes the calls of a worker's script in order, with the gate before and behind each. A misuse halts Stop, and then every
-/// object, and ends the worker, as a halt does that it meets. A call that answers nothing ends it too: none does, as is known once
-/// all workers have ended.
+/// Makes the calls of a worker's script in order, but those that a reply passes over, with the gate before and behind each. A misuse
+/// halts Stop, and then every object, and ends the worker, as a halt does that it meets. A call that answers nothing ends it too:
+/// none does, as is known once all workers have ended.
 pub(crate) fn run_script<S: Shared, C: Clock, G: Gate, R: Wait>(
     rt: &R,
     site: &Site<S>,
@@ -57,14 +58,21 @@ pub(crate) fn run_script<S: Shared, C: Clock, G: Gate, R: Wait>(
         ⊎ GaveUp site.now.catalog.workload.now (items_of (S.Mark.own caller.new.note)) }
 {
     moves();
+    a_run_goes_along_by_places();
+    runs_go_on::<u32>();
     let script = site.catalog.workload.script(worker.number);
-    for index in 0..script.len() {
-        gate.before(rt, worker.number, index as u32);
-        let answer = make_call(rt, site, worker, caller, passes, rooms, &script[index]);
-        gate.after(rt, worker.number, index as u32);
+    let mut place = 0;
+    while place < script.len() {
+        gate.before(rt, worker.number, place as u32);
+        let call = &script[place];
+        let answer = make_call(rt, site, worker, caller, passes, rooms, call);
+        gate.after(rt, worker.number, place as u32);
         match answer {
             None => return,
-            Some(Answer::Done(Ok(reply))) => replies.push(reply),
+            Some(Answer::Done(Ok(reply))) => {
+                place += 1 + call.passed_over(&reply);
+                replies.push(reply);
+            }
             Some(Answer::Done(Err(misuse))) => {
                 halt_all(
                     rt,

@@ -1,10 +1,11 @@
 use Rattle.std.proofs.lemmas.Option.{IfSome_then}
 use Rattle.workload.specs.declared.object.ObjectKind.TheVariants as kinds
 use Rattle.thread_objects.specs.Passes.{owns_of}
-use Rattle.thread_runner.proofs.ByKind.{of_pool, on_map, on_atomic, on_pool, on_range}
+use Rattle.thread_runner.proofs.ByKind.{of_pool, on_map, on_atomic, on_composed, on_pool, on_range}
 use Rattle.thread_runner.proofs.ScriptCalls.{key_among}
 use Rattle.thread_runner.proofs.Sites.{has_atomics, mutex_of}
-use Rattle.std.proofs.Common.{ℕ, ◌-◌, sym, subst, arith}
+use Rattle.std.proofs.Common.{ℕ, ◌-◌, length, sym, subst, arith}
+use Rattle.sync_model.specs.Shared.{items_of}
 use Rattle.workload.specs.declared.object.ObjectKind.{ObjectKind}
 use Rattle.thread_objects.specs.Catalog.{IsAt}
 use Rattle.thread_runner.specs.PoolParts.{ArePartsAt}
@@ -31,6 +32,9 @@ object_at-requires-clause-room g c = c.objects_are_of_their_kinds.ensures.there 
 pub atomic_at-requires-clause-atomics : goal.atomic_at-requires-clause-atomics
 atomic_at-requires-clause-atomics g c = has_atomics c.args.site.now.catalog.workload.now _ _ _ _ c.requires.site.shared c.requires.site.numbered
 
+pub composed_at-requires-clause-atomics : goal.composed_at-requires-clause-atomics
+composed_at-requires-clause-atomics g c = has_atomics c.args.site.now.catalog.workload.now _ _ _ _ c.requires.site.shared c.requires.site.numbered
+
 pub object_at-requires-clause-atomics : goal.object_at-requires-clause-atomics
 object_at-requires-clause-atomics g c = has_atomics c.args.site.now.catalog.workload.now _ _ _ _ c.requires.site.shared c.requires.site.numbered
 
@@ -39,6 +43,9 @@ returns-in-Map-clause-works g c = on_map c.args.site.now.catalog.workload.now c.
 
 pub returns-in-Atomic-clause-works : goal.returns-in-Atomic-clause-works
 returns-in-Atomic-clause-works g c = on_atomic c.args.site.now.catalog.workload.now c.args.worker.now.number _ c.args.place _ _ _ c.args.kind c.args.operation.now c.requires.call c.in-Atomic.call c.in-Atomic.is (c.atomic_at.ensures.works (owns_of c.args.passes.now))
+
+pub returns-in-Composed-clause-works : goal.returns-in-Composed-clause-works
+returns-in-Composed-clause-works g c = on_composed c.args.site.now.catalog.workload.now c.args.worker.now.number _ c.args.place _ _ _ c.args.kind c.args.operation.now c.requires.call c.in-Composed.call c.in-Composed.is (c.composed_at.ensures.works (owns_of c.args.passes.now) c.args.worker.now.number (length (items_of (g.S.Mark.Note.own c.args.caller.now.note))))
 
 pub returns-in-Range-clause-works : goal.returns-in-Range-clause-works
 returns-in-Range-clause-works g c = IfSome_then c.range_at.result c.range_at.ensures.works (λ answer works. on_range c.args.site.now.catalog.workload.now c.args.worker.now.number _ c.args.place _ _ answer c.args.kind c.args.operation.now c.requires.call c.in-Range.is (works (owns_of c.args.passes.now)))

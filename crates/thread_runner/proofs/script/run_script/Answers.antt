@@ -1,9 +1,9 @@
-use Rattle.std.proofs.Common.{◌≡◌, ℕ, ◌+◌, ◌<◌, ◌≤◌, [], ◌∷◌, ◌++◌, get_or, length, Option, Some, Ok, Err, slice_get, refl, inl, inr, ◌∙◌, ap, arith, subst, sym, rules}
+use Rattle.std.proofs.Common.{◌≡◌, ℕ, ◌+◌, ◌<◌, ◌≤◌, [], ◌∷◌, ◌++◌, drop, get_or, length, Option, Some, Ok, Err, slice_get, refl, inl, inr, ◌∙◌, ap, arith, subst, sym, rules}
 use Rattle.std.specs.Prelude.{All}
 use Rattle.std.proofs.lemmas.List.Elements.{All-nil}
 use Rattle.std.proofs.lemmas.List.{length_push}
-use Rattle.std.proofs.lemmas.Option.{slice_get_read}
 use Rattle.script_calls.specs.declared.call.Reply.{Reply}
+use Rattle.script_calls.specs.Runs.{passed_over}
 use Rattle.sync_types.specs.BoundedSeq.{Bounded}
 use Rattle.sync_model.specs.declared.answer.Answer.TheVariants.{Done, Halted}
 use Rattle.sync_model.specs.Note.{Holding}
@@ -15,12 +15,12 @@ use Rattle.thread_objects.specs.Passes.{owns_of}
 use Rattle.thread_runner.specs.Sites.{cost_of_call, ranges_in_call}
 use Rattle.thread_objects.specs.Working.{Works, desk_with}
 use Rattle.thread_runner.specs.DidLines.{Went}
-use Rattle.thread_runner.proofs.ScriptLoop.{after_call, all_behind, held_behind, of_some, of_none}
+use Rattle.thread_runner.proofs.ScriptLoop.{after_call, all_behind, call_read, over_all, held_behind, of_some, of_none}
 use Rattle.thread_runner.proofs.LineSteps.{begun, went_on, ends_misused, ends_halted, ends_whole}
 use Rattle.thread_runner.proofs.script.run_script.Goals as goal
 
-pub loop-index-init : goal.loop-index-init
-loop-index-init g c =
+pub loop-place-init : goal.loop-place-init
+loop-place-init g c =
     let mark = g.S.Mark.Note in
     let plan = c.args.site.now.catalog.workload.now in
     let script = get_or plan.scripts c.args.worker.now.number [] in
@@ -45,15 +45,14 @@ returns-in-Some-Done-Err-clause-line g c =
     let number = c.args.worker.now.number in
     let script = get_or plan.scripts number [] in
     let start = desk_with mark.own mark.front (owns_of c.args.passes.now) c.args.caller.now.note in
-    let now = desk_with mark.own mark.front (owns_of c.loop-index.passes) c.loop-index.caller.note in
+    let now = desk_with mark.own mark.front (owns_of c.loop-place.passes) c.loop-place.caller.note in
     let new = desk_with mark.own mark.front (owns_of c.make_call-answer.new.passes) c.make_call-answer.new.caller.note in
     let last = desk_with mark.own mark.front (owns_of c.halt_all.new.passes) c.halt_all.new.note in
-    let within : c.loop-index.index < length script = search rules in
-    let at : slice_get script c.loop-index.index ≡ Some c.index-script-index.result = slice_get_read script (length script) c.loop-index.index c.index-script-index.result refl within (c.index-script-index.is ∙ ap (λ calls. get_or calls c.loop-index.index c.index-script-index.result) c.script-script.ensures.script) in
-    let Made : CallAnswer (Reply ℕ) → Type 0 = λ answer. Works (SpellsCall plan number (length (items_of (mark.own c.loop-index.caller.note))) c.index-script-index.result) now answer new in
+    let at = call_read c.a_run_goes_along_by_places.ensures.at script _ c.loop-place.place c.index-script-place.result (search rules) c.index-script-place.is c.script-script.ensures.script in
+    let Made : CallAnswer (Reply ℕ) → Type 0 = λ answer. Works (SpellsCall plan number (length (items_of (mark.own c.loop-place.caller.note))) c.index-script-place.result) now answer new in
     let works = of_some c.make_call-answer.result Made (Done (Err c.in-Some-Done-Err.misuse)) (c.in-Some-Done-Err.is ∙ ap Some (c.in-Some-Done-Err.field-0-is ∙ ap Done c.in-Some-Done-Err.field-0-0-is)) c.make_call-answer.ensures.works in
     let halted = c.halt_all.ensures.halted in
-    inl (ends_misused plan number script start c.requires.fresh.calls c.loop-index.index c.index-script-index.result within at c.loop-index.replies.items now new c.moves.ensures.joined c.loop-index.invariant.went
+    inl (ends_misused plan number script start c.requires.fresh.calls c.loop-place.place c.index-script-place.result at c.loop-place.replies.items now new c.moves.ensures.joined c.loop-place.invariant.went
     c.in-Some-Done-Err.misuse works.items halted.items last works.spelt works.moves halted.moves halted.halts halted.order)
 
 pub returns-in-Some-Halted-clause-line : goal.returns-in-Some-Halted-clause-line
@@ -63,40 +62,41 @@ returns-in-Some-Halted-clause-line g c =
     let number = c.args.worker.now.number in
     let script = get_or plan.scripts number [] in
     let start = desk_with mark.own mark.front (owns_of c.args.passes.now) c.args.caller.now.note in
-    let now = desk_with mark.own mark.front (owns_of c.loop-index.passes) c.loop-index.caller.note in
+    let now = desk_with mark.own mark.front (owns_of c.loop-place.passes) c.loop-place.caller.note in
     let new = desk_with mark.own mark.front (owns_of c.make_call-answer.new.passes) c.make_call-answer.new.caller.note in
-    let within : c.loop-index.index < length script = search rules in
-    let at : slice_get script c.loop-index.index ≡ Some c.index-script-index.result = slice_get_read script (length script) c.loop-index.index c.index-script-index.result refl within (c.index-script-index.is ∙ ap (λ calls. get_or calls c.loop-index.index c.index-script-index.result) c.script-script.ensures.script) in
-    let Made : CallAnswer (Reply ℕ) → Type 0 = λ answer. Works (SpellsCall plan number (length (items_of (mark.own c.loop-index.caller.note))) c.index-script-index.result) now answer new in
+    let at = call_read c.a_run_goes_along_by_places.ensures.at script _ c.loop-place.place c.index-script-place.result (search rules) c.index-script-place.is c.script-script.ensures.script in
+    let Made : CallAnswer (Reply ℕ) → Type 0 = λ answer. Works (SpellsCall plan number (length (items_of (mark.own c.loop-place.caller.note))) c.index-script-place.result) now answer new in
     let works = of_some c.make_call-answer.result Made (Halted c.in-Some-Halted._misuse) (c.in-Some-Halted.is ∙ ap Some c.in-Some-Halted.field-0-is) c.make_call-answer.ensures.works in
-    inl (ends_halted plan number script start c.requires.fresh.calls c.loop-index.index c.index-script-index.result within at c.loop-index.replies.items now new c.moves.ensures.joined c.loop-index.invariant.went c.in-Some-Halted._misuse works)
+    inl (ends_halted plan number script start c.requires.fresh.calls c.loop-place.place c.index-script-place.result at c.loop-place.replies.items now new c.moves.ensures.joined c.loop-place.invariant.went c.in-Some-Halted._misuse works)
 
-pub loop-index-preserved : goal.loop-index-preserved
-loop-index-preserved g c =
+pub loop-place-preserved : goal.loop-place-preserved
+loop-place-preserved g c =
     let mark = g.S.Mark.Note in
     let plan = c.args.site.now.catalog.workload.now in
     let number = c.args.worker.now.number in
     let script = get_or plan.scripts number [] in
     let start = desk_with mark.own mark.front (owns_of c.args.passes.now) c.args.caller.now.note in
-    let now = desk_with mark.own mark.front (owns_of c.loop-index.passes) c.loop-index.caller.note in
+    let now = desk_with mark.own mark.front (owns_of c.loop-place.passes) c.loop-place.caller.note in
     let new = desk_with mark.own mark.front (owns_of c.make_call-answer.new.passes) c.make_call-answer.new.caller.note in
-    let within : c.loop-index.index < length script = search rules in
-    let at : slice_get script c.loop-index.index ≡ Some c.index-script-index.result = slice_get_read script (length script) c.loop-index.index c.index-script-index.result refl within (c.index-script-index.is ∙ ap (λ calls. get_or calls c.loop-index.index c.index-script-index.result) c.script-script.ensures.script) in
-    let Made : CallAnswer (Reply ℕ) → Type 0 = λ answer. Works (SpellsCall plan number (length (items_of (mark.own c.loop-index.caller.note))) c.index-script-index.result) now answer new in
+    let at = call_read c.a_run_goes_along_by_places.ensures.at script _ c.loop-place.place c.index-script-place.result (search rules) c.index-script-place.is c.script-script.ensures.script in
+    let Made : CallAnswer (Reply ℕ) → Type 0 = λ answer. Works (SpellsCall plan number (length (items_of (mark.own c.loop-place.caller.note))) c.index-script-place.result) now answer new in
     let made = c.make_call-answer.ensures in
-    let left : length c.loop-index.rooms.items ≤ length c.make_call-answer.new.rooms.items + ranges_in_call c.index-script-index.result = search rules in
-    let goes_on = after_call mark.at mark.own mark.front c.args.worker.now.at.home.now plan c.args.worker.now.workers number c.args.site.now.objects.now script c.args.replies.now.room start c.args.caller.now.note c.loop-index.index c.index-script-index.result within at
-    c.loop-index.passes c.make_call-answer.new.passes c.loop-index.caller c.make_call-answer.new.caller c.loop-index.replies c.push.new.self c.loop-index.rooms.items c.make_call-answer.new.rooms.items c.loop-index.invariant
-    made.seats made.caller made.spends made.rooms left in
-    let before = c.loop-index.replies in
     let reply = c.in-Some-Done-Ok.reply in
+    let passes = passed_over c.index-script-place.result reply in
+    let next = c.loop-place.place + (1 + c.passed_over.result) in
+    let over = over_all c.a_run_goes_along_by_places.ensures.over script c.loop-place.place passes c.passed_over.result c.passed_over.ensures.passes in
+    let left : length c.loop-place.rooms.items ≤ length c.make_call-answer.new.rooms.items + ranges_in_call c.index-script-place.result = search rules in
+    let goes_on = after_call mark.at mark.own mark.front c.args.worker.now.at.home.now plan c.args.worker.now.workers number c.args.site.now.objects.now script c.args.replies.now.room start c.args.caller.now.note c.loop-place.place c.index-script-place.result at
+    passes next over c.loop-place.passes c.make_call-answer.new.passes c.loop-place.caller c.make_call-answer.new.caller c.loop-place.replies c.push.new.self c.loop-place.rooms.items c.make_call-answer.new.rooms.items c.loop-place.invariant
+    made.seats made.caller made.spends made.rooms left in
+    let before = c.loop-place.replies in
     let works = of_some c.make_call-answer.result Made (Done (Ok reply)) (c.in-Some-Done-Ok.is ∙ ap Some (c.in-Some-Done-Ok.field-0-is ∙ ap Done c.in-Some-Done-Ok.field-0-0-is)) made.works in
-    let count : length (before.items ++ reply ∷ []) ≤ c.loop-index.index + 1 = omega (arith, c.loop-index.invariant.count, length_push before.items reply) in
+    let count : length (before.items ++ reply ∷ []) ≤ next = omega (arith, c.loop-place.invariant.count, length_push before.items reply) in
     goes_on (ap (λ (b : Bounded (Reply ℕ)). b.room) c.push.ensures)
-    (subst (λ (b : Bounded (Reply ℕ)). length b.items ≤ c.loop-index.index + 1) (sym c.push.ensures) count)
+    (subst (λ (b : Bounded (Reply ℕ)). length b.items ≤ next) (sym c.push.ensures) count)
     made.calls
-    (subst (λ (b : Bounded (Reply ℕ)). Went plan number script (c.loop-index.index + 1) b.items start new) (sym c.push.ensures)
-    (went_on plan number script start c.requires.fresh.calls c.loop-index.index c.index-script-index.result within at before.items now new c.moves.ensures.joined c.loop-index.invariant.went c.moves.ensures.shared reply works))
+    (subst (λ (b : Bounded (Reply ℕ)). Went plan number script next b.items start new) (sym c.push.ensures)
+    (went_on plan number script start c.requires.fresh.calls c.loop-place.place c.index-script-place.result at before.items now new c.moves.ensures.joined c.loop-place.invariant.went c.moves.ensures.shared c.runs_go_on.ensures.along reply next over works))
 
 pub returns-clause-line : goal.returns-clause-line
 returns-clause-line g c =
@@ -105,32 +105,32 @@ returns-clause-line g c =
     let number = c.args.worker.now.number in
     let script = get_or plan.scripts number [] in
     let start = desk_with mark.own mark.front (owns_of c.args.passes.now) c.args.caller.now.note in
-    let now = desk_with mark.own mark.front (owns_of c.loop-index.passes) c.loop-index.caller.note in
-    let all : c.loop-index.index ≡ length script = search rules in
-    inl (ends_whole plan number script start c.requires.fresh.calls c.loop-index.replies.items now (subst (λ i. Went plan number script i c.loop-index.replies.items start now) all c.loop-index.invariant.went))
+    let now = desk_with mark.own mark.front (owns_of c.loop-place.passes) c.loop-place.caller.note in
+    let past = c.a_run_goes_along_by_places.ensures.past script c.loop-place.place (search rules) in
+    inl (ends_whole plan number script start c.requires.fresh.calls c.loop-place.replies.items now c.loop-place.place past c.loop-place.invariant.went)
 
 pub returns-in-Some-Done-Err-clause-held : goal.returns-in-Some-Done-Err-clause-held
 returns-in-Some-Done-Err-clause-held g c number of =
-    subst (IsHeldBy number) (sym c.halt_all.ensures.note.kept) (held_behind g.S.Mark.Note.own (cost_of_call c.index-script-index.result) c.loop-index.caller.note c.make_call-answer.new.caller.note c.make_call-answer.ensures.spends number (c.loop-index.invariant.held number of))
+    subst (IsHeldBy number) (sym c.halt_all.ensures.note.kept) (held_behind g.S.Mark.Note.own (cost_of_call c.index-script-place.result) c.loop-place.caller.note c.make_call-answer.new.caller.note c.make_call-answer.ensures.spends number (c.loop-place.invariant.held number of))
 
 pub returns-in-Some-Halted-clause-held : goal.returns-in-Some-Halted-clause-held
 returns-in-Some-Halted-clause-held g c number of =
-    held_behind g.S.Mark.Note.own (cost_of_call c.index-script-index.result) c.loop-index.caller.note c.make_call-answer.new.caller.note c.make_call-answer.ensures.spends number (c.loop-index.invariant.held number of)
+    held_behind g.S.Mark.Note.own (cost_of_call c.index-script-place.result) c.loop-place.caller.note c.make_call-answer.new.caller.note c.make_call-answer.ensures.spends number (c.loop-place.invariant.held number of)
 
 pub returns-in-None-clause-held : goal.returns-in-None-clause-held
 returns-in-None-clause-held g c number of =
-    held_behind g.S.Mark.Note.own (cost_of_call c.index-script-index.result) c.loop-index.caller.note c.make_call-answer.new.caller.note c.make_call-answer.ensures.spends number (c.loop-index.invariant.held number of)
+    held_behind g.S.Mark.Note.own (cost_of_call c.index-script-place.result) c.loop-place.caller.note c.make_call-answer.new.caller.note c.make_call-answer.ensures.spends number (c.loop-place.invariant.held number of)
 
 pub returns-in-None-clause-line : goal.returns-in-None-clause-line
 returns-in-None-clause-line g c = inr (of_none c.make_call-answer.result _ c.in-None.is c.make_call-answer.ensures.given_up)
 
 pub returns-in-None-clause-calls : goal.returns-in-None-clause-calls
-returns-in-None-clause-calls g c = all_behind c.args.site.now.catalog.workload.now _ _ c.loop-index.invariant.calls c.make_call-answer.ensures.calls
+returns-in-None-clause-calls g c = all_behind c.args.site.now.catalog.workload.now _ _ c.loop-place.invariant.calls c.make_call-answer.ensures.calls
 
 pub returns-in-Some-Done-Err-clause-calls : goal.returns-in-Some-Done-Err-clause-calls
 returns-in-Some-Done-Err-clause-calls g c =
     let plan = c.args.site.now.catalog.workload.now in
-    subst (λ (o : Option Holding). All (λ x. IsCallOf plan x.call) (items_of o)) (sym c.halt_all.ensures.note.kept) (all_behind plan _ _ c.loop-index.invariant.calls c.make_call-answer.ensures.calls)
+    subst (λ (o : Option Holding). All (λ x. IsCallOf plan x.call) (items_of o)) (sym c.halt_all.ensures.note.kept) (all_behind plan _ _ c.loop-place.invariant.calls c.make_call-answer.ensures.calls)
 
 pub returns-in-Some-Halted-clause-calls : goal.returns-in-Some-Halted-clause-calls
-returns-in-Some-Halted-clause-calls g c = all_behind c.args.site.now.catalog.workload.now _ _ c.loop-index.invariant.calls c.make_call-answer.ensures.calls
+returns-in-Some-Halted-clause-calls g c = all_behind c.args.site.now.catalog.workload.now _ _ c.loop-place.invariant.calls c.make_call-answer.ensures.calls
