@@ -2,6 +2,7 @@
 use Rattle.std.proofs.Common.{◌≡◌, ℕ, true, zero, suc, ◌+◌, ◌≤◌, List, [], ◌∷◌, ◌++◌, length, take, Option, Some, None, refl, sym, ap, subst, ◌∙◌, arith, inl, inr, append-nil, append_assoc}
 use Rattle.std.proofs.lemmas.List.{length-take}
 use Rattle.std.proofs.Math.Seq.{take-append_seam}
+use Rattle.std.specs.Prelude.{Result, Ok, Err, OnErr}
 use Rattle.std.specs.Io.KnownBytes.{prepend_known, IsAtEnd}
 use Rattle.workload.specs.declared.limits.TheConstants.{MAX_INPUT}
 use Rattle.workload.specs.declared.reason.Reason.{Reason}
@@ -13,6 +14,11 @@ use Rattle.gosync_call.specs.ComesTo.{IsReadFromFile, IsUnread}
 
 some_is : {X : Type 0} (x y : X) → Some x ≡ Some y → x ≡ y
 some_is x y e = cc
+
+-- a fact, where a result is an `Err`
+pub on_err : {T E P : Type 0} (r : Result T E) → P → OnErr r P
+on_err (Ok x) p = tt
+on_err (Err e) p = p
 
 take_whole : (n : ℕ) (xs : List ℕ) → length xs ≤ n → take n xs ≡ xs
 take_whole zero [] le = refl

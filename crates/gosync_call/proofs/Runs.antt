@@ -27,7 +27,7 @@ use Rattle.gosync_call.specs.Front.{IsFrontOfRun}
 use Rattle.gosync_call.specs.Headline.{RunsTo, RunsInJobs}
 use Rattle.gosync_call.specs.Input.{AreBytesOf}
 use Rattle.gosync_call.specs.Messages.{ending_of, message_of, IsOutOfMemory, WritesOut}
-use Rattle.gosync_call.specs.ReportText.{report_text}
+use Rattle.run_report.specs.ReportText.{report_text}
 
 none_is : (b : List ℕ) → None ≡ Some b → ⊥
 none_is b is = cc

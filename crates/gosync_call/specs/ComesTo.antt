@@ -14,7 +14,7 @@ use Rattle.gosync_call.specs.declared.status.Fault.{Fault}
 use Rattle.gosync_call.specs.declared.status.Fault.TheVariants as faults
 use Rattle.gosync_call.specs.Input.{AreBytesOf}
 use Rattle.gosync_call.specs.Messages.{ending_of}
-use Rattle.gosync_call.specs.ReportText.{report_text}
+use Rattle.run_report.specs.ReportText.{report_text}
 
 -- all bytes of the file, where they are told, are read as this workload, with each place and number in range
 abbrev pub IsReadFromFile : Option (List ℕ) → Plan → Type 0

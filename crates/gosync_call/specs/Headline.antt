@@ -13,9 +13,11 @@
 --
 -- And `InOneOrder` says that each event on an object other than a map or an atomic has a number, which rises along each journal and
 -- along each worker's list: so no circle of such events leads from one to the next by journals and lists.
-use Rattle.std.specs.Prelude.{◌≡◌, ℕ, List, Option, Some, slice_get}
+use Rattle.std.specs.Prelude.{◌≡◌, ℕ, false, List, [], Option, Some, slice_get, get_or, map, length}
 use Rattle.sync_outside.specs.Faults.{RoseBy}
+use Rattle.script_calls.specs.Runs.{have_tests, left_of}
 use Rattle.script_calls.specs.declared.outcome.Outcome.{Outcome}
+use Rattle.script_calls.specs.declared.outcome.Report.{Report}
 use Rattle.sync_types.specs.declared.misuse.Misuse.{Misuse}
 use Rattle.workload.specs.Plan.{Plan}
 use Rattle.run_record.specs.Record.{Record}
@@ -36,6 +38,10 @@ Headline told old new status = ComesTo RunsTo told old new status
 -- it comes to the outcome by at least one job for each worker, as the spawner counts the jobs that were done
 abbrev pub RunsInJobs : ℕ → ℕ → Plan → Outcome → Type 0
 RunsInJobs ran ran_now plan outcome = RunsTo plan outcome × RoseBy plan.workers ran ran_now
+
+-- nothing is left of any script, and where no call may pass others over each call has its reply
+abbrev pub HasEnded : Plan → Report → Type 0
+HasEnded plan left = ((worker : ℕ) → left_of (get_or plan.scripts worker []) (get_or left.replies worker []) ≡ []) × (have_tests plan.scripts ≡ false → map length left.replies ≡ map length plan.scripts)
 
 -- the record explains this outcome, and some worker's list ends in this misuse
 abbrev pub HasMet : Plan → Outcome → Record → Misuse → Type 0

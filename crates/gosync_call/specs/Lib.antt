@@ -6,7 +6,4 @@ pub mod Input
 pub mod Made
 pub mod MadeText
 pub mod Messages
-pub mod ReportText
-pub mod Shown
 pub mod Told
-pub mod Writes

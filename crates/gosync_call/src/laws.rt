@@ -3,7 +3,7 @@ pub mod report;
 pub mod statuses;
 pub mod words;
 
-ghost use Rattle.std.specs.Prelude.{◌≡◌, ◌⊎◌, ◌<◌, ◌≤◌, ◌+◌, ◌-◌, ◌^◌, ℕ, List, map, length, Option, Some};
+ghost use Rattle.std.specs.Prelude.{◌≡◌, ◌⊎◌, ◌<◌, ◌≤◌, ◌+◌, ◌-◌, ◌^◌, ℕ, List, Option, Some};
 ghost use Rattle.sync_outside.specs.Bytes.{Appends, AppendsFront};
 ghost use Rattle.sync_outside.specs.Faults.{Rose, RoseBy};
 ghost use Rattle.workload.specs.Plan.{Plan};
@@ -11,7 +11,9 @@ ghost use Rattle.workload.specs.Reads.{Reads};
 ghost use Rattle.step_runner.specs.Computed.{turns};
 ghost use Rattle.step_runner.specs.Outcomes.{StepsTo};
 ghost use Rattle.gosync_call.specs.Messages.{ending_of};
-ghost use Rattle.gosync_call.specs.ReportText.{report_text};
+ghost use Rattle.run_report.specs.ReportText.{report_text};
+ghost use Rattle.run_report.specs.Shown.{AreReplies};
+ghost use Rattle.script_calls.specs.Outcome.{left_by};
 ghost use Rattle.script_calls.specs.declared.outcome.Report.{Report};
 ghost use Rattle.script_calls.specs.declared.outcome.Outcome.{Outcome};
 ghost use Rattle.script_calls.specs.declared.outcome.Outcome.TheVariants as outcomes;
@@ -20,7 +22,7 @@ ghost use Rattle.run_record.specs.Explains.{Explains};
 ghost use Rattle.run_record.specs.InOneOrder.{InOneOrder};
 ghost use Rattle.run_record.specs.Record.{Record};
 ghost use Rattle.gosync_call.specs.ComesTo.{ComesTo, EndsWithReport, IsReadFromFile};
-ghost use Rattle.gosync_call.specs.Headline.{Headline, HasMet, RunsTo};
+ghost use Rattle.gosync_call.specs.Headline.{Headline, HasEnded, HasMet, RunsTo};
 ghost use Rattle.gosync_call.specs.Input.{NoReadFailed, NoWriteFailed, ReadFailed};
 ghost use Rattle.gosync_call.specs.declared.status.Ending.TheVariants as endings;
 ghost use Rattle.gosync_call.specs.declared.status.Ending.{Ending};
@@ -47,17 +49,19 @@ pub fn a_run_by_schedule_is_computed()
     one_reading();
 }
 
-/// What the headline says in short, where all is written. A run with threads that ends done answered each call of each script once.
-/// One that ends misused tells a misuse that some worker met. None is told to be deadlocked. The events of each stand in
-/// one order. Where the bytes are told, all this is so of the workload that they are read as.
+/// What the headline says in short, where all is written. A run with threads that ends done left nothing of any script, and answered
+/// each call that it made once. One that ends misused tells a misuse that some worker met. None is told to be deadlocked. The events
+/// of each stand in one order, and each reply is of a call that was made. Where the bytes are told, all this is so of the workload
+/// that they are read as.
 pub fn a_run_with_threads_is_explained()
     ensures done { (told old new : Option (List ℕ)) → Headline told old new (statuses.Ended endings.Done)
-        → (plan : Plan) × (left : Report) × (r : Record) × IsReadFromFile told plan × Explains plan (outcomes.Done left) r × InOneOrder r × (map length left.replies ≡ map length plan.scripts) × Appends old new (report_text plan (outcomes.Done left)) }
+        → (plan : Plan) × (left : Report) × (r : Record) × IsReadFromFile told plan × Explains plan (outcomes.Done left) r × InOneOrder r × HasEnded plan left × Appends old new (report_text plan (outcomes.Done left)) }
     ensures misused { (told old new : Option (List ℕ)) (misuse : Misuse) → Headline told old new (statuses.Ended (endings.Misused misuse))
         → (plan : Plan) × (left : Report) × (r : Record) × IsReadFromFile told plan × HasMet plan (outcomes.Misused left misuse) r misuse × InOneOrder r × Appends old new (report_text plan (outcomes.Misused left misuse)) }
     ensures never_deadlocked { (told old new : Option (List ℕ)) → Headline told old new (statuses.Ended endings.Deadlocked) → ⊥ }
     ensures told { (bytes : List ℕ) (plan : Plan) (old new : Option (List ℕ)) (ending : Ending) → Reads bytes plan → Headline (Some bytes) old new (statuses.Ended ending)
         → EndsWithReport RunsTo plan old new ending }
+    ensures replies { (plan : Plan) (outcome : Outcome) → RunsTo plan outcome → AreReplies plan.scripts (left_by outcome).replies }
     ensures failed { (bytes : List ℕ) (plan : Plan) (old new : Option (List ℕ)) → Reads bytes plan → Headline (Some bytes) old new (statuses.Failed faults.CannotWrite)
         → (outcome : Outcome) × (r : Record) × Explains plan outcome r × InOneOrder r × AppendsFront old new (report_text plan outcome) }
 {

@@ -14,7 +14,7 @@ mod make;
 mod message;
 mod program;
 mod read;
-pub mod report;
+mod report;
 mod run;
 pub mod status;
 mod step;

@@ -12,11 +12,12 @@ ghost use Rattle.gosync_call.specs.Messages.{message_of, WritesOut};
 ghost use Rattle.gosync_call.specs.declared.status.Fault.TheVariants as faults;
 ghost use Rattle.gosync_call.specs.declared.status.Status.TheVariants as statuses;
 
-use crate::made::{TOTAL_ROOM, write_totals};
+use crate::made::write_totals;
 use crate::message::say_run;
 use crate::status::{Ending, Fault, Status};
 use made_workload::laws::runs::a_run_of_a_seed_tells_its_summary;
 use made_workload::{made_workload, totals_of};
+use run_report::numbers::NUMBER_ROOM;
 use script_calls::{Outcome, Report};
 use std::alloc::Global;
 use std::sync::Wait;
@@ -26,7 +27,7 @@ use thread_runner::{RunFault, threaded};
 
 /// Writes the five lines of what the run of a made workload left behind.
 fn report_made<O: Sink>(left: &Report, line: &mut Vec<u8>, out: &mut O) -> Result<(), Fault>
-    requires room { TOTAL_ROOM ≤ vec_capacity line.old }
+    requires room { NUMBER_ROOM ≤ vec_capacity line.old }
     ensures written { MatchResult result
         (λ _. Appends (O.contents out.old) (O.contents out.new) (totals_text (totals_of left.now)))
         (λ fault. (fault ≡ faults.CannotWrite) × AppendsFront (O.contents out.old) (O.contents out.new) (totals_text (totals_of left.now))) }
@@ -76,7 +77,7 @@ fn run_made<O: Sink, C: Clock + Sync, P: Spawner, G: Gate + Sync, R: Threads + W
     let Ok(workload) = made_workload(alloc, seed) else {
         return Err(Fault::Memory);
     };
-    let Ok(mut line) = Vec::with_capacity(alloc, TOTAL_ROOM) else {
+    let Ok(mut line) = Vec::with_capacity(alloc, NUMBER_ROOM) else {
         return Err(Fault::Memory);
     };
     match threaded(rt, alloc, &workload, clock, spawner, gate) {

@@ -5,6 +5,7 @@ ghost use Rattle.gosync_call.specs.Messages.{ending_line, unread_line, fault_lin
 
 use crate::status::{Ending, Fault, Status, Unread};
 use itoa::Buffer;
+use run_report::pieces::write_pieces;
 use sync_outside::Sink;
 
 /// Writes pieces of text, up to the first that fails.
@@ -12,11 +13,7 @@ fn say_pieces<E: Sink>(err: &mut E, pieces: &[&[u8]])
     ensures says { WritesOut (E.contents err.old) (E.contents err.new) (E.faults err.old) (E.faults err.new) (flat_map (λ piece. piece.now) pieces.now) }
     ensures faults { E.faults err.old ≤ E.faults err.new }
 {
-    for piece in pieces {
-        if err.write(piece).is_err() {
-            return;
-        }
-    }
+    let _ = write_pieces(err, pieces);
 }
 
 /// Writes a text.

@@ -1,7 +1,6 @@
 use Rattle.std.proofs.Common.{rules, ℕ, ◌<◌, ◌++◌, length, take, ap, arith}
 use Rattle.std.proofs.lemmas.List.{length-take, length-append}
-use Rattle.gosync_call.proofs.Reading.{input_ended, input_full, ended_before, taken_more}
-use Rattle.gosync_call.proofs.Writing.{on_err}
+use Rattle.gosync_call.proofs.Reading.{input_ended, input_full, ended_before, on_err, taken_more}
 use Rattle.gosync_call.proofs.input.read_open.Goals as goal
 
 pub returns-then-count-eq0-clause-bytes : goal.returns-then-count-eq0-clause-bytes

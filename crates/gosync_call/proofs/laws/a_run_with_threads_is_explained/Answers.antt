@@ -5,9 +5,9 @@ use Rattle.workload.specs.Plan.{Plan}
 use Rattle.run_record.specs.Explains.{Explains}
 use Rattle.run_record.specs.InOneOrder.{InOneOrder}
 use Rattle.run_record.specs.Record.{Record}
-use Rattle.gosync_call.specs.ReportText.{report_text}
+use Rattle.run_report.specs.ReportText.{report_text}
 use Rattle.gosync_call.specs.ComesTo.{EndsWithReport}
-use Rattle.gosync_call.specs.Headline.{RunsTo}
+use Rattle.gosync_call.specs.Headline.{HasEnded, RunsTo}
 use Rattle.gosync_call.proofs.Runs.{done_left, misused_left, plan_is}
 use Rattle.gosync_call.proofs.laws.a_run_with_threads_is_explained.Goals as goal
 
@@ -17,7 +17,12 @@ returns-clause-told c bytes plan old new ending reads comes = subst (λ (p : Pla
 pub returns-clause-done : goal.returns-clause-done
 returns-clause-done c told old new comes =
     let left = done_left comes.0 old new comes.2 in
-    (comes.0, left.0, left.1, comes.1, left.2, left.3, c.a_run_that_is_done_answers_each_call.ensures comes.0 left.1 left.0 left.2, left.4)
+    let answers = c.a_run_that_is_done_answers_each_call.ensures in
+    let ended : HasEnded comes.0 left.0 = (λ worker. answers.left comes.0 left.1 left.0 worker left.2, λ none. answers.all comes.0 left.1 left.0 none left.2) in
+    (comes.0, left.0, left.1, comes.1, left.2, left.3, ended, left.4)
+
+pub returns-clause-replies : goal.returns-clause-replies
+returns-clause-replies c plan outcome runs worker = c.a_run_that_is_done_answers_each_call.ensures.made plan runs.0 outcome worker runs.1
 
 pub returns-clause-misused : goal.returns-clause-misused
 returns-clause-misused c told old new misuse comes =

@@ -1,0 +1,10 @@
+pub mod Lines
+pub mod NumberLines
+pub mod ReplyTexts
+pub mod ReportNames
+pub mod Shown
+pub mod Straight
+pub mod TextCuts
+pub mod Told
+pub mod WriteCounts
+pub mod Writing
