@@ -293,7 +293,10 @@ fn a_gate_decides_who_comes_first(rt: HostRuntime) -> Result<(), Fail> {
 fn a_gate_is_passed_before_and_after_each_call(rt: HostRuntime) -> Result<(), Fail> {
     for (text, answered) in [
         (EACH_WAITS, 4),
-        ("workers 1\nint64 a\nworker 0\nifeq a 1 2\nload a\nload a\nload a\n", 2),
+        (
+            "workers 1\nint64 a\nworker 0\nifeq a 1 2\nload a\nload a\nload a\n",
+            2,
+        ),
         ("workers 1\nmutex m\nworker 0\nunlock m\n", 1),
     ] {
         let gate = HoldGate::new(2);
