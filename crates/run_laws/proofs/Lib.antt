@@ -25,6 +25,7 @@ mod ExplainedWriter
 mod FrontNumbers
 mod Holders
 mod KeyAtEnd
+mod IfEqual
 mod LineEnds
 mod LinesOneWay
 mod LockLines

@@ -8,6 +8,7 @@ pub mod endings;
 pub mod ends;
 pub mod examples;
 pub mod fronts;
+pub mod if_equal;
 pub mod locks;
 pub mod order;
 pub mod owners;
