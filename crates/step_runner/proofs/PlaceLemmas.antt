@@ -1,5 +1,5 @@
 -- The places that the code keeps lead to what is left of the scripts.
-use Rattle.std.proofs.Common.{◌≡◌, ◌≢◌, ℕ, zero, suc, ◌+◌, ◌<◌, ◌≤◌, Bool, true, false, eqb, List, [], ◌∷◌, ◌++◌, drop, length, get_or, set, replicate, Some, None, refl, sym, ap, ◌∙◌, subst, arith}
+use Rattle.std.proofs.Common.{◌≡◌, ◌≢◌, ℕ, zero, suc, ◌+◌, ◌<◌, true, false, eqb, List, [], ◌∷◌, ◌++◌, drop, length, get_or, set, replicate, Some, refl, sym, ap, ◌∙◌, subst, arith}
 use Rattle.std.specs.Prelude.{◌^◌, slice_get}
 use Rattle.std.proofs.lemmas.Bool.{eqb-true, eqb-false}
 use Rattle.std.proofs.lemmas.List.{length-set, length-replicate, get_or-set_same, get_or-set_other, drop-drop}
@@ -69,11 +69,7 @@ module _ (further : GoesFurther) (plan : Plan) (worker : ℕ) (kept : Kept) (is 
   left_at answers.Unfinished k = is.left k
   left_at (answers.Misused misuse) k = is.left k
   left_at (answers.Completed reply) k = elim (eqb k worker) as (λ b. eqb k worker ≡ b → Left k) [
-    | true ↦ λ e. subst Left (sym (eqb-true k worker e)) (
-      ap (λ (n : ℕ). drop n own_script) (get_or-set_same kept.places worker moved_to 0 (omega (arith, below, is.count)))
-      ∙ own_left reply
-      ∙ ap (λ (replies : List (Reply (List ℕ))). left_of own_script replies) (sym (get_or-set_same kept.state.replies worker (given ++ reply ∷ []) [] (omega (arith, below, is.of.workers))))
-    )
+    | true ↦ λ e. subst Left (sym (eqb-true k worker e)) own
     | false ↦ λ e.
         let apart : k ≢ worker = eqb-false k worker e in
         ap (λ (n : ℕ). drop n (get_or plan.scripts k [])) (get_or-set_other kept.places worker k moved_to 0 apart)
@@ -86,6 +82,12 @@ module _ (further : GoesFurther) (plan : Plan) (worker : ℕ) (kept : Kept) (is 
 
       Left : ℕ → Type 0
       Left k = drop (get_or (set kept.places worker (place + 1 + passed_over call reply)) k 0) (get_or plan.scripts k []) ≡ left_for plan k (with_reply worker reply (moved objects kept.state))
+
+      own : Left worker
+      own =
+          ap (λ (n : ℕ). drop n own_script) (get_or-set_same kept.places worker moved_to 0 (omega (arith, below, is.count)))
+          ∙ own_left reply
+          ∙ ap (λ (replies : List (Reply (List ℕ))). left_of own_script replies) (sym (get_or-set_same kept.state.replies worker (given ++ reply ∷ []) [] (omega (arith, below, is.of.workers))))
 
   same_count : (answer : Answer) → length (places_behind worker call answer kept.places) ≡ plan.workers
   same_count answers.Still = is.count

@@ -207,8 +207,7 @@ module _ (laws : Laws) (plan : Plan) (worker before place moment : ℕ) where
   turn_own (operations.Atomic call) (states.Atomic number) has alone below is keys out stands =
       ((atomic_reply call number, places plan (shared_calls plan before place (operations.Atomic call) (replies.Atomic (atomic_reply call number))), refl), tt)
   turn_own (operations.Composed (IfEqual value passes)) (states.Atomic number) has alone below is keys out stands =
-      let load = (Held number, places plan (shared_calls plan before place (operations.Atomic Load) (replies.Atomic (Held number))), refl) in
-      ((Done (Ok (is_same number value)), (Done (Ok (replies.Atomic (Held number))), load, refl), refl), tt)
+      ((Done (Ok (is_same number value)), (Done (Ok (replies.Atomic (Held number))), (Held number, places plan (shared_calls plan before place (operations.Atomic Load) (replies.Atomic (Held number))), refl), refl), refl), tt)
   turn_own (operations.Mutex call) (states.Mutex m) has alone below is keys out stands =
       let step = turn_on (operations.Mutex call) worker moment (states.Mutex m) in
       (mutex_tells laws.machines.mutexes plan place worker moment before call (mutex.place_of m worker) m refl (omega (arith, below, is.1)) is.0, behind (operations.Mutex call) worker step.1 step.0 tt tt)

@@ -52,10 +52,10 @@ use crate::turns::laws::spelling::{
     calls_are_entered_whole, items_are_their_workers, turns_spell_their_calls,
 };
 use crate::turns::laws::{
-    a_placed_call_is_one_item, an_ifeq_is_one_load, few_turns_are_left_of_a_call, items_lead_from_turn_to_turn,
-    maps_keep_to_the_keys_of_calls, numbers_stay_in_range, pools_have_room,
-    some_calls_take_one_turn, turns_keep_kinds_and_machines, turns_use_something_up,
-    workers_stand_in_their_calls,
+    a_placed_call_is_one_item, an_ifeq_is_one_load, few_turns_are_left_of_a_call,
+    items_lead_from_turn_to_turn, maps_keep_to_the_keys_of_calls, numbers_stay_in_range,
+    pools_have_room, some_calls_take_one_turn, turns_keep_kinds_and_machines,
+    turns_use_something_up, workers_stand_in_their_calls,
 };
 use script_calls::laws as scripts;
 use sync_types::Name;

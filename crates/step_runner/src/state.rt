@@ -100,12 +100,7 @@ impl State {
     }
 
     /// Completes a worker's call with its reply. Calls that this passes over are left out.
-    fn complete(
-        &mut self,
-        worker: u32,
-        call: &Call,
-        reply: Reply<Name>,
-    ) -> Result<(), AllocError>
+    fn complete(&mut self, worker: u32, call: &Call, reply: Reply<Name>) -> Result<(), AllocError>
         requires replies { worker < length self.old.state.replies }
         requires places { worker < length self.old.places }
         requires room { get_or self.old.places worker 0 < 2 ^ 63 }
@@ -117,12 +112,7 @@ impl State {
     }
 
     /// Settles what a turn means for its worker: only an answer that completes the call adds a reply.
-    pub fn settle(
-        &mut self,
-        worker: u32,
-        call: &Call,
-        answer: Answer,
-    ) -> Result<Step, AllocError>
+    pub fn settle(&mut self, worker: u32, call: &Call, answer: Answer) -> Result<Step, AllocError>
         requires replies { worker < length self.old.state.replies }
         requires places { worker < length self.old.places }
         requires room { get_or self.old.places worker 0 < 2 ^ 63 }

@@ -10,7 +10,9 @@ use crate::turns::answer::Answer;
 use crate::turns::lock_turn::{take_mutex_turn, take_rw_mutex_turn};
 use crate::turns::object_state::ObjectState;
 use crate::turns::once_turn::{take_once_func_turn, take_once_turn, take_once_value_turn};
-use crate::turns::plain_turn::{take_atomic_turn, take_composed_turn, take_map_turn, take_range_turn};
+use crate::turns::plain_turn::{
+    take_atomic_turn, take_composed_turn, take_map_turn, take_range_turn,
+};
 use crate::turns::pool_turn::take_pool_turn;
 use crate::turns::stages::Taker;
 use crate::turns::wait_turn::{take_cond_turn, take_wait_group_turn};

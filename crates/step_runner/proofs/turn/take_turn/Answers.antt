@@ -1,5 +1,5 @@
 use Rattle.std.proofs.Common.{◌≡◌, ℕ, ◌<◌, List, [], Some, get_or, sym, ap, subst, ◌∙◌}
-use Rattle.std.specs.Prelude.{◌^◌, slice_get, IfOk}
+use Rattle.std.specs.Prelude.{◌^◌, slice_get}
 use Rattle.std.specs.Vec.{with_items}
 use Rattle.std.proofs.lemmas.List.{with_items_is}
 use Rattle.std.proofs.lemmas.Result.{IfOk-weaker}
