@@ -57,14 +57,6 @@ calls_next plan worker place i script replies call reply after here is =
     ∙ ap (λ (cs : List Call). line ++ calls_text plan worker (place + 1 + passes) cs (drop (i + 1) replies)) here.over
     ∙ ap (λ (n : ℕ). line ++ calls_text plan worker n (drop n script) (drop (i + 1) replies)) (sym is)
 
--- no call stands there any more
-pub calls_none : (plan : Plan) (worker place : ℕ) (script : List Call) (replies : List (Reply ℕ)) → script ≡ [] → calls_text plan worker place script replies ≡ []
-calls_none plan worker place script replies e = ap (λ (cs : List Call). calls_text plan worker place cs replies) e ∙ none replies
-  where
-    none : (rs : List (Reply ℕ)) → calls_text plan worker place [] rs ≡ []
-    none [] = refl
-    none (r ∷ rs) = refl
-
 -- one more worker
 pub workers_next : (plan : Plan) (i : ℕ) (replies : List (List (Reply ℕ))) (completed : List (Reply ℕ))
     → i < length plan.scripts → ltb i (length replies) ≡ true → completed ≡ get_or replies i completed
@@ -81,13 +73,6 @@ calls_one_line place i script replies call reply after here is =
     ∙ ap (λ (rs : List (Reply ℕ)). completed_in (call ∷ drop (place + 1) script) rs) here.answered
     ∙ ap (λ (cs : List Call). suc (completed_in cs (drop (i + 1) replies))) here.over
     ∙ ap (λ (n : ℕ). suc (completed_in (drop n script) (drop (i + 1) replies))) (sym is)
-
-pub calls_no_line : (script : List Call) (replies : List (Reply ℕ)) → script ≡ [] → completed_in script replies ≡ 0
-calls_no_line script replies e = ap (λ (cs : List Call). completed_in cs replies) e ∙ none replies
-  where
-    none : (rs : List (Reply ℕ)) → completed_in [] rs ≡ 0
-    none [] = refl
-    none (r ∷ rs) = refl
 
 pub workers_no_lines : (scripts : List (List Call)) (replies : List (List (Reply ℕ))) → replies ≡ [] → completed_in_all scripts replies ≡ 0
 workers_no_lines scripts replies e = ap (completed_in_all scripts) e ∙ none scripts

@@ -55,8 +55,5 @@ writes_end before now all here e h =
 pub writes_both : (before mid now one other : ℕ) → Wrote before mid one → Wrote mid now other → Wrote before now (one + other)
 writes_both before mid now one other first second = second ∙ ap (raised_times other) first ∙ times_add other one before
 
-pub writes_first : (before now one other : ℕ) → WroteUpTo before now one → WroteUpTo before now (one + other)
-writes_first before now one other cut = (cut.0, omega (arith, cut.1), cut.2)
-
 pub writes_after : (before mid now one other : ℕ) → Wrote before mid one → WroteUpTo mid now other → WroteUpTo before now (one + other)
 writes_after before mid now one other first cut = (one + cut.0, omega (arith, cut.1), cut.2 ∙ ap (raised_times cut.0) first ∙ times_add cut.0 one before)

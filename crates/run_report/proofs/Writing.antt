@@ -1,11 +1,10 @@
 -- Writing a text piece by piece.
-use Rattle.std.proofs.Common.{◌≡◌, ℕ, ◌+◌, ◌≤◌, List, [], ◌++◌, length, take, true, false, Option, Some, None, refl, sym, ap, subst, ◌∙◌, arith, inl, inr, append_assoc, append-nil}
+use Rattle.std.proofs.Common.{◌≡◌, ℕ, ◌+◌, List, [], ◌++◌, length, take, Option, Some, None, refl, sym, ap, subst, ◌∙◌, arith, append_assoc, append-nil}
 use Rattle.std.proofs.lemmas.List.{take-append-le, length-append}
-use Rattle.std.proofs.Math.Seq.{take-append-add, take-length}
-use Rattle.std.specs.Prelude.{Result, Ok, Err, OnOk, OnErr, is_err}
+use Rattle.std.proofs.Math.Seq.{take-append-add}
+use Rattle.std.specs.Prelude.{Result, Ok, Err, OnErr}
 use Rattle.std.specs.Io.KnownBytes.{append_known}
 use Rattle.sync_outside.specs.Bytes.{Appends, AppendsFront}
-use Rattle.sync_outside.specs.Faults.{Rose}
 
 -- a part of the whole text was written, and this is left
 pub record Goes (old now : Option (List ℕ)) (all left : List ℕ) : Type 0 where
@@ -24,9 +23,6 @@ append_known-append (Some xs) b c = ap (λ (l : List ℕ). Some l) (append_assoc
 -- one text is written behind the other
 pub appends_more : (old now new : Option (List ℕ)) (a b : List ℕ) → Appends old now a → Appends now new b → Appends old new (a ++ b)
 appends_more old now new a b h k = k ∙ ap (λ (o : Option (List ℕ)). append_known o b) h ∙ append_known-append old a b
-
-pub goes_start : (old : Option (List ℕ)) (all : List ℕ) → Goes old old all all
-goes_start old all = record { done = []; wrote = append_known-nil old; rest = refl }
 
 -- one piece is written
 pub goes_on : (old now new : Option (List ℕ)) (all here piece left : List ℕ) → here ≡ piece ++ left → Goes old now all here → Appends now new piece → Goes old new all left
@@ -54,29 +50,10 @@ goes_cut old now new all here piece left e h cut =
 pub goes_end : (old now : Option (List ℕ)) (all here : List ℕ) → here ≡ [] → Goes old now all here → Appends old now all
 goes_end old now all here e h = h.wrote ∙ ap (append_known old) (sym (h.rest ∙ ap (λ (l : List ℕ). h.done ++ l) e ∙ append-nil h.done))
 
--- a whole text is a first part of it
-pub front_whole : (old new : Option (List ℕ)) (text : List ℕ) → Appends old new text → AppendsFront old new text
-front_whole old new text h = (length text, omega arith, h ∙ ap (append_known old) (sym (take-length text)))
-
--- a count that had not fallen before
-pub rose_since : (old now new : ℕ) → old ≤ now → Rose now new → Rose old new
-rose_since old now new le (inl lt) = inl (omega (arith, le, lt))
-rose_since old now new le (inr last) = inr last
-
 -- a fact, where a result is an `Err`
 pub on_err : {T E P : Type 0} (r : Result T E) → P → OnErr r P
 on_err (Ok x) p = tt
 on_err (Err e) p = p
-
--- a fact about an `Err`, where a result is one
-pub at_err : {T E P : Type 0} (r : Result T E) → is_err r ≡ true → OnErr r P → P
-at_err (Ok x) e p = absurd cc
-at_err (Err y) e p = p
-
--- a fact about an `Ok`, where a result is one
-pub at_ok : {T E P : Type 0} (r : Result T E) → is_err r ≡ false → OnOk r P → P
-at_ok (Ok x) e p = p
-at_ok (Err y) e p = absurd cc
 
 -- a text and a first part of the next are a first part of both
 pub front_after : (old mid new : Option (List ℕ)) (a b : List ℕ) → Appends old mid a → AppendsFront mid new b → AppendsFront old new (a ++ b)

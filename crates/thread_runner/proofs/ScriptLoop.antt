@@ -1,18 +1,22 @@
 -- What holds between two calls of a script.
-use Rattle.std.proofs.Common.{◌≡◌, ℕ, ◌+◌, ◌<◌, ◌≤◌, List, ◌∷◌, length, drop, get_or, Option, Some, slice_get, refl, sym, ap, ◌∙◌, subst, arith}
-use Rattle.std.specs.Prelude.{All, IfSome, IfNone, None, sum_by}
+use Rattle.std.proofs.Common.{◌≡◌, ℕ, ◌+◌, ◌<◌, ◌≤◌, List, [], ◌∷◌, ◌++◌, length, drop, get_or, Option, Some, slice_get, refl, sym, ap, ◌∙◌, subst, arith}
+use Rattle.std.specs.Prelude.{All, IfSome, IfNone, None, Result, sum_by}
+use Rattle.std.proofs.lemmas.List.{length_push}
 use Rattle.std.proofs.lemmas.List.Elements.{All-append}
 use Rattle.std.specs.Option.{ForSome}
 use Rattle.std.proofs.lemmas.List.Sums.{sum_by-cons, sum_by-take-drop}
 use Rattle.std.proofs.lemmas.Option.{same_Some, slice_get_read}
 use Rattle.script_calls.specs.declared.call.Call.{Call}
 use Rattle.script_calls.specs.declared.call.Reply.{Reply}
+use Rattle.sync_types.specs.declared.misuse.Misuse.{Misuse}
+use Rattle.sync_model.specs.declared.answer.Answer.TheVariants.{Done}
 use Rattle.sync_model.specs.declared.caller.Caller.{Caller}
 use Rattle.sync_model.specs.declared.item.Item.{Item}
 use Rattle.sync_types.specs.BoundedSeq.{Bounded}
 use Rattle.sync_model.specs.Front.{Front}
 use Rattle.sync_model.specs.Note.{Holding}
 use Rattle.sync_model.specs.Shared.{IsCallerAt, IsHeldBy, items_of}
+use Rattle.protocols.specs.Spelling.{CallAnswer}
 use Rattle.workload.specs.Keys.{keys_in}
 use Rattle.workload.specs.Plan.{Plan}
 use Rattle.run_record.specs.Limits.{IsCallOf}
@@ -32,8 +36,15 @@ held_behind own cost old new spends c (holding, is, number) =
     let same : spends.was ≡ holding = same_Some spends.was holding (sym spends.own_old ∙ is) in
     (spends.becomes, spends.own_new, spends.number ∙ ap (λ (h : Holding). h.number) same ∙ number)
 
-pub of_some : {X : Type 0} (o : Option X) (P : X → Type 0) (x : X) → o ≡ Some x → IfSome o P → P x
+of_some : {X : Type 0} (o : Option X) (P : X → Type 0) (x : X) → o ≡ Some x → IfSome o P → P x
 of_some o P x is holds = subst (λ r. IfSome r P) is holds
+
+-- the answer of a call that was done, and of one that met a halt
+pub of_done : {O : Type 0} (o : Option (CallAnswer O)) (P : CallAnswer O → Type 0) (a : CallAnswer O) (r x : Result O Misuse) → o ≡ Some a → a ≡ Done r → r ≡ x → IfSome o P → P (Done x)
+of_done o P a r x is done same holds = subst (λ z. P (Done z)) same (subst P done (of_some o P a is holds))
+
+pub of_halted : {O : Type 0} (o : Option (CallAnswer O)) (P : CallAnswer O → Type 0) (a x : CallAnswer O) → o ≡ Some a → a ≡ x → IfSome o P → P x
+of_halted o P a x is same holds = subst P same (of_some o P a is holds)
 
 pub of_none : {X : Type 0} (o : Option X) (P : Type 0) → o ≡ None → IfNone o P → P
 of_none o P is holds = subst (λ r. IfNone r P) is holds
@@ -80,13 +91,6 @@ module _ {H N : Type 0} (at : H → N → Type 0) (own : N → Option Holding) (
     ranges : ranges_in_calls (drop place script) ≡ ranges_in_call call + ranges_in_calls (drop (place + 1) script)
     ranges = ap ranges_in_calls at_place ∙ sum_by-cons ranges_in_call call (drop (place + 1) script)
 
-    -- there is enough for the next call, and room for its pairs, if it is a `range`
-    pub spare_here : (note : N) → ForSome (own note) (λ holding. cost_of_calls (drop place script) ≤ holding.spare) → ForSome (own note) (λ holding. cost_of_call call ≤ holding.spare)
-    spare_here note spare holding is = let all = spare holding is in let sum = costs in omega (arith, all, sum)
-
-    pub rooms_here : (n : ℕ) → ranges_in_calls (drop place script) ≤ n → ranges_in_call call ≤ n
-    rooms_here n enough = let sum = ranges in omega (arith, sum, enough)
-
     module _ (passes next : ℕ) (over : drop passes (drop (place + 1) script) ≡ drop next script) where
       -- what is passed over takes nothing
       no_more : (f : Call → ℕ) → sum_by f (drop next script) ≤ sum_by f (drop (place + 1) script)
@@ -95,7 +99,7 @@ module _ {H N : Type 0} (at : H → N → Type 0) (own : N → Option Holding) (
           let same = ap (sum_by f) over in
           omega (arith, sum, same)
 
-      -- and then for those behind it
+      -- there is enough for the next call, and then for those behind it
       spare_behind : (caller note : N) → ForSome (own caller) (λ holding. cost_of_calls (drop place script) ≤ holding.spare) → Spends own (cost_of_call call) caller note
           → ForSome (own note) (λ holding. cost_of_calls (drop next script) ≤ holding.spare)
       spare_behind caller note spare spends holding is =
@@ -105,21 +109,20 @@ module _ {H N : Type 0} (at : H → N → Type 0) (own : N → Option Holding) (
 
       module _ (passes_before now_passes : List (AnyPass N)) (caller now_caller : Caller N) (replies now_replies : Bounded (Reply ℕ)) (rooms now_rooms : List (Bounded (ℕ × ℕ))) (before : AtCall place passes_before caller replies rooms) where
         -- behind a call the worker is about to make the next one that isn't passed over
-        pub after_call : AreSeats at home workers worker objects now_passes → IsCallerAt at own home now_caller → Spends own (cost_of_call call) caller.note now_caller.note
+        pub after_call : (reply : Reply ℕ) → now_replies ≡ record { items = replies.items ++ reply ∷ []; room = replies.room } → place < next → AreSeats at home workers worker objects now_passes → IsCallerAt at own home now_caller → Spends own (cost_of_call call) caller.note now_caller.note
             → AreRooms (length (keys_in plan.scripts)) now_rooms → length rooms ≤ length now_rooms + ranges_in_call call
-            → now_replies.room ≡ replies.room → length now_replies.items ≤ next
             → MakesOnly (IsCallOf plan) (items_of (own caller.note)) (items_of (own now_caller.note))
-            → Went plan worker script next now_replies.items start (desk_with own front (owns_of now_passes) now_caller.note)
+            → Went plan worker script next (replies.items ++ reply ∷ []) start (desk_with own front (owns_of now_passes) now_caller.note)
             → AtCall next now_passes now_caller now_replies now_rooms
-        after_call seats is_caller spends roomy left room_same count made went = record {
+        after_call reply pushed behind seats is_caller spends roomy left made went = record {
           seats = seats;
           is_caller = is_caller;
           held = λ c of. held_behind own (cost_of_call call) caller.note now_caller.note spends c (before.held c of);
           spare = spare_behind caller.note now_caller.note before.spare spends;
           roomy = roomy;
           enough = let sum = ranges in let was = before.enough in let less = no_more ranges_in_call in omega (arith, sum, less, was, left);
-          room_is = room_same ∙ before.room_is;
-          count = count;
+          room_is = ap (λ (b : Bounded (Reply ℕ)). b.room) pushed ∙ before.room_is;
+          count = let longer = ap (λ (b : Bounded (Reply ℕ)). length b.items) pushed in let one = length_push replies.items reply in let was = before.count in omega (arith, longer, one, was, behind);
           calls = all_behind plan (items_of (own caller.note)) (items_of (own now_caller.note)) before.calls made;
-          went = went;
+          went = subst (λ (b : Bounded (Reply ℕ)). Went plan worker script next b.items start (desk_with own front (owns_of now_passes) now_caller.note)) (sym pushed) went;
         }

@@ -18,7 +18,7 @@ pub record DidLine (plan : Plan) (worker : ℕ) (script : List Call) (replies : 
   pub halts : HaltsEach plan line
   pub moves : Moves old (items_of line) new
 
--- what a worker did that is about to make the call at this place of its script, and was answered each call before
+-- what a worker did of its script up to this place, who was answered each call that it made
 pub record Went (plan : Plan) (worker : ℕ) (script : List Call) (place : ℕ) (replies : List (Reply ℕ)) (old now : Desk) : Type 0 where
   pub spelt : List SpeltCall
   pub are : AreSpelt plan worker 0 spelt

@@ -70,7 +70,10 @@ fn if_equal_at<S: Shared, R: Wait>(
     ensures works { (owns : ℕ → List ObjectEntry)
         → Works (if_equal_call (atomic_number catalog.now.workload.now.objects place) value) (desk_with S.Mark.own S.Mark.front owns caller.old.note) result (desk_with S.Mark.own S.Mark.front owns caller.new.note) }
 {
-    compared(value, atomic_at(rt, catalog, caller, place, AtomicCall::Load))
+    compared(
+        value,
+        atomic_at(rt, catalog, caller, place, AtomicCall::Load),
+    )
 }
 
 /// Makes a call that is made of others, on the atomic at a place among the workload's objects. It may wait for other callers.

@@ -1,11 +1,9 @@
-use Rattle.std.proofs.Common.{◌≡◌, ℕ, ◌+◌, ◌<◌, ◌≤◌, [], ◌∷◌, ◌++◌, drop, get_or, length, Option, Some, Ok, Err, slice_get, refl, inl, inr, ◌∙◌, ap, arith, subst, sym, rules}
+use Rattle.std.proofs.Common.{ℕ, ◌+◌, ◌≤◌, [], get_or, length, Option, Ok, Err, refl, inl, inr, arith, subst, sym, rules}
 use Rattle.std.specs.Prelude.{All}
 use Rattle.std.proofs.lemmas.List.Elements.{All-nil}
-use Rattle.std.proofs.lemmas.List.{length_push}
 use Rattle.script_calls.specs.declared.call.Reply.{Reply}
 use Rattle.script_calls.specs.Runs.{passed_over}
-use Rattle.sync_types.specs.BoundedSeq.{Bounded}
-use Rattle.sync_model.specs.declared.answer.Answer.TheVariants.{Done, Halted}
+use Rattle.sync_model.specs.declared.answer.Answer.TheVariants.{Halted}
 use Rattle.sync_model.specs.Note.{Holding}
 use Rattle.sync_model.specs.Shared.{IsHeldBy, items_of}
 use Rattle.protocols.specs.Spelling.{CallAnswer}
@@ -15,7 +13,7 @@ use Rattle.thread_objects.specs.Passes.{owns_of}
 use Rattle.thread_runner.specs.Sites.{cost_of_call, ranges_in_call}
 use Rattle.thread_objects.specs.Working.{Works, desk_with}
 use Rattle.thread_runner.specs.DidLines.{Went}
-use Rattle.thread_runner.proofs.ScriptLoop.{after_call, all_behind, call_read, over_all, held_behind, of_some, of_none}
+use Rattle.thread_runner.proofs.ScriptLoop.{after_call, all_behind, call_read, over_all, held_behind, of_done, of_halted, of_none}
 use Rattle.thread_runner.proofs.LineSteps.{begun, went_on, ends_misused, ends_halted, ends_whole}
 use Rattle.thread_runner.proofs.script.run_script.Goals as goal
 
@@ -50,7 +48,7 @@ returns-in-Some-Done-Err-clause-line g c =
     let last = desk_with mark.own mark.front (owns_of c.halt_all.new.passes) c.halt_all.new.note in
     let at = call_read c.a_run_goes_along_by_places.ensures.at script _ c.loop-place.place c.index-script-place.result (search rules) c.index-script-place.is c.script-script.ensures.script in
     let Made : CallAnswer (Reply ℕ) → Type 0 = λ answer. Works (SpellsCall plan number (length (items_of (mark.own c.loop-place.caller.note))) c.index-script-place.result) now answer new in
-    let works = of_some c.make_call-answer.result Made (Done (Err c.in-Some-Done-Err.misuse)) (c.in-Some-Done-Err.is ∙ ap Some (c.in-Some-Done-Err.field-0-is ∙ ap Done c.in-Some-Done-Err.field-0-0-is)) c.make_call-answer.ensures.works in
+    let works = of_done c.make_call-answer.result Made _ _ (Err c.in-Some-Done-Err.misuse) c.in-Some-Done-Err.is c.in-Some-Done-Err.field-0-is c.in-Some-Done-Err.field-0-0-is c.make_call-answer.ensures.works in
     let halted = c.halt_all.ensures.halted in
     inl (ends_misused plan number script start c.requires.fresh.calls c.loop-place.place c.index-script-place.result at c.loop-place.replies.items now new c.moves.ensures.joined c.loop-place.invariant.went
     c.in-Some-Done-Err.misuse works.items halted.items last works.spelt works.moves halted.moves halted.halts halted.order)
@@ -66,7 +64,7 @@ returns-in-Some-Halted-clause-line g c =
     let new = desk_with mark.own mark.front (owns_of c.make_call-answer.new.passes) c.make_call-answer.new.caller.note in
     let at = call_read c.a_run_goes_along_by_places.ensures.at script _ c.loop-place.place c.index-script-place.result (search rules) c.index-script-place.is c.script-script.ensures.script in
     let Made : CallAnswer (Reply ℕ) → Type 0 = λ answer. Works (SpellsCall plan number (length (items_of (mark.own c.loop-place.caller.note))) c.index-script-place.result) now answer new in
-    let works = of_some c.make_call-answer.result Made (Halted c.in-Some-Halted._misuse) (c.in-Some-Halted.is ∙ ap Some c.in-Some-Halted.field-0-is) c.make_call-answer.ensures.works in
+    let works = of_halted c.make_call-answer.result Made _ (Halted c.in-Some-Halted._misuse) c.in-Some-Halted.is c.in-Some-Halted.field-0-is c.make_call-answer.ensures.works in
     inl (ends_halted plan number script start c.requires.fresh.calls c.loop-place.place c.index-script-place.result at c.loop-place.replies.items now new c.moves.ensures.joined c.loop-place.invariant.went c.in-Some-Halted._misuse works)
 
 pub loop-place-preserved : goal.loop-place-preserved
@@ -86,17 +84,11 @@ loop-place-preserved g c =
     let next = c.loop-place.place + (1 + c.passed_over.result) in
     let over = over_all c.a_run_goes_along_by_places.ensures.over script c.loop-place.place passes c.passed_over.result c.passed_over.ensures.passes in
     let left : length c.loop-place.rooms.items ≤ length c.make_call-answer.new.rooms.items + ranges_in_call c.index-script-place.result = search rules in
-    let goes_on = after_call mark.at mark.own mark.front c.args.worker.now.at.home.now plan c.args.worker.now.workers number c.args.site.now.objects.now script c.args.replies.now.room start c.args.caller.now.note c.loop-place.place c.index-script-place.result at
+    let works = of_done c.make_call-answer.result Made _ _ (Ok reply) c.in-Some-Done-Ok.is c.in-Some-Done-Ok.field-0-is c.in-Some-Done-Ok.field-0-0-is made.works in
+    let went = went_on plan number script start c.requires.fresh.calls c.loop-place.place c.index-script-place.result at c.loop-place.replies.items now new c.moves.ensures.joined c.loop-place.invariant.went c.moves.ensures.shared c.runs_go_on.ensures.along reply next over works in
+    after_call mark.at mark.own mark.front c.args.worker.now.at.home.now plan c.args.worker.now.workers number c.args.site.now.objects.now script c.args.replies.now.room start c.args.caller.now.note c.loop-place.place c.index-script-place.result at
     passes next over c.loop-place.passes c.make_call-answer.new.passes c.loop-place.caller c.make_call-answer.new.caller c.loop-place.replies c.push.new.self c.loop-place.rooms.items c.make_call-answer.new.rooms.items c.loop-place.invariant
-    made.seats made.caller made.spends made.rooms left in
-    let before = c.loop-place.replies in
-    let works = of_some c.make_call-answer.result Made (Done (Ok reply)) (c.in-Some-Done-Ok.is ∙ ap Some (c.in-Some-Done-Ok.field-0-is ∙ ap Done c.in-Some-Done-Ok.field-0-0-is)) made.works in
-    let count : length (before.items ++ reply ∷ []) ≤ next = omega (arith, c.loop-place.invariant.count, length_push before.items reply) in
-    goes_on (ap (λ (b : Bounded (Reply ℕ)). b.room) c.push.ensures)
-    (subst (λ (b : Bounded (Reply ℕ)). length b.items ≤ next) (sym c.push.ensures) count)
-    made.calls
-    (subst (λ (b : Bounded (Reply ℕ)). Went plan number script next b.items start new) (sym c.push.ensures)
-    (went_on plan number script start c.requires.fresh.calls c.loop-place.place c.index-script-place.result at before.items now new c.moves.ensures.joined c.loop-place.invariant.went c.moves.ensures.shared c.runs_go_on.ensures.along reply next over works))
+    reply c.push.ensures (omega arith) made.seats made.caller made.spends made.rooms left made.calls went
 
 pub returns-clause-line : goal.returns-clause-line
 returns-clause-line g c =
