@@ -1,8 +1,2 @@
 mod FreshPasses
 mod Written
-mod Beside
-mod FirstCallers
-mod AllCallers
-mod Callers
-mod Pairs
-mod Walkers

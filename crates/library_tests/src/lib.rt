@@ -1,18 +1,16 @@
-//! Tests of Go's types for threads, by public calls: Mutex and RWMutex here, Cond, WaitGroup and Once in `waits`, Pool in
-//! `pools`, Map and the typed atomics in `maps`, and maps and atomics that take turns in `plain`.
+//! Tests of Go's types for threads, by public calls: Mutex and RWMutex here, Cond, WaitGroup and Once in `waits`, and Pool in
+//! `pools`. Map and the typed atomics have theirs in the crate `table_tests`.
 #![tactic(auto)]
 
 mod flights;
 #[cfg(test)]
 mod made;
-mod maps;
 #[cfg(test)]
 mod mutex;
 #[cfg(test)]
 mod one_thread;
 #[cfg(test)]
 mod packed;
-mod plain;
 mod pools;
 #[cfg(test)]
 mod rw_mutex;

@@ -1,0 +1,6 @@
+mod Beside
+mod FirstCallers
+mod AllCallers
+mod Callers
+mod Pairs
+mod Walkers

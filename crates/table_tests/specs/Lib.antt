@@ -1,0 +1,3 @@
+pub mod Pairs
+pub mod MapPairs
+pub mod Walking
