@@ -1,9 +1,11 @@
 pub mod AtomicCallers
 pub mod CondCallers
 pub mod GroupCallers
+pub mod GuardedCallers
 pub mod Made
 pub mod MapCallers
 pub mod MutexCallers
 pub mod OnceCallers
+pub mod PoolCallers
 pub mod Renewing
 pub mod RwCallers

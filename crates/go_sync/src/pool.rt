@@ -1,0 +1,70 @@
+//! Go's `sync.Pool`: a pool of numbers, and the callers that threads use it by.
+ghost use Rattle.std.specs.Prelude.{◌≡◌, ◌+◌, ◌<◌, ◌≤◌, All, IfOk, MatchOption, vec_len};
+ghost use Rattle.go_pool.specs.Pools.{IsPassOf};
+
+mod calls;
+
+use go_pool::{Pool, PoolPass};
+use ruled_object::MAX_CALLS;
+use std::alloc::{AllocError, Global};
+use sync_model::NoNote;
+use sync_outside::Clock;
+
+/// What a pool keeps of its threads, one for each. `pool_callers` makes callers of them.
+pub type PoolPasses = Vec<PoolPass<NoNote>>;
+
+/// An empty pool for so many threads, 64 at most. Each thread's part has room for one item of its own and `room` that others may take,
+/// in memory that is taken here. A `get` that finds nothing answers `fresh`, as by Go's `New`.
+pub fn new_pool(
+    alloc: Global,
+    threads: u32,
+    room: u32,
+    fresh: u64,
+) -> Result<(Pool<NoNote>, PoolPasses), AllocError>
+    requires { (0 < threads) × (threads ≤ 64) }
+    ensures passes { IfOk result (λ made. All (IsPassOf made.0) made.1.items) }
+    ensures count { IfOk result (λ made. vec_len made.1 ≡ threads) }
+{
+    let (pool, passes) = Pool::new(alloc, &(), threads, room, fresh, MAX_CALLS, NoNote::new())?;
+    Ok((pool, passes))
+}
+
+/// A caller for each thread.
+pub fn pool_callers<'a, C: Clock>(
+    alloc: Global,
+    pool: &'a Pool<NoNote>,
+    clock: &'a C,
+    mut passes: PoolPasses,
+) -> Result<Vec<PoolCaller<'a, C>>, AllocError>
+    requires { All (IsPassOf pool.now) passes.items }
+    ensures { IfOk result (λ callers. vec_len callers ≡ vec_len passes) }
+{
+    let mut callers = Vec::with_capacity(alloc, passes.len())?;
+    while let Some(caller) = PoolCaller::last(pool, clock, &mut passes) {
+        callers.push(caller)?;
+    }
+    Ok(callers)
+}
+
+/// What one thread uses a pool by. An item is a number: a program keeps its things in a list, and pools their places.
+///
+/// In the words of Go's memory model: a `put` of an item synchronizes before the `get` that returns it.
+#[derive(Drop)]
+pub struct PoolCaller<'a, C: Clock> {
+    pool: &'a Pool<NoNote>,
+    clock: &'a C,
+    pass: PoolPass<NoNote>,
+    ghost is: { IsPassOf pool.now pass },
+}
+
+impl<'a, C: Clock> PoolCaller<'a, C> {
+    /// The caller of the last of these passes.
+    pub fn last(pool: &'a Pool<NoNote>, clock: &'a C, passes: &mut PoolPasses) -> Option<Self>
+        requires { All (IsPassOf pool.now) passes.old.items }
+        ensures passes { All (IsPassOf pool.now) passes.new.items }
+        ensures count { MatchOption result (vec_len passes.old ≡ 0) (λ _. vec_len passes.new + 1 ≡ vec_len passes.old) }
+    {
+        let pass = passes.pop()?;
+        Some(PoolCaller { pool, clock, pass })
+    }
+}
