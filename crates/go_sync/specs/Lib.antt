@@ -9,3 +9,4 @@ pub mod OnceCallers
 pub mod PoolCallers
 pub mod Renewing
 pub mod RwCallers
+pub mod SemaCallers

@@ -91,7 +91,7 @@ impl<T: Drop, C: Clock> GuardedCaller<'_, T, C> {
 }
 
 // What the change answers.
-fn changed<T, A, F: FnOnce(&mut T) -> A>(value: &mut T, change: F) -> A
+pub(crate) fn changed<T, A, F: FnOnce(&mut T) -> A>(value: &mut T, change: F) -> A
     requires { F.IsAlwaysCallable change }
     ensures { FnOnceReturnsAtMut F.FnOnce change value.old result value.new }
 {

@@ -46,9 +46,9 @@ pub fn rw_callers<'a, C: Clock>(
 /// later try that succeeds.
 #[derive(Drop)]
 pub struct RwCaller<'a, C: Clock> {
-    lock: &'a RwMutex<NoNote>,
-    clock: &'a C,
-    pass: RwPass<NoNote>,
+    pub(crate) lock: &'a RwMutex<NoNote>,
+    pub(crate) clock: &'a C,
+    pub(crate) pass: RwPass<NoNote>,
     ghost is: { IsPassOfRwMutex lock.now pass },
 }
 

@@ -1,0 +1,89 @@
+//! The calls of a semaphore's caller.
+ghost use Rattle.std.specs.Prelude.{◌<◌};
+ghost use Rattle.weighted_sema.specs.Semas.{IsPassOf};
+ghost use Rattle.ruled_object.specs.Passes.{left_of};
+ghost use Rattle.go_sync.specs.Renewing.{IsSame};
+ghost use Rattle.go_sync.specs.SemaCallers.{Acquired, Released, Tried};
+
+use super::SemaCaller;
+use ruled_object::MAX_CALLS;
+use std::sync::Wait;
+use sync_model::{Answer, NoNote};
+use sync_outside::{At, Clock};
+use sync_types::Misuse;
+use weighted_sema::{Sema, SemaPass};
+
+// A pass that is good for a call: where none is left it is renewed.
+fn ready(sema: &Sema<NoNote>, pass: &mut SemaPass<NoNote>)
+    requires { IsPassOf sema.now pass.old }
+    ensures pass { IsPassOf sema.now pass.new × (0 < left_of pass.new) }
+    ensures same { IsSame pass.old pass.new }
+{
+    if pass.left() == 0 {
+        sema.renew(pass, MAX_CALLS);
+    }
+}
+
+impl<C: Clock> SemaCaller<'_, C> {
+    // Whether it is a weight: 1 up to the semaphore's size.
+    fn is_weight(&self, weight: u64) -> bool {
+        1 <= weight && weight <= self.semaphore.size
+    }
+
+    /// Go's `Acquire`: waits until the caller has the weight, in the order in which callers came. False where it is 0 or more than the
+    /// semaphore's size, and then nothing was done.
+    #[tactic(auto, using(crate::proofs::Renewed::made_so))]
+    pub fn acquire<R: Wait>(&mut self, rt: &R, weight: u64) -> Answer<bool>
+        ensures { Acquired weight self.old result self.new }
+    {
+        if !self.is_weight(weight) {
+            return Answer::Done(false);
+        }
+        let sema = &self.semaphore.sema;
+        ready(sema, &mut self.pass);
+        let at: At<NoNote, C> = At {
+            home: &(),
+            clock: self.clock,
+        };
+        match sema.acquire(rt, &at, &mut self.pass, &mut NoNote::new(), weight) {
+            Answer::Done(()) => Answer::Done(true),
+            Answer::Halted(misuse) => Answer::Halted(misuse),
+        }
+    }
+
+    /// Go's `TryAcquire`: whether the caller has the weight, which it has exactly where an `acquire` would have it at once. False too
+    /// where it is 0 or more than the semaphore's size, and then nothing was done.
+    #[tactic(auto, using(crate::proofs::Renewed::made_so))]
+    pub fn try_acquire<R: Wait>(&mut self, rt: &R, weight: u64) -> Answer<bool>
+        ensures { Tried weight self.old result self.new }
+    {
+        if !self.is_weight(weight) {
+            return Answer::Done(false);
+        }
+        let sema = &self.semaphore.sema;
+        ready(sema, &mut self.pass);
+        let at: At<NoNote, C> = At {
+            home: &(),
+            clock: self.clock,
+        };
+        sema.try_acquire(rt, &at, &mut self.pass, &mut NoNote::new(), weight)
+    }
+
+    /// Go's `Release`: gives a weight back, this caller's or another one's. More than is held is a misuse, which it answers, and so is
+    /// 0; then nothing changes.
+    #[tactic(auto, using(crate::proofs::Renewed::made_so))]
+    pub fn release<R: Wait>(&mut self, rt: &R, weight: u64) -> Answer<Result<(), Misuse>>
+        ensures { Released weight self.old result self.new }
+    {
+        if !self.is_weight(weight) {
+            return Answer::Done(Err(Misuse::NegativeWaitGroupCounter));
+        }
+        let sema = &self.semaphore.sema;
+        ready(sema, &mut self.pass);
+        let at: At<NoNote, C> = At {
+            home: &(),
+            clock: self.clock,
+        };
+        sema.release(rt, &at, &mut self.pass, &mut NoNote::new(), weight)
+    }
+}
