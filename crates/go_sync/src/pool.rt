@@ -1,6 +1,8 @@
 //! Go's `sync.Pool`: a pool of numbers, and the callers that threads use it by.
 ghost use Rattle.std.specs.Prelude.{◌≡◌, ◌+◌, ◌<◌, ◌≤◌, All, IfOk, MatchOption, vec_len};
+ghost use Rattle.std.proofs.Props.{props};
 ghost use Rattle.go_pool.specs.Pools.{IsPassOf};
+ghost use Rattle.go_sync.specs.PoolProps.{follows_prop};
 
 mod calls;
 
@@ -54,7 +56,7 @@ pub struct PoolCaller<'a, C: Clock> {
     pool: &'a Pool<NoNote>,
     clock: &'a C,
     pass: PoolPass<NoNote>,
-    ghost is: { IsPassOf pool.now pass },
+    ghost is: { IsPassOf pool.now pass } by { Prim.hlevel (follows_prop, props) },
 }
 
 impl<'a, C: Clock> PoolCaller<'a, C> {

@@ -1,6 +1,6 @@
 //! The calls of a semaphore's caller.
-ghost use Rattle.std.specs.Prelude.{◌<◌};
-ghost use Rattle.weighted_sema.specs.Semas.{IsPassOf};
+ghost use Rattle.std.specs.Prelude.{◌≡◌, ◌<◌, true, false};
+ghost use Rattle.weighted_sema.specs.Semas.{IsPassOf, IsWeightOf};
 ghost use Rattle.ruled_object.specs.Passes.{left_of};
 ghost use Rattle.go_sync.specs.Renewing.{IsSame};
 ghost use Rattle.go_sync.specs.SemaCallers.{Acquired, Released, Tried};
@@ -26,7 +26,10 @@ fn ready(sema: &Sema<NoNote>, pass: &mut SemaPass<NoNote>)
 
 impl<C: Clock> SemaCaller<'_, C> {
     // Whether it is a weight: 1 up to the semaphore's size.
-    fn is_weight(&self, weight: u64) -> bool {
+    fn is_weight(&self, weight: u64) -> bool
+        ensures yes { result ≡ true → IsWeightOf self.now.semaphore.now.sema weight }
+        ensures no { result ≡ false → IsWeightOf self.now.semaphore.now.sema weight → ⊥ }
+    {
         1 <= weight && weight <= self.semaphore.size
     }
 
