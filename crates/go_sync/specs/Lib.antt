@@ -6,8 +6,5 @@ pub mod Made
 pub mod MapCallers
 pub mod MutexCallers
 pub mod OnceCallers
-pub mod PoolCallers
-pub mod PoolProps
 pub mod Renewing
 pub mod RwCallers
-pub mod SemaCallers

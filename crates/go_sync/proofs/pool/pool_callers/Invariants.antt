@@ -1,9 +1,0 @@
-use Rattle.std.proofs.Common.{◌≡◌, ◌+◌, All, vec_len}
-use Rattle.go_pool.specs.Pools.{IsPassOf}
-use Rattle.go_sync.proofs.pool.pool_callers.Given as goal
-
-abbrev pub invariant-loop-caller : goal.invariant-loop-caller
-invariant-loop-caller g l = All (IsPassOf l.pool) l.passes.items × (vec_len l.callers + vec_len l.passes ≡ vec_len l.fn.passes)
-
-abbrev pub decreases-loop-caller : goal.decreases-loop-caller
-decreases-loop-caller g l = vec_len l.passes
