@@ -52,8 +52,9 @@ fn changed_unblocked<T: Drop, A, B: Fn(&T) -> bool, F: FnOnce(&mut T) -> A, C: C
     for _ in rt.forever() {
         {
             let mut held = value.lock(rt);
-            if !blocked(&*held) {
-                return Some(changed(&mut *held, change));
+            let now = &mut *held;
+            if !is_blocked(now, &blocked) {
+                return Some(changed(now, change));
             }
         }
         let Answer::Done(Ok(())) = cond.wait(rt, mutex) else {
@@ -61,4 +62,12 @@ fn changed_unblocked<T: Drop, A, B: Fn(&T) -> bool, F: FnOnce(&mut T) -> A, C: C
         };
     }
     unreachable!()
+}
+
+// Whether the value is blocked.
+fn is_blocked<T, B: Fn(&T) -> bool>(value: &T, blocked: &B) -> bool
+    requires { B.IsAlwaysCallable blocked.now }
+    ensures { FnReturnsAt B.Fn blocked.now value.now result }
+{
+    blocked(value)
 }
