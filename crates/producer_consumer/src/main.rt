@@ -64,8 +64,7 @@ impl<C: Clock> Worker<'_, C> {
     // The next number, once there is one. `None` where the queue is closed and empty.
     fn take<R: Wait>(&mut self, rt: &R) -> Option<u64> {
         let first = |queue: &mut Queue| queue.numbers.pop_front();
-        self.queue
-            .wait_while(rt, &mut self.changed, |queue: &Queue| queue.waits(), first)?
+        self.queue.wait_while(rt, &mut self.changed, |queue: &Queue| queue.waits(), first)?
     }
 }
 
@@ -98,9 +97,13 @@ fn main(rt: HostRuntime) -> io::Result<()> {
     let (changed, cond_passes) = new_cond(alloc, 4)?;
     let queues = queue.callers(alloc, &clock, passes)?;
     let conds = cond_callers(alloc, &changed, &clock, cond_passes)?;
-    let sums = map_vec(&rt, workers(alloc, queues, conds)?, &|mut worker| {
-        worker.work(&rt)
-    })?;
-    let total = sums.iter().fold(0u64, |total, sum| total.wrapping_add(*sum));
+    let sums = map_vec(
+        &rt,
+        workers(alloc, queues, conds)?,
+        &|mut worker| { worker.work(&rt) },
+    )?;
+    let total = sums
+        .iter()
+        .fold(0u64, |total, sum| total.wrapping_add(*sum));
     println!(rt; "{total}")
 }
