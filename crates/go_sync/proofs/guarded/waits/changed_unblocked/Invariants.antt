@@ -1,4 +1,3 @@
-use Rattle.std.proofs.Common.{ℕ}
 use Rattle.go_sync.specs.GuardedCallers.{WaitsFor}
 use Rattle.go_sync.proofs.guarded.waits.changed_unblocked.Given as goal
 
