@@ -1,6 +1,7 @@
 pub mod AtomicCallers
 pub mod CondCallers
 pub mod GroupCallers
+pub mod GuardedCallers
 pub mod Made
 pub mod MapCallers
 pub mod MutexCallers

@@ -1,5 +1,5 @@
 //! The typed atomics of Go's `sync/atomic`: atomics of a table, and the callers that threads use them by.
-ghost use Rattle.std.specs.Prelude.{◌≡◌, ◌<◌, ◌≤◌, All, IfOk, Some, slice_get};
+ghost use Rattle.std.specs.Prelude.{◌≡◌, ◌+◌, ◌<◌, ◌≤◌, All, IfOk, Some, slice_get, MatchOption, vec_len};
 ghost use Rattle.sync_model.specs.Shared.{IsCallerAt};
 ghost use Rattle.shared_table.specs.CallerProps.{caller_prop};
 ghost use Rattle.shared_table.specs.Notes.{own_by, IsNoteOf};
@@ -36,12 +36,11 @@ pub fn atomic_callers<'a, V: AtomicValue>(
 ) -> Result<Vec<AtomicCaller<'a, V>>, AllocError>
     requires kind { slice_get (kinds_of table.now) number ≡ Some V.kind }
     requires callers { All (IsCallerAt IsNoteOf own_by table.now) callers.items }
+    ensures { IfOk result (λ members. vec_len members ≡ vec_len callers) }
 {
     let mut members = Vec::with_capacity(alloc, callers.len())?;
-    for _ in 0..callers.len() {
-        if let Some(member) = AtomicCaller::last(table, number, &mut callers) {
-            members.push(member)?;
-        }
+    while let Some(member) = AtomicCaller::last(table, number, &mut callers) {
+        members.push(member)?;
     }
     Ok(members)
 }
@@ -62,7 +61,8 @@ impl<'a, V: AtomicValue> AtomicCaller<'a, V> {
     pub fn last(table: &'a SharedTable, number: u32, callers: &mut TableCallers) -> Option<Self>
         requires kind { slice_get (kinds_of table.now) number ≡ Some V.kind }
         requires callers { All (IsCallerAt IsNoteOf own_by table.now) callers.old.items }
-        ensures { All (IsCallerAt IsNoteOf own_by table.now) callers.new.items }
+        ensures callers { All (IsCallerAt IsNoteOf own_by table.now) callers.new.items }
+        ensures count { MatchOption result (vec_len callers.old ≡ 0) (λ _. vec_len callers.new + 1 ≡ vec_len callers.old) }
     {
         let caller = callers.pop()?;
         Some(AtomicCaller {

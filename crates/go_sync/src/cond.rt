@@ -1,5 +1,5 @@
 //! Go's `sync.Cond`: a cond, and the callers that threads wait and signal by.
-ghost use Rattle.std.specs.Prelude.{◌<◌, ◌≤◌, All, IfOk};
+ghost use Rattle.std.specs.Prelude.{◌≡◌, ◌+◌, ◌<◌, ◌≤◌, All, IfOk, MatchOption, vec_len};
 ghost use Rattle.go_waits.specs.Conds.{IsPassOf};
 
 mod calls;
@@ -16,7 +16,8 @@ pub type CondPasses = Vec<CondPass<NoNote>>;
 /// A cond at which nobody waits, for so many threads, 64 at most.
 pub fn new_cond(alloc: Global, threads: u32) -> Result<(Cond<NoNote>, CondPasses), AllocError>
     requires { (0 < threads) × (threads ≤ 64) }
-    ensures { IfOk result (λ made. All (IsPassOf made.0) made.1.items) }
+    ensures passes { IfOk result (λ made. All (IsPassOf made.0) made.1.items) }
+    ensures count { IfOk result (λ made. vec_len made.1 ≡ threads) }
 {
     let (cond, passes) = Cond::new(alloc, threads, MAX_CALLS, NoNote::new())?;
     Ok((cond, passes))
@@ -30,12 +31,11 @@ pub fn cond_callers<'a, C: Clock>(
     mut passes: CondPasses,
 ) -> Result<Vec<CondCaller<'a, C>>, AllocError>
     requires { All (IsPassOf cond.now) passes.items }
+    ensures { IfOk result (λ callers. vec_len callers ≡ vec_len passes) }
 {
     let mut callers = Vec::with_capacity(alloc, passes.len())?;
-    for _ in 0..passes.len() {
-        if let Some(caller) = CondCaller::last(cond, clock, &mut passes) {
-            callers.push(caller)?;
-        }
+    while let Some(caller) = CondCaller::last(cond, clock, &mut passes) {
+        callers.push(caller)?;
     }
     Ok(callers)
 }
@@ -55,7 +55,8 @@ impl<'a, C: Clock> CondCaller<'a, C> {
     /// The caller of the last of these passes.
     pub fn last(cond: &'a Cond<NoNote>, clock: &'a C, passes: &mut CondPasses) -> Option<Self>
         requires { All (IsPassOf cond.now) passes.old.items }
-        ensures { All (IsPassOf cond.now) passes.new.items }
+        ensures passes { All (IsPassOf cond.now) passes.new.items }
+        ensures count { MatchOption result (vec_len passes.old ≡ 0) (λ _. vec_len passes.new + 1 ≡ vec_len passes.old) }
     {
         let pass = passes.pop()?;
         Some(CondCaller { cond, clock, pass })

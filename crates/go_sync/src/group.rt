@@ -1,5 +1,5 @@
 //! Go's `sync.WaitGroup`: a wait group, and the callers that threads use it by.
-ghost use Rattle.std.specs.Prelude.{◌<◌, ◌≤◌, ◌≤ℤ◌, pos, All, IfOk};
+ghost use Rattle.std.specs.Prelude.{◌≡◌, ◌+◌, ◌<◌, ◌≤◌, ◌≤ℤ◌, pos, All, IfOk, MatchOption, vec_len};
 ghost use Rattle.go_waits.specs.Groups.{IsPassOf};
 
 mod calls;
@@ -21,7 +21,8 @@ pub fn new_group(
 ) -> Result<(WaitGroup<NoNote>, GroupPasses), AllocError>
     requires threads { (0 < threads) × (threads ≤ 64) }
     requires start { (pos 0 ≤ℤ start) × (start ≤ℤ pos 10000) }
-    ensures { IfOk result (λ made. All (IsPassOf made.0) made.1.items) }
+    ensures passes { IfOk result (λ made. All (IsPassOf made.0) made.1.items) }
+    ensures count { IfOk result (λ made. vec_len made.1 ≡ threads) }
 {
     let (group, passes) = WaitGroup::new(alloc, threads, MAX_CALLS, start, NoNote::new())?;
     Ok((group, passes))
@@ -35,12 +36,11 @@ pub fn group_callers<'a, C: Clock>(
     mut passes: GroupPasses,
 ) -> Result<Vec<GroupCaller<'a, C>>, AllocError>
     requires { All (IsPassOf group.now) passes.items }
+    ensures { IfOk result (λ callers. vec_len callers ≡ vec_len passes) }
 {
     let mut callers = Vec::with_capacity(alloc, passes.len())?;
-    for _ in 0..passes.len() {
-        if let Some(caller) = GroupCaller::last(group, clock, &mut passes) {
-            callers.push(caller)?;
-        }
+    while let Some(caller) = GroupCaller::last(group, clock, &mut passes) {
+        callers.push(caller)?;
     }
     Ok(callers)
 }
@@ -64,7 +64,8 @@ impl<'a, C: Clock> GroupCaller<'a, C> {
         passes: &mut GroupPasses,
     ) -> Option<Self>
         requires { All (IsPassOf group.now) passes.old.items }
-        ensures { All (IsPassOf group.now) passes.new.items }
+        ensures passes { All (IsPassOf group.now) passes.new.items }
+        ensures count { MatchOption result (vec_len passes.old ≡ 0) (λ _. vec_len passes.new + 1 ≡ vec_len passes.old) }
     {
         let pass = passes.pop()?;
         Some(GroupCaller { group, clock, pass })

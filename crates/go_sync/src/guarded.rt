@@ -1,12 +1,14 @@
 //! Data that only the holder of a mutex reaches.
-ghost use Rattle.std.specs.Prelude.{◌<◌, ◌≤◌, All, IfOk, IfSome};
+ghost use Rattle.std.specs.Prelude.{◌≡◌, ◌<◌, ◌≤◌, All, IfOk, IfSome, vec_len};
 ghost use Rattle.sync_model.specs.declared.answer.Answer.TheVariants.{Done};
 ghost use Rattle.go_locks.specs.MutexCalls.{Unlocks};
 ghost use Rattle.go_locks.specs.Mutexes.{IsPassOfMutex};
 ghost use Rattle.go_sync.specs.MutexCallers.{LocksSoon, Makes};
 ghost use Rattle.std.specs.Fn.{FnOnceReturnsAtMut};
 
-use crate::mutex::{MutexCaller, MutexPasses, mutex_callers, new_mutex};
+mod waits;
+
+use crate::mutex::{MutexCaller, MutexPasses, new_mutex};
 use go_locks::Mutex;
 use std::alloc::{AllocError, Global};
 use std::sync::{Mutex as Cell, Wait};
@@ -24,7 +26,8 @@ impl<T: Drop> Guarded<T> {
     /// The value, guarded, for so many threads, 64 at most, with their passes.
     pub fn new(alloc: Global, threads: u32, value: T) -> Result<(Self, MutexPasses), AllocError>
         requires { (0 < threads) × (threads ≤ 64) }
-        ensures { IfOk result (λ made. All (IsPassOfMutex made.0.mutex) made.1.items) }
+        ensures passes { IfOk result (λ made. All (IsPassOfMutex made.0.mutex) made.1.items) }
+        ensures count { IfOk result (λ made. vec_len made.1 ≡ threads) }
     {
         let (mutex, passes) = new_mutex(alloc, threads)?;
         Ok((
@@ -41,18 +44,17 @@ impl<T: Drop> Guarded<T> {
         &'a self,
         alloc: Global,
         clock: &'a C,
-        passes: MutexPasses,
+        mut passes: MutexPasses,
     ) -> Result<Vec<GuardedCaller<'a, T, C>>, AllocError>
         requires { All (IsPassOfMutex self.now.mutex) passes.items }
+        ensures { IfOk result (λ callers. vec_len callers ≡ vec_len passes) }
     {
-        let mut members = Vec::with_capacity(alloc, passes.len())?;
-        for caller in mutex_callers(alloc, &self.mutex, clock, passes)? {
-            members.push(GuardedCaller {
-                caller,
-                value: &self.value,
-            })?;
+        let mut callers = Vec::with_capacity(alloc, passes.len())?;
+        while let Some(caller) = MutexCaller::last(&self.mutex, clock, &mut passes) {
+            let value = &self.value;
+            callers.push(GuardedCaller { caller, value })?;
         }
-        Ok(members)
+        Ok(callers)
     }
 
     /// The value, once no caller is left.
@@ -89,7 +91,7 @@ impl<T: Drop, C: Clock> GuardedCaller<'_, T, C> {
 }
 
 // What the change answers.
-fn changed<T, A, F: FnOnce(&mut T) -> A>(value: &mut T, change: F) -> A
+pub(crate) fn changed<T, A, F: FnOnce(&mut T) -> A>(value: &mut T, change: F) -> A
     requires { F.IsAlwaysCallable change }
     ensures { FnOnceReturnsAtMut F.FnOnce change value.old result value.new }
 {

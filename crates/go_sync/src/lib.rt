@@ -11,15 +11,18 @@ pub mod guarded;
 pub mod map;
 pub mod mutex;
 pub mod once;
+pub mod rw_guarded;
 pub mod rw_mutex;
 
 pub use atomic::{AtomicCaller, atomic_callers, new_atomic};
 pub use cond::{CondCaller, CondPasses, cond_callers, new_cond};
+pub use go_waits::OnceRun;
 pub use group::{GroupCaller, GroupPasses, group_callers, new_group};
 pub use guarded::{Guarded, GuardedCaller};
 pub use map::{MapCaller, TableCallers, map_callers, new_map};
 pub use mutex::{MutexCaller, MutexPasses, mutex_callers, new_mutex};
 pub use once::{OnceCaller, OncePasses, new_once, once_callers};
+pub use rw_guarded::{RwGuarded, RwGuardedCaller};
 pub use rw_mutex::{RwCaller, RwPasses, new_rw_mutex, rw_callers};
 pub use shared_table::SharedTable;
 pub use sync_model::Answer;

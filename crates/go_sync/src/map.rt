@@ -1,5 +1,5 @@
 //! Go's `sync.Map`: maps of a table, and the callers that threads use them by.
-ghost use Rattle.std.specs.Prelude.{◌<◌, ◌≤◌, ◌*◌, All, IfOk};
+ghost use Rattle.std.specs.Prelude.{◌≡◌, ◌+◌, ◌<◌, ◌≤◌, ◌*◌, All, IfOk, MatchOption, vec_len};
 ghost use Rattle.sync_model.specs.Shared.{IsCallerAt};
 ghost use Rattle.shared_table.specs.CallerProps.{caller_prop};
 ghost use Rattle.shared_table.specs.Notes.{own_by, IsNoteOf};
@@ -42,12 +42,11 @@ pub fn map_callers<'a>(
 ) -> Result<Vec<MapCaller<'a>>, AllocError>
     requires number { number < maps_of table.now }
     requires callers { All (IsCallerAt IsNoteOf own_by table.now) callers.items }
+    ensures { IfOk result (λ members. vec_len members ≡ vec_len callers) }
 {
     let mut members = Vec::with_capacity(alloc, callers.len())?;
-    for _ in 0..callers.len() {
-        if let Some(member) = MapCaller::last(table, number, &mut callers) {
-            members.push(member)?;
-        }
+    while let Some(member) = MapCaller::last(table, number, &mut callers) {
+        members.push(member)?;
     }
     Ok(members)
 }
@@ -71,7 +70,8 @@ impl<'a> MapCaller<'a> {
     pub fn last(table: &'a SharedTable, number: u32, callers: &mut TableCallers) -> Option<Self>
         requires number { number < maps_of table.now }
         requires callers { All (IsCallerAt IsNoteOf own_by table.now) callers.old.items }
-        ensures { All (IsCallerAt IsNoteOf own_by table.now) callers.new.items }
+        ensures callers { All (IsCallerAt IsNoteOf own_by table.now) callers.new.items }
+        ensures count { MatchOption result (vec_len callers.old ≡ 0) (λ _. vec_len callers.new + 1 ≡ vec_len callers.old) }
     {
         let caller = callers.pop()?;
         Some(MapCaller {

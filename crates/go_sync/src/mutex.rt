@@ -1,5 +1,5 @@
 //! Go's `sync.Mutex`: a mutex, and the callers that threads lock it by.
-ghost use Rattle.std.specs.Prelude.{◌<◌, ◌≤◌, All, IfOk};
+ghost use Rattle.std.specs.Prelude.{◌≡◌, ◌+◌, ◌<◌, ◌≤◌, All, IfOk, MatchOption, vec_len};
 ghost use Rattle.go_locks.specs.Mutexes.{IsPassOfMutex};
 
 mod calls;
@@ -17,7 +17,8 @@ pub type MutexPasses = Vec<MutexPass<NoNote>>;
 /// An unlocked mutex for so many threads, 64 at most.
 pub fn new_mutex(alloc: Global, threads: u32) -> Result<(Mutex<NoNote>, MutexPasses), AllocError>
     requires { (0 < threads) × (threads ≤ 64) }
-    ensures { IfOk result (λ made. All (IsPassOfMutex made.0) made.1.items) }
+    ensures passes { IfOk result (λ made. All (IsPassOfMutex made.0) made.1.items) }
+    ensures count { IfOk result (λ made. vec_len made.1 ≡ threads) }
 {
     let (mutex, passes) = Mutex::new(alloc, threads, MAX_CALLS, NoNote::new())?;
     Ok((mutex, passes))
@@ -31,12 +32,11 @@ pub fn mutex_callers<'a, C: Clock>(
     mut passes: MutexPasses,
 ) -> Result<Vec<MutexCaller<'a, C>>, AllocError>
     requires { All (IsPassOfMutex mutex.now) passes.items }
+    ensures { IfOk result (λ callers. vec_len callers ≡ vec_len passes) }
 {
     let mut callers = Vec::with_capacity(alloc, passes.len())?;
-    for _ in 0..passes.len() {
-        if let Some(caller) = MutexCaller::last(mutex, clock, &mut passes) {
-            callers.push(caller)?;
-        }
+    while let Some(caller) = MutexCaller::last(mutex, clock, &mut passes) {
+        callers.push(caller)?;
     }
     Ok(callers)
 }
@@ -57,7 +57,8 @@ impl<'a, C: Clock> MutexCaller<'a, C> {
     /// The caller of the last of these passes.
     pub fn last(mutex: &'a Mutex<NoNote>, clock: &'a C, passes: &mut MutexPasses) -> Option<Self>
         requires { All (IsPassOfMutex mutex.now) passes.old.items }
-        ensures { All (IsPassOfMutex mutex.now) passes.new.items }
+        ensures passes { All (IsPassOfMutex mutex.now) passes.new.items }
+        ensures count { MatchOption result (vec_len passes.old ≡ 0) (λ _. vec_len passes.new + 1 ≡ vec_len passes.old) }
     {
         let pass = passes.pop()?;
         Some(MutexCaller { mutex, clock, pass })

@@ -1,5 +1,5 @@
 //! Go's `sync.Once`: a once, and the callers that threads come to it by.
-ghost use Rattle.std.specs.Prelude.{◌<◌, ◌≤◌, All, IfOk};
+ghost use Rattle.std.specs.Prelude.{◌≡◌, ◌+◌, ◌<◌, ◌≤◌, All, IfOk, MatchOption, vec_len};
 ghost use Rattle.go_waits.specs.Onces.{IsPassOf};
 
 mod calls;
@@ -16,7 +16,8 @@ pub type OncePasses = Vec<OncePass<(), NoNote>>;
 /// A once that hasn't run, for so many threads, 64 at most.
 pub fn new_once(alloc: Global, threads: u32) -> Result<(Once<(), NoNote>, OncePasses), AllocError>
     requires { (0 < threads) × (threads ≤ 64) }
-    ensures { IfOk result (λ made. All (IsPassOf made.0) made.1.items) }
+    ensures passes { IfOk result (λ made. All (IsPassOf made.0) made.1.items) }
+    ensures count { IfOk result (λ made. vec_len made.1 ≡ threads) }
 {
     let (once, passes) = Once::new(alloc, threads, MAX_CALLS, NoNote::new())?;
     Ok((once, passes))
@@ -30,12 +31,11 @@ pub fn once_callers<'a, C: Clock>(
     mut passes: OncePasses,
 ) -> Result<Vec<OnceCaller<'a, C>>, AllocError>
     requires { All (IsPassOf once.now) passes.items }
+    ensures { IfOk result (λ callers. vec_len callers ≡ vec_len passes) }
 {
     let mut callers = Vec::with_capacity(alloc, passes.len())?;
-    for _ in 0..passes.len() {
-        if let Some(caller) = OnceCaller::last(once, clock, &mut passes) {
-            callers.push(caller)?;
-        }
+    while let Some(caller) = OnceCaller::last(once, clock, &mut passes) {
+        callers.push(caller)?;
     }
     Ok(callers)
 }
@@ -55,7 +55,8 @@ impl<'a, C: Clock> OnceCaller<'a, C> {
     /// The caller of the last of these passes.
     pub fn last(once: &'a Once<(), NoNote>, clock: &'a C, passes: &mut OncePasses) -> Option<Self>
         requires { All (IsPassOf once.now) passes.old.items }
-        ensures { All (IsPassOf once.now) passes.new.items }
+        ensures passes { All (IsPassOf once.now) passes.new.items }
+        ensures count { MatchOption result (vec_len passes.old ≡ 0) (λ _. vec_len passes.new + 1 ≡ vec_len passes.old) }
     {
         let pass = passes.pop()?;
         Some(OnceCaller { once, clock, pass })

@@ -1,5 +1,5 @@
 //! Go's `sync.RWMutex`: a reader/writer lock, and the callers that threads lock it by.
-ghost use Rattle.std.specs.Prelude.{◌<◌, ◌≤◌, All, IfOk};
+ghost use Rattle.std.specs.Prelude.{◌≡◌, ◌+◌, ◌<◌, ◌≤◌, All, IfOk, MatchOption, vec_len};
 ghost use Rattle.go_locks.specs.RwMutexes.{IsPassOfRwMutex};
 
 mod calls;
@@ -16,7 +16,8 @@ pub type RwPasses = Vec<RwPass<NoNote>>;
 /// An unlocked reader/writer lock for so many threads, 64 at most.
 pub fn new_rw_mutex(alloc: Global, threads: u32) -> Result<(RwMutex<NoNote>, RwPasses), AllocError>
     requires { (0 < threads) × (threads ≤ 64) }
-    ensures { IfOk result (λ made. All (IsPassOfRwMutex made.0) made.1.items) }
+    ensures passes { IfOk result (λ made. All (IsPassOfRwMutex made.0) made.1.items) }
+    ensures count { IfOk result (λ made. vec_len made.1 ≡ threads) }
 {
     let (lock, passes) = RwMutex::new(alloc, threads, MAX_CALLS, NoNote::new())?;
     Ok((lock, passes))
@@ -30,12 +31,11 @@ pub fn rw_callers<'a, C: Clock>(
     mut passes: RwPasses,
 ) -> Result<Vec<RwCaller<'a, C>>, AllocError>
     requires { All (IsPassOfRwMutex lock.now) passes.items }
+    ensures { IfOk result (λ callers. vec_len callers ≡ vec_len passes) }
 {
     let mut callers = Vec::with_capacity(alloc, passes.len())?;
-    for _ in 0..passes.len() {
-        if let Some(caller) = RwCaller::last(lock, clock, &mut passes) {
-            callers.push(caller)?;
-        }
+    while let Some(caller) = RwCaller::last(lock, clock, &mut passes) {
+        callers.push(caller)?;
     }
     Ok(callers)
 }
@@ -46,9 +46,9 @@ pub fn rw_callers<'a, C: Clock>(
 /// later try that succeeds.
 #[derive(Drop)]
 pub struct RwCaller<'a, C: Clock> {
-    lock: &'a RwMutex<NoNote>,
-    clock: &'a C,
-    pass: RwPass<NoNote>,
+    pub(crate) lock: &'a RwMutex<NoNote>,
+    pub(crate) clock: &'a C,
+    pub(crate) pass: RwPass<NoNote>,
     ghost is: { IsPassOfRwMutex lock.now pass },
 }
 
@@ -56,7 +56,8 @@ impl<'a, C: Clock> RwCaller<'a, C> {
     /// The caller of the last of these passes.
     pub fn last(lock: &'a RwMutex<NoNote>, clock: &'a C, passes: &mut RwPasses) -> Option<Self>
         requires { All (IsPassOfRwMutex lock.now) passes.old.items }
-        ensures { All (IsPassOfRwMutex lock.now) passes.new.items }
+        ensures passes { All (IsPassOfRwMutex lock.now) passes.new.items }
+        ensures count { MatchOption result (vec_len passes.old ≡ 0) (λ _. vec_len passes.new + 1 ≡ vec_len passes.old) }
     {
         let pass = passes.pop()?;
         Some(RwCaller { lock, clock, pass })

@@ -1,0 +1,23 @@
+-- What a call on guarded data did that waits at a cond.
+use Rattle.std.specs.Prelude.{ℕ, Ok}
+use Rattle.sync_model.specs.declared.answer.Answer.TheVariants.{Done}
+use Rattle.sync_outside.specs.declared.clock.Clock.{Ghosts}
+use Rattle.go_locks.specs.MutexCalls.{Unlocks}
+use Rattle.go_sync.specs.declared.cond.CondCaller.{CondCaller}
+use Rattle.go_sync.specs.declared.mutex.MutexCaller.{MutexCaller}
+use Rattle.go_sync.specs.CondCallers.{Waited}
+use Rattle.go_sync.specs.MutexCallers.{LocksSoon, Makes}
+
+module _ {C : Type 0} {clock : Ghosts C} (shows : C → ℕ → Type 0) where
+  -- it waited at the cond any number of times, one after the other, and each time locked the mutex again
+  pub data WaitsFor (cond : CondCaller C clock) (held : MutexCaller C clock) : CondCaller C clock → MutexCaller C clock → Type 0 where
+    at_once : WaitsFor cond held cond held
+    woken : (mid : CondCaller C clock) (between : MutexCaller C clock) (new : CondCaller C clock) (again : MutexCaller C clock) → WaitsFor cond held mid between → Waited (shows mid.clock.now) mid between (Done (Ok tt)) new again → WaitsFor cond held new again
+
+  -- it locked the mutex, waited so, and unlocked
+  pub record WaitsHeld (cond : CondCaller C clock) (old : MutexCaller C clock) (left : CondCaller C clock) (new : MutexCaller C clock) : Type 0 where
+    pub held : MutexCaller C clock
+    pub locks : LocksSoon shows old (Done tt) held
+    pub again : MutexCaller C clock
+    pub waits : WaitsFor cond held left again
+    pub unlocks : (end : _) × Makes Unlocks (shows again.clock.now) again end new
