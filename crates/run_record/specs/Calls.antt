@@ -1,7 +1,7 @@
 -- Which items spell a call of a workload, and what it answers by them. A kind of object is a line here, and one in `IsJournalOf`.
 use Rattle.std.specs.Prelude.{◌≡◌, ℕ, List, [], Option, Some, None, slice_get}
 use Rattle.script_calls.specs.declared.call.Call.{Call}
-use Rattle.script_calls.specs.declared.call.ComposedCall.TheVariants.{IfEqual}
+use Rattle.script_calls.specs.declared.call.ComposedCall.TheVariants.{IfEqual, WaitFor}
 use Rattle.script_calls.specs.declared.call.Operation.{Operation}
 use Rattle.script_calls.specs.declared.call.Operation.TheVariants as operations
 use Rattle.script_calls.specs.declared.call.Reply.{Reply}
@@ -20,7 +20,7 @@ use Rattle.run_record.specs.Parts.{Part, never}
 use Rattle.run_record.specs.PoolKind.{pool_call}
 use Rattle.run_record.specs.Record.{ObjectEntry, object_number}
 use Rattle.run_record.specs.RwMutexKind.{rw_mutex_call, IsRwMutexJournal}
-use Rattle.run_record.specs.Tests.{if_equal_call}
+use Rattle.run_record.specs.Tests.{if_equal_call, wait_for_call}
 use Rattle.run_record.specs.WaitGroupKind.{wait_group_call, IsWaitGroupJournal}
 
 -- a call on the object at a place, of a worker that has made so many calls on maps and atomics before. An object of another kind has no such call
@@ -32,6 +32,7 @@ call_on plan worker before place (kinds.Atomic type) (operations.Composed (IfEqu
 call_on plan worker before place kinds.Mutex (operations.Mutex call) = mutex_call (object_number place) call
 call_on plan worker before place kinds.RwMutex (operations.RwMutex call) = rw_mutex_call (object_number place) call
 call_on plan worker before place (kinds.Cond mutex) (operations.Cond call) = cond_call (object_number place) (object_number mutex) call
+call_on plan worker before place (kinds.Cond mutex) (operations.Composed (WaitFor atomic value tries)) = wait_for_call (object_number place) (object_number mutex) (atomic_number plan.objects atomic) value tries
 call_on plan worker before place (kinds.WaitGroup start) (operations.WaitGroup call) = wait_group_call (object_number place) call
 call_on plan worker before place (kinds.Once atomic delta) operations.Once = do_call (object_number place) (atomic_number plan.objects atomic) delta
 call_on plan worker before place (kinds.OnceFunc code) operations.OnceFunc = func_call (object_number place) code

@@ -53,6 +53,14 @@ pub enum Operation {
 pub enum ComposedCall {
     /// `ifeq`: loads an atomic. Where it doesn't hold the value, so many of the next calls of the script are passed over.
     IfEqual { value: Number, passes: u32 },
+    /// `waitfor`, of a cond: loads an atomic. While it doesn't hold the value and fewer than so many waits were made, waits on
+    /// the cond and loads it again.
+    WaitFor {
+        /// The place of the atomic among the workload's objects.
+        atomic: usize,
+        value: Number,
+        tries: u32,
+    },
 }
 
 /// What a call answers, where keys are of a type `K`: a name, or a number among the workload's keys.

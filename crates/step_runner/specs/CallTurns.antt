@@ -1,6 +1,8 @@
 -- The turns of a run that are taken for one call, and what they make.
-use Rattle.std.specs.Prelude.{ℕ, ◌+◌, ◌==◌, Bool, true, false, not, ◌&&◌, if◌then◌else◌, List, [], ◌∷◌, map, length, get_or}
+use Rattle.std.specs.Prelude.{ℕ, ◌+◌, ◌==◌, Bool, true, false, not, ◌&&◌, if◌then◌else◌, List, [], ◌∷◌, map, length, get_or, ◌++◌, take, slice_get}
 use Rattle.std.specs.Option.{option_map_or}
+use Rattle.script_calls.specs.Runs.{made_of}
+use Rattle.script_calls.specs.declared.call.Call.{Call}
 use Rattle.workload.specs.declared.object.ObjectKind.{ObjectKind}
 use Rattle.workload.specs.declared.turn.Turn.{Turn}
 use Rattle.workload.specs.declared.turn.Turn.TheVariants as items
@@ -10,8 +12,9 @@ use Rattle.step_runner.specs.Items.{goes_back, unlocks}
 use Rattle.step_runner.specs.declared.step.Step.{Step}
 use Rattle.step_runner.specs.declared.step.Step.TheVariants as steps
 use Rattle.step_runner.specs.RunItems.{made_by}
+use Rattle.step_runner.specs.StandsWithin.{most_turns}
 use Rattle.step_runner.specs.State.{State, with_moment}
-use Rattle.step_runner.specs.Turns.{next_call, turn_of}
+use Rattle.step_runner.specs.Turns.{left_for, next_call, turn_of}
 
 -- an event, or a misuse
 abbrev pub makes_event : Step → Bool
@@ -25,6 +28,14 @@ stands_before worker number s = length (get_or s.replies worker []) == number
 
 abbrev pub kinds_in : Plan → List ObjectKind
 kinds_in plan = map (λ object. object.kind) plan.objects
+
+-- the calls that a worker has met: those that it completed, and the one before which it stands
+abbrev pub calls_met : Plan → ℕ → State → List Call
+calls_met plan worker s = made_of (get_or plan.scripts worker []) (get_or s.replies worker []) ++ take 1 (left_for plan worker s)
+
+-- how many turns its call of this number may take, counted from 0; none, where it hasn't met it
+abbrev pub most_turns_for : Plan → ℕ → ℕ → State → ℕ
+most_turns_for plan worker number s = option_map_or (λ call. most_turns call.operation) (slice_get (calls_met plan worker s) number) 0
 
 -- whether a worker was told to go on, at the mutex for which its call waits
 abbrev pub was_told : Plan → ℕ → State → Bool

@@ -9,6 +9,8 @@ pub mod RunItems
 pub mod Spelt
 pub mod State
 pub mod Turns
+pub mod TurnWithin
+pub mod StandsWithin
 pub mod AtomicRange
 pub mod TurnsLeft
 pub mod LeadsTo

@@ -17,16 +17,17 @@ use Rattle.workload.specs.Puts.{puts_at}
 use Rattle.step_runner.specs.declared.turns.object_state.ObjectState.{ObjectState}
 use Rattle.step_runner.specs.declared.turns.object_state.ObjectState.TheVariants as states
 use Rattle.step_runner.specs.LeadsTo.{on_object, LeadsTo}
-use Rattle.step_runner.specs.Items.{Item, placed, items_at}
+use Rattle.step_runner.specs.Items.{Item, placed}
 use Rattle.step_runner.specs.Objects.{new_object}
 use Rattle.step_runner.specs.declared.step.Step.{Step}
 use Rattle.step_runner.specs.declared.step.Step.TheVariants as steps
 use Rattle.step_runner.specs.State.{State, with_moment}
-use Rattle.step_runner.specs.Turns.{next_call, turn_of}
+use Rattle.step_runner.specs.TurnWithin.{items_within}
+use Rattle.step_runner.specs.Turns.{begun_by, next_call, turn_of}
 
 -- what a worker's turn makes: nothing, where its script has ended
 abbrev pub made_by : Plan → ℕ → State → List Item
-made_by plan worker s = option_map_or (λ call. items_at call worker s.moment s.objects) (next_call plan worker s) []
+made_by plan worker s = option_map_or (λ call. items_within call worker s.moment (begun_by worker s) s.objects) (next_call plan worker s) []
 
 -- nothing follows a misuse
 abbrev pub unless_ended : State × Step → (State → List Item) → List Item

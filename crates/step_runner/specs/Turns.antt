@@ -1,5 +1,5 @@
 -- The run of a workload by its schedule: who takes a turn when.
-use Rattle.std.specs.Prelude.{ℕ, Bool, not, List, [], ◌∷◌, map, get_or, slice_get, Option, is_some}
+use Rattle.std.specs.Prelude.{ℕ, Bool, not, List, [], ◌∷◌, map, get_or, set, slice_get, Option, is_some}
 use Rattle.std.specs.List.{list_all, range_with_len}
 use Rattle.std.specs.Option.{option_map_or}
 use Rattle.script_calls.specs.Runs.{left_of}
@@ -9,8 +9,7 @@ use Rattle.workload.specs.declared.turn.Turn.TheVariants as items
 use Rattle.workload.specs.Plan.{Plan}
 use Rattle.step_runner.specs.declared.turns.answer.Answer.{Answer}
 use Rattle.step_runner.specs.declared.turns.answer.Answer.TheVariants as answers
-use Rattle.step_runner.specs.declared.turns.object_state.ObjectState.{ObjectState}
-use Rattle.step_runner.specs.TurnAtObjects.{turn_at}
+use Rattle.step_runner.specs.TurnWithin.{Taken, turn_within}
 use Rattle.step_runner.specs.declared.step.Step.{Step}
 use Rattle.step_runner.specs.declared.step.Step.TheVariants as steps
 use Rattle.step_runner.specs.State.{State, with_reply, with_moment}
@@ -32,12 +31,16 @@ settled worker answers.Unfinished s = (s, steps.Made)
 settled worker (answers.Completed reply) s = (with_reply worker reply s, steps.Made)
 settled worker (answers.Misused misuse) s = (s, steps.Misused misuse)
 
-abbrev pub settled_with : ℕ → List ObjectState × Answer → State → State × Step
-settled_with worker step s = settled worker step.1 (record s { objects = step.0 })
+abbrev pub settled_with : ℕ → Taken → State → State × Step
+settled_with worker step s = settled worker step.1 (record s { objects = step.0.0; begun = set s.begun worker step.0.1 })
+
+-- how many waits of its call a worker has begun
+abbrev pub begun_by : ℕ → State → ℕ
+begun_by worker s = get_or s.begun worker 0
 
 -- a turn of a worker: one whose script has ended makes no event
 abbrev pub turn_of : Plan → ℕ → State → State × Step
-turn_of plan worker s = option_map_or (λ call. settled_with worker (turn_at call worker s.moment s.objects) s) (next_call plan worker s) (s, steps.Still)
+turn_of plan worker s = option_map_or (λ call. settled_with worker (turn_within call worker s.moment (begun_by worker s) s.objects) s) (next_call plan worker s) (s, steps.Still)
 
 -- ---- turns in order
 

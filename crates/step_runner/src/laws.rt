@@ -85,11 +85,11 @@ pub fn events_use_something_up()
     scripts::runs_go_on::<Name>();
 }
 
-/// A call takes at most four turns that make an event, but those with which its worker goes back to the queue of a mutex. For
-/// each of these another worker took a turn that unlocked, and told the worker to go on. The number of the call counts from 0
-/// among the calls that its worker makes.
+/// A call takes at most four turns that make an event, and a `waitfor` four for each of its waits and one more, but those with which its
+/// worker goes back to the queue of a mutex. For each of these another worker took a turn that unlocked, and told the worker to go on. The
+/// number of the call counts from 0 among the calls that its worker makes.
 pub fn a_call_takes_few_turns()
-    ensures few { (plan : Plan) (items : List Turn) (worker number : ℕ) → is_valid plan ≡ true → count_turns plan (advances plan worker number) items (start plan) ≤ 4 }
+    ensures few { (plan : Plan) (items : List Turn) (worker number : ℕ) → is_valid plan ≡ true → count_turns plan (advances plan worker number) items (start plan) ≤ most_turns_for plan worker number (after_items plan items (start plan)) }
     ensures woken { (plan : Plan) (items : List Turn) (worker number : ℕ) → is_valid plan ≡ true → count_turns plan (requeues plan worker number) items (start plan) ≤ count_turns plan (wakes plan worker number) items (start plan) }
 {
     validity();

@@ -1,9 +1,9 @@
--- How a call is spelled: its word, and its operands behind the object's name.
+-- How a call is spelled: its word, and its operands behind the object's name and that of a second object.
 use Rattle.std.specs.Prelude.{ℕ, List, [], ◌∷◌, ◌++◌, map}
 use Rattle.std.specs.Option.{option_to_list}
 use Rattle.std.specs.Fmt.{decimal, signed_decimal}
 use Rattle.script_calls.specs.declared.call.ComposedCall.{ComposedCall}
-use Rattle.script_calls.specs.declared.call.ComposedCall.TheVariants.{IfEqual}
+use Rattle.script_calls.specs.declared.call.ComposedCall.TheVariants.{IfEqual, WaitFor}
 use Rattle.script_calls.specs.declared.call.Operation.{Operation}
 use Rattle.script_calls.specs.declared.call.Operation.TheVariants as operations
 use Rattle.sync_types.specs.declared.map_object.MapCall.{MapCall}
@@ -77,6 +77,7 @@ pool_verb pool_calls.Sweep = verbs.Sweep
 
 abbrev pub composed_verb : ComposedCall → Verb
 composed_verb (IfEqual value passes) = verbs.IfEqual
+composed_verb (WaitFor atomic value tries) = verbs.WaitFor
 
 abbrev pub verb_of : Operation → Verb
 verb_of (operations.Map call) = map_verb call
@@ -133,6 +134,7 @@ pool_operands pool_calls.Sweep = []
 
 abbrev pub composed_operands : ComposedCall → List (List ℕ)
 composed_operands (IfEqual value passes) = number_word value ∷ decimal passes ∷ []
+composed_operands (WaitFor atomic value tries) = number_word value ∷ decimal tries ∷ []
 
 abbrev pub operands_of : Operation → List (List ℕ)
 operands_of (operations.Map call) = map_operands call

@@ -3,12 +3,13 @@ use Rattle.std.specs.Prelude.{ℕ, zero, suc, ◌+◌, List, [], ◌∷◌, ◌+
 use Rattle.std.specs.List.{flat_map, join_with_byte, onto_first}
 use Rattle.std.specs.Option.{option_map}
 use Rattle.script_calls.specs.declared.call.Call.{Call}
+use Rattle.script_calls.specs.declared.call.Operation.{Operation}
 use Rattle.workload.specs.declared.line.Line.{Line}
 use Rattle.workload.specs.declared.line.Line.TheVariants as lines
 use Rattle.workload.specs.declared.object.ObjectKind.{ObjectKind}
 use Rattle.workload.specs.declared.object.ObjectLine.{ObjectLine}
 use Rattle.workload.specs.declared.turn.Turn.{Turn}
-use Rattle.workload.specs.Plan.{Plan, reference_of}
+use Rattle.workload.specs.Plan.{Plan, reference_of, second_of}
 use Rattle.workload.specs.Words.{spelled, first_spelled}
 
 -- words joined by one space, and a line feed
@@ -27,8 +28,12 @@ reference_name objects kind = option_map (λ place. name_of (slice_get objects p
 abbrev pub object_line : List ObjectLine → ObjectLine → Line
 object_line objects object = lines.Object object (reference_name objects object.kind)
 
+-- the name of the second object that an operation names
+abbrev pub second_name : List ObjectLine → Operation → Option (List ℕ)
+second_name objects operation = option_map (λ place. name_of (slice_get objects place)) (second_of operation)
+
 abbrev pub call_line : List ObjectLine → Call → Line
-call_line objects call = lines.Call (name_of (slice_get objects call.object)) call
+call_line objects call = lines.Call (name_of (slice_get objects call.object)) (second_name objects call.operation) call
 
 -- a `worker` line for each worker, from one on, and its calls behind it
 abbrev pub script_lines : List ObjectLine → ℕ → List (List Call) → List Line

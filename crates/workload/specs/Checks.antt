@@ -7,7 +7,7 @@ use Rattle.sync_types.specs.Name.{is_name}
 use Rattle.sync_types.specs.declared.atomic_object.AtomicKind.{AtomicKind}
 use Rattle.sync_types.specs.declared.atomic_object.AtomicKind.TheVariants as types
 use Rattle.sync_types.specs.SequentialAtomic.{has_bits}
-use Rattle.workload.specs.declared.limits.TheConstants.{MAX_AMOUNT, MAX_CALLS, MAX_CODE, MAX_KEYS, MAX_RANGES, MAX_TURNS, MAX_WORKERS}
+use Rattle.workload.specs.declared.limits.TheConstants.{MAX_ALL_TRIES, MAX_AMOUNT, MAX_CALLS, MAX_CODE, MAX_KEYS, MAX_RANGES, MAX_TURNS, MAX_WORKERS}
 use Rattle.sync_types.specs.declared.value.TheConstants.{MAX_VALUE}
 use Rattle.workload.specs.declared.keyword.Keyword.{Keyword}
 use Rattle.workload.specs.declared.keyword.Keyword.TheVariants as keywords
@@ -27,8 +27,8 @@ use Rattle.workload.specs.declared.reason.Reason.TheVariants.{NoWorkersLine, Lin
 use Rattle.workload.specs.Lines.{is_short, is_clean, words_of, is_significant}
 use Rattle.workload.specs.KeywordWords.{keyword_word, keyword_at}
 use Rattle.workload.specs.Plan.{word_of}
-use Rattle.workload.specs.NumberWords.{is_number, is_number_to, is_amount_word, is_passes_word, is_number_word, number_of}
-use Rattle.workload.specs.Draft.{Draft, declared, limit_of, count_of, call_count, key_count, range_count}
+use Rattle.workload.specs.NumberWords.{is_number, is_number_to, is_amount_word, is_passes_word, is_tries_word, is_number_word, number_of}
+use Rattle.workload.specs.Draft.{Draft, declared, limit_of, count_of, call_count, key_count, range_count, try_count}
 
 -- whether a check passes, and the reason that it fails for
 abbrev pub Check : Type 0
@@ -133,18 +133,55 @@ form_of verb words.OnceFunc = once_func_form verb
 form_of verb words.OnceValue = once_value_form verb
 form_of verb words.Pool = pool_form verb
 
-abbrev pub operand_check : Operand → List ℕ → Check
-operand_check operands.Key word = (is_name word, BadName)
-operand_check operands.Value word = (is_number_to MAX_VALUE word, BadNumber)
-operand_check (operands.Number kind) word = (is_number_word kind word, BadNumber)
-operand_check operands.Amount word = (is_amount_word word, BadNumber)
-operand_check operands.Passes word = (is_passes_word word, BadNumber)
+-- the kinds of object to which a name may refer
+abbrev pub is_mutex : ObjectKind → Bool
+is_mutex kinds.Mutex = true
+is_mutex kind = false
+
+abbrev pub is_int64 : ObjectKind → Bool
+is_int64 (kinds.Atomic types.Int64) = true
+is_int64 kind = false
+
+abbrev pub is_atomic : ObjectKind → Bool
+is_atomic (kinds.Atomic kind) = true
+is_atomic kind = false
+
+-- a name of an object that is declared before, of a kind that passes the test
+abbrev pub reference_checks : Draft → (ObjectKind → Bool) → List ℕ → List Check
+reference_checks d test word =
+    (is_name word, BadName) ∷ (is_some (declared d word), UnknownName) ∷ (option_map_or (λ found. test found.kind) (declared d word) false, WrongKind) ∷ []
+
+-- The operands of a `waitfor` behind the cond's name, by the object that the first of them names: an atomic, a number of its type, and a number of waits.
+-- Where the first is refused, the second's type doesn't matter
+abbrev pub wait_for_form : Option Declared → List Operand
+wait_for_form (Some (record { place = place; kind = kinds.Atomic kind })) = operands.Atomic ∷ operands.Number kind ∷ operands.Tries ∷ []
+wait_for_form found = operands.Atomic ∷ operands.Value ∷ operands.Tries ∷ []
+
+-- by the words of the operands
+abbrev pub wait_for_words : Draft → List (List ℕ) → List Operand
+wait_for_words d [] = wait_for_form None
+wait_for_words d (word ∷ words) = wait_for_form (declared d word)
+
+-- The operands of a call on an object of a word, where such objects have the call. Those of a `waitfor` hang on what the draft declares
+abbrev pub call_form : Draft → Verb → ObjectWord → List (List ℕ) → Option (List Operand)
+call_form d verbs.WaitFor words.Cond operands = Some (wait_for_words d operands)
+call_form d verb word operands = form_of verb word
+
+-- one operand
+abbrev pub operand_check : Draft → Operand → List ℕ → List Check
+operand_check d operands.Key word = (is_name word, BadName) ∷ []
+operand_check d operands.Value word = (is_number_to MAX_VALUE word, BadNumber) ∷ []
+operand_check d (operands.Number kind) word = (is_number_word kind word, BadNumber) ∷ []
+operand_check d operands.Amount word = (is_amount_word word, BadNumber) ∷ []
+operand_check d operands.Passes word = (is_passes_word word, BadNumber) ∷ []
+operand_check d operands.Tries word = (is_tries_word word, BadNumber) ∷ []
+operand_check d operands.Atomic word = reference_checks d is_atomic word
 
 -- the operands from left to right
-abbrev pub operand_checks : List Operand → List (List ℕ) → List Check
-operand_checks [] words = []
-operand_checks (form ∷ forms) [] = []
-operand_checks (form ∷ forms) (word ∷ words) = operand_check form word ∷ operand_checks forms words
+abbrev pub operand_checks : Draft → List Operand → List (List ℕ) → List Check
+operand_checks d [] words = []
+operand_checks d (form ∷ forms) [] = []
+operand_checks d (form ∷ forms) (word ∷ words) = operand_check d form word ++ operand_checks d forms words
 
 -- the keys among the operands
 abbrev pub key_operands : List Operand → List (List ℕ) → List (List ℕ)
@@ -154,33 +191,45 @@ key_operands (operands.Key ∷ forms) (word ∷ words) = word ∷ key_operands f
 key_operands (form ∷ forms) (word ∷ words) = key_operands forms words
 
 -- the count of the operands, and each of them from left to right
-abbrev pub form_words : Option (List Operand) → List (List ℕ) → List Check
-form_words None words = (false, WrongKind) ∷ []
-form_words (Some form) words = (length words == length form, WrongNumberOfWords) ∷ operand_checks form words
+abbrev pub form_words : Draft → Option (List Operand) → List (List ℕ) → List Check
+form_words d None words = (false, WrongKind) ∷ []
+form_words d (Some form) words = (length words == length form, WrongNumberOfWords) ∷ operand_checks d form words
 
 -- the keys among words of a form
 abbrev pub keys_among : Option (List Operand) → List (List ℕ) → List (List ℕ)
 keys_among None words = []
 keys_among (Some form) words = key_operands form words
 
+-- how many waits the operands say, all together
+abbrev pub try_operands : List Operand → List (List ℕ) → ℕ
+try_operands [] words = 0
+try_operands (form ∷ forms) [] = 0
+try_operands (operands.Tries ∷ forms) (word ∷ words) = number_of word + try_operands forms words
+try_operands (form ∷ forms) (word ∷ words) = try_operands forms words
+
+abbrev pub tries_among : Option (List Operand) → List (List ℕ) → ℕ
+tries_among None words = 0
+tries_among (Some form) words = try_operands form words
+
 -- how many `range` calls a call of this word is
 abbrev pub ranges_in : Verb → ℕ
 ranges_in verbs.Range = 1
 ranges_in verb = 0
 
--- the limits on calls, of one more call with these keys, which is so many `range` calls
-abbrev pub limit_checks : Draft → List (List ℕ) → ℕ → List Check
-limit_checks d keys ranges =
+-- the limits on calls, of one more call with these keys, which is so many `range` calls and may make so many waits
+abbrev pub limit_checks : Draft → List (List ℕ) → (ranges tries : ℕ) → List Check
+limit_checks d keys ranges tries =
     (nat_lt (call_count d.plan.scripts) MAX_CALLS, LimitReached)
     ∷ (nat_le (key_count d.plan.scripts keys) MAX_KEYS, LimitReached)
-    ∷ (nat_le (range_count d.plan.scripts + ranges) MAX_RANGES, LimitReached) ∷ []
+    ∷ (nat_le (range_count d.plan.scripts + ranges) MAX_RANGES, LimitReached)
+    ∷ (nat_le (try_count d.plan.scripts + tries) MAX_ALL_TRIES, LimitReached) ∷ []
 
 abbrev pub form_checks : Draft → Verb → Option (List Operand) → List (List ℕ) → List Check
-form_checks d verb form words = form_words form words ++ limit_checks d (keys_among form words) (ranges_in verb)
+form_checks d verb form words = form_words d form words ++ limit_checks d (keys_among form words) (ranges_in verb) (tries_among form words)
 
 abbrev pub object_checks : Draft → Option Declared → Verb → List (List ℕ) → List Check
 object_checks d None verb words = (false, UnknownName) ∷ []
-object_checks d (Some found) verb words = form_checks d verb (form_of verb (word_of found.kind)) words
+object_checks d (Some found) verb words = form_checks d verb (call_form d verb (word_of found.kind) words) words
 
 abbrev pub call_checks : Draft → Verb → List (List ℕ) → List Check
 call_checks d verb [] = (is_some d.current, CallOutsideWorker) ∷ (false, WrongNumberOfWords) ∷ []
@@ -195,20 +244,6 @@ parameters_of words.Once = parameters.Int64 ∷ parameters.Amount ∷ []
 parameters_of words.OnceFunc = parameters.Number MAX_CODE ∷ []
 parameters_of words.OnceValue = parameters.Number MAX_VALUE ∷ []
 parameters_of word = []
-
--- the kinds of object to which a name among them may refer
-abbrev pub is_mutex : ObjectKind → Bool
-is_mutex kinds.Mutex = true
-is_mutex kind = false
-
-abbrev pub is_int64 : ObjectKind → Bool
-is_int64 (kinds.Atomic types.Int64) = true
-is_int64 kind = false
-
--- a name of an object that is declared before, of a kind that passes the test
-abbrev pub reference_checks : Draft → (ObjectKind → Bool) → List ℕ → List Check
-reference_checks d test word =
-    (is_name word, BadName) ∷ (is_some (declared d word), UnknownName) ∷ (option_map_or (λ found. test found.kind) (declared d word) false, WrongKind) ∷ []
 
 abbrev pub parameter_checks : Draft → Parameter → List ℕ → List Check
 parameter_checks d parameters.Mutex word = reference_checks d is_mutex word

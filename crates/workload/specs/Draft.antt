@@ -6,7 +6,7 @@ use Rattle.std.specs.Str.{bytes_eq}
 use Rattle.sync_types.specs.Name.{is_name}
 use Rattle.script_calls.specs.declared.call.Call.{Call}
 use Rattle.script_calls.specs.declared.call.ComposedCall.{ComposedCall}
-use Rattle.script_calls.specs.declared.call.ComposedCall.TheVariants.{IfEqual}
+use Rattle.script_calls.specs.declared.call.ComposedCall.TheVariants.{IfEqual, WaitFor}
 use Rattle.script_calls.specs.declared.call.Operation.{Operation}
 use Rattle.script_calls.specs.declared.call.Operation.TheVariants as operations
 use Rattle.sync_types.specs.declared.map_object.MapCall.{MapCall}
@@ -15,7 +15,7 @@ use Rattle.sync_types.specs.declared.wait_call.WaitGroupCall.TheVariants as grou
 use Rattle.sync_types.specs.declared.pool_call.PoolCall.{PoolCall}
 use Rattle.sync_types.specs.declared.pool_call.PoolCall.TheVariants as pool_calls
 use Rattle.sync_types.specs.SequentialMap.{map_key}
-use Rattle.workload.specs.declared.limits.TheConstants.{MAX_AMOUNT, MAX_ATOMICS, MAX_CALLS, MAX_CODE, MAX_KEYS, MAX_MAPS, MAX_OTHERS, MAX_RANGES, MAX_TURNS}
+use Rattle.workload.specs.declared.limits.TheConstants.{MAX_ALL_TRIES, MAX_AMOUNT, MAX_ATOMICS, MAX_CALLS, MAX_CODE, MAX_KEYS, MAX_MAPS, MAX_OTHERS, MAX_RANGES, MAX_TURNS}
 use Rattle.sync_types.specs.declared.value.TheConstants.{MAX_VALUE}
 use Rattle.workload.specs.declared.object.ObjectKind.{ObjectKind}
 use Rattle.workload.specs.declared.object.ObjectKind.TheVariants as kinds
@@ -27,9 +27,9 @@ use Rattle.workload.specs.declared.line.Line.{Line}
 use Rattle.workload.specs.declared.line.Line.TheVariants as lines
 use Rattle.workload.specs.declared.turn.Turn.{Turn}
 use Rattle.workload.specs.declared.turn.Turn.TheVariants as turns
-use Rattle.workload.specs.Plan.{Plan, word_of, reference_of, is_target, is_amount, has_call}
+use Rattle.workload.specs.Plan.{Plan, word_of, reference_of, second_of, is_target, is_amount, has_among}
 use Rattle.workload.specs.CallWords.{map_values}
-use Rattle.workload.specs.NumberWords.{is_passes}
+use Rattle.workload.specs.NumberWords.{is_passes, is_tries}
 
 -- the workload that the lines so far say, and the worker whose calls follow
 pub record Draft : Type 0 where
@@ -50,7 +50,7 @@ abbrev pub with_line : Draft → Line → Draft
 with_line d (lines.Object object reference) = record d { plan = record d.plan { objects = d.plan.objects ++ object ∷ [] } }
 with_line d (lines.Worker worker) = record d { current = Some worker }
 with_line d (lines.Schedule schedule) = record d { plan = record d.plan { schedule = d.plan.schedule ++ schedule } }
-with_line d (lines.Call name call) = record d { plan = record d.plan { scripts = with_call d.current call d.plan.scripts } }
+with_line d (lines.Call name second call) = record d { plan = record d.plan { scripts = with_call d.current call d.plan.scripts } }
 
 -- the object of a name, where it is declared: its place and kind, counted from a place on
 abbrev pub declared_from : ℕ → List ℕ → List ObjectLine → Option Declared
@@ -122,6 +122,15 @@ is_range call = is_range_operation call.operation
 abbrev pub range_count : List (List Call) → ℕ
 range_count scripts = sum_by (count_by is_range) scripts
 
+-- how many waits an operation may make
+abbrev pub tries_of : Operation → ℕ
+tries_of (operations.Composed (WaitFor atomic value tries)) = tries
+tries_of operation = 0
+
+-- how many waits all calls may make, all workers together
+abbrev pub try_count : List (List Call) → ℕ
+try_count scripts = sum_by (sum_by (λ call. tries_of call.operation)) scripts
+
 -- whether a value of a map is in range
 abbrev pub is_value : ℕ → Bool
 is_value value = nat_le value MAX_VALUE
@@ -140,9 +149,10 @@ abbrev pub is_pool_call : PoolCall → Bool
 is_pool_call (pool_calls.Put item) = is_value item
 is_pool_call call = true
 
--- whether the number of calls that a call passes over is in range
+-- whether the number of calls that a call passes over, or of waits that it may make, is in range
 abbrev pub is_composed_call : ComposedCall → Bool
 is_composed_call (IfEqual value passes) = is_passes passes
+is_composed_call (WaitFor atomic value tries) = is_tries tries
 
 -- the same of any operation; of an atomic's numbers the kind of the object says it
 abbrev pub is_operation : Operation → Bool
@@ -173,10 +183,15 @@ abbrev pub names_reference : Draft → ObjectKind → Option (List ℕ) → Bool
 names_reference d kind None = not (is_some (reference_of kind))
 names_reference d kind (Some name) = is_name name && is_reference kind (declared d name)
 
--- whether the name is that of the call's object
-abbrev pub names_object : Option Declared → Call → Bool
-names_object None call = false
-names_object (Some found) call = (found.place == call.object) && has_call found.kind call.operation
+-- whether the name is that of the call's object, which has the call among these objects
+abbrev pub names_object : List ObjectLine → Option Declared → Call → Bool
+names_object objects None call = false
+names_object objects (Some found) call = (found.place == call.object) && has_among objects found.kind call.operation
+
+-- whether the second name, or none, is that of the second object that an operation names
+abbrev pub names_second : Draft → Operation → Option (List ℕ) → Bool
+names_second d operation None = not (is_some (second_of operation))
+names_second d operation (Some name) = is_name name && option_map_or (λ found. option_map_or (λ place. found.place == place) (second_of operation) false) (declared d name) false
 
 -- whether an item of a schedule is in range
 abbrev pub is_item : ℕ → Turn → Bool
@@ -191,7 +206,8 @@ may_follow d (lines.Object object reference) =
 may_follow d (lines.Worker worker) = nat_lt worker d.plan.workers
 may_follow d (lines.Schedule schedule) =
     nat_lt 0 (length schedule) && (list_all (is_item d.plan.workers) schedule && nat_le (length d.plan.schedule + length schedule) MAX_TURNS)
-may_follow d (lines.Call name call) =
-    is_some d.current && (is_name name && (names_object (declared d name) call && (is_call call
+may_follow d (lines.Call name second call) =
+    is_some d.current && (is_name name && (names_object d.plan.objects (declared d name) call && (names_second d call.operation second && (is_call call
     && (nat_lt (call_count d.plan.scripts) MAX_CALLS && (nat_le (key_count d.plan.scripts (keys_of call)) MAX_KEYS
-    && nat_le (range_count d.plan.scripts + count_by is_range (call ∷ [])) MAX_RANGES)))))
+    && (nat_le (range_count d.plan.scripts + count_by is_range (call ∷ [])) MAX_RANGES
+    && nat_le (try_count d.plan.scripts + tries_of call.operation) MAX_ALL_TRIES)))))))

@@ -58,6 +58,7 @@ verb_word verbs.Put = codes "put"
 verb_word verbs.Get = codes "get"
 verb_word verbs.Sweep = codes "sweep"
 verb_word verbs.IfEqual = codes "ifeq"
+verb_word verbs.WaitFor = codes "waitfor"
 
 -- the word that a line begins with
 abbrev pub keyword_word : Keyword → List ℕ
@@ -78,7 +79,7 @@ abbrev pub call_verbs : List Verb
 call_verbs =
     verbs.Load ∷ verbs.Store ∷ verbs.LoadOrStore ∷ verbs.LoadAndDelete ∷ verbs.Delete ∷ verbs.Swap ∷ verbs.CompareAndSwap ∷ verbs.CompareAndDelete ∷ verbs.Clear ∷ verbs.Range
     ∷ verbs.Add ∷ verbs.And ∷ verbs.Or ∷ verbs.Lock ∷ verbs.Unlock ∷ verbs.TryLock ∷ verbs.RLock ∷ verbs.RUnlock ∷ verbs.TryRLock
-    ∷ verbs.Wait ∷ verbs.Signal ∷ verbs.Broadcast ∷ verbs.Done ∷ verbs.Do ∷ verbs.Call ∷ verbs.Value ∷ verbs.Put ∷ verbs.Get ∷ verbs.Sweep ∷ verbs.IfEqual ∷ []
+    ∷ verbs.Wait ∷ verbs.Signal ∷ verbs.Broadcast ∷ verbs.Done ∷ verbs.Do ∷ verbs.Call ∷ verbs.Value ∷ verbs.Put ∷ verbs.Get ∷ verbs.Sweep ∷ verbs.IfEqual ∷ verbs.WaitFor ∷ []
 
 -- the keywords other than calls
 abbrev pub other_keywords : List Keyword

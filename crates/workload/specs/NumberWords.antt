@@ -7,7 +7,7 @@ use Rattle.sync_types.specs.declared.atomic_object.AtomicKind.{AtomicKind}
 use Rattle.sync_types.specs.declared.atomic_object.AtomicKind.TheVariants as types
 use Rattle.sync_types.specs.declared.atomic_object.Number.{Number}
 use Rattle.sync_types.specs.declared.atomic_object.Number.TheVariants as numbers
-use Rattle.workload.specs.declared.limits.TheConstants.{MAX_AMOUNT, MAX_PASSES}
+use Rattle.workload.specs.declared.limits.TheConstants.{MAX_AMOUNT, MAX_PASSES, MAX_TRIES}
 
 -- whether a word is a number: digits, of which the first is 0 only where it is the only one
 abbrev pub is_number : List ℕ → Bool
@@ -42,6 +42,14 @@ is_passes passes = nat_lt 0 passes && nat_le passes MAX_PASSES
 -- whether a word is such a number
 abbrev pub is_passes_word : List ℕ → Bool
 is_passes_word word = is_number word && is_passes (number_of word)
+
+-- whether a call may make so many waits: 1 to 1,000
+abbrev pub is_tries : ℕ → Bool
+is_tries tries = nat_lt 0 tries && nat_le tries MAX_TRIES
+
+-- whether a word is such a number
+abbrev pub is_tries_word : List ℕ → Bool
+is_tries_word word = is_number word && is_tries (number_of word)
 
 -- whether a word is a number of an atomic of this type
 abbrev pub is_number_word : AtomicKind → List ℕ → Bool

@@ -3,10 +3,11 @@ use Rattle.std.specs.Prelude.{ℕ, ℤ, pos, negsuc, Bool, true, false, ◌&&◌
 use Rattle.std.specs.Option.{option_map_or}
 use Rattle.std.specs.List.{list_all}
 use Rattle.script_calls.specs.declared.call.Call.{Call}
-use Rattle.script_calls.specs.declared.call.ComposedCall.TheVariants.{IfEqual}
+use Rattle.script_calls.specs.declared.call.ComposedCall.TheVariants.{IfEqual, WaitFor}
 use Rattle.script_calls.specs.declared.call.Operation.{Operation}
 use Rattle.script_calls.specs.declared.call.Operation.TheVariants as operations
 use Rattle.sync_types.specs.declared.atomic_object.AtomicKind.TheVariants as types
+use Rattle.sync_types.specs.declared.atomic_object.Number.{Number}
 use Rattle.sync_types.specs.SequentialAtomic.{is_of, is_atomic_call}
 use Rattle.workload.specs.declared.limits.TheConstants.{MAX_AMOUNT}
 use Rattle.workload.specs.declared.object.ObjectKind.{ObjectKind}
@@ -73,14 +74,29 @@ has_operation words.Pool (operations.Pool call) = true
 has_operation (words.Atomic kind) (operations.Composed (IfEqual value passes)) = is_of kind value
 has_operation word operation = false
 
--- whether an object of this kind has it
+-- whether an object of this kind has it, whatever other objects there are
 abbrev pub has_call : ObjectKind → Operation → Bool
 has_call kind operation = has_operation (word_of kind) operation
 
+-- the place of a second object that an operation names: the atomic that a `waitfor` loads
+abbrev pub second_of : Operation → Option ℕ
+second_of (operations.Composed (WaitFor atomic value tries)) = Some atomic
+second_of operation = None
+
+-- whether an object is an atomic that may hold the number
+abbrev pub may_hold : Number → ObjectKind → Bool
+may_hold value (kinds.Atomic kind) = is_of kind value
+may_hold value kind = false
+
+-- whether an object of this kind, among these objects, has the operation: a cond has a `waitfor` of an atomic that may hold its value
+abbrev pub has_among : List ObjectLine → ObjectKind → Operation → Bool
+has_among objects (kinds.Cond mutex) (operations.Composed (WaitFor atomic value tries)) = option_map_or (λ object. may_hold value object.kind) (slice_get objects atomic) false
+has_among objects kind operation = has_call kind operation
+
 -- whether a call is on an object that is there and has it
-abbrev pub is_on : Option ObjectLine → Call → Bool
-is_on None call = false
-is_on (Some object) call = has_call object.kind call.operation
+abbrev pub is_on : List ObjectLine → Option ObjectLine → Call → Bool
+is_on objects None call = false
+is_on objects (Some object) call = has_among objects object.kind call.operation
 
 -- whether a turn is that of a worker that is there
 abbrev pub is_turn : ℕ → Turn → Bool
@@ -91,6 +107,6 @@ is_turn workers (turns.Moment moment) = true
 abbrev pub is_valid : Plan → Bool
 is_valid plan =
     (length plan.scripts == plan.workers)
-    && (list_all (list_all (λ call. is_on (slice_get plan.objects call.object) call)) plan.scripts
+    && (list_all (list_all (λ call. is_on plan.objects (slice_get plan.objects call.object) call)) plan.scripts
     && (list_all (is_turn plan.workers) plan.schedule
     && list_all (λ object. refers plan.objects object.kind) plan.objects))

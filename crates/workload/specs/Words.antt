@@ -32,14 +32,14 @@ abbrev pub keyword_of : Line → Keyword
 keyword_of (lines.Object object reference) = keywords.Object (word_of object.kind)
 keyword_of (lines.Worker worker) = keywords.Worker
 keyword_of (lines.Schedule schedule) = keywords.Schedule
-keyword_of (lines.Call name call) = keywords.Call (verb_of call.operation)
+keyword_of (lines.Call name second call) = keywords.Call (verb_of call.operation)
 
 -- the words of a line behind the first one
 abbrev pub arguments_of : Line → List (List ℕ)
 arguments_of (lines.Object object reference) = object.name ∷ option_to_list reference ++ kind_parameters object.kind
 arguments_of (lines.Worker worker) = decimal worker ∷ []
 arguments_of (lines.Schedule schedule) = map turn_word schedule
-arguments_of (lines.Call name call) = name ∷ operands_of call.operation
+arguments_of (lines.Call name second call) = name ∷ option_to_list second ++ operands_of call.operation
 
 -- the one spelling of a line
 abbrev pub spelled : Line → List (List ℕ)

@@ -61,6 +61,8 @@ pub enum Verb {
     Sweep,
     /// `ifeq`
     IfEqual,
+    /// `waitfor`
+    WaitFor,
 }
 
 /// What a word of a call behind the object's name stands for.
@@ -76,6 +78,10 @@ pub enum Operand {
     Amount,
     /// How many calls are passed over, 1 to 1,000.
     Passes,
+    /// How many waits may be made, 1 to 1,000.
+    Tries,
+    /// An atomic that is declared before.
+    Atomic,
 }
 
 /// What a word of an object's line behind the object's name stands for.
@@ -148,6 +154,7 @@ impl Verb {
             Verb::Get => b"get",
             Verb::Sweep => b"sweep",
             Verb::IfEqual => b"ifeq",
+            Verb::WaitFor => b"waitfor",
         }
     }
 }
@@ -196,7 +203,7 @@ fn verbs_with(first: u8) -> &'static [Verb]
         b't' => &[Verb::TryLock, Verb::TryRLock],
         b'u' => &[Verb::Unlock],
         b'v' => &[Verb::Value],
-        b'w' => &[Verb::Wait],
+        b'w' => &[Verb::Wait, Verb::WaitFor],
         _ => &[],
     }
 }

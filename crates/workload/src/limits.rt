@@ -31,6 +31,12 @@ pub const MAX_CODE: u64 = 1_000;
 /// The most calls that an `ifeq` passes over.
 pub const MAX_PASSES: u64 = 1_000;
 
+/// The most waits of one `waitfor`.
+pub const MAX_TRIES: u64 = 1_000;
+
+/// The most waits that all `waitfor` calls together may make.
+pub const MAX_ALL_TRIES: usize = 20_000;
+
 /// The most `range` calls, of all workers together.
 pub const MAX_RANGES: usize = 64;
 

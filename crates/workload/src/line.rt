@@ -14,5 +14,5 @@ pub enum Line {
     /// More items of the schedule.
     Schedule(Seq<Turn>),
     /// The next call of the worker named last, with the name of its object.
-    Call(Name, Call),
+    Call(Name, Option<Name>, Call),
 }

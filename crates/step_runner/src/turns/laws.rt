@@ -29,6 +29,8 @@ ghost use Rattle.step_runner.specs.Stands.{IsOutAt, IsOutBut, waits_at, waits_be
 ghost use Rattle.step_runner.specs.TurnAtObjects.{turn_at};
 
 pub mod spelling;
+pub mod spelling_within;
+pub mod within;
 
 use script_calls::laws::replies_have_their_form;
 use sync_types::Name;
