@@ -52,7 +52,10 @@ pub enum Operation {
 #[derive(Clone, Copy, Drop)]
 pub enum ComposedCall {
     /// `ifeq`: loads an atomic. Where it doesn't hold the value, so many of the next calls of the script are passed over.
-    IfEqual { value: Number, passes: u32 },
+    IfEqual {
+        value: Number,
+        passes: u32,
+    },
     /// `waitfor`, of a cond: loads an atomic. While it doesn't hold the value and fewer than so many waits were made, waits on
     /// the cond and loads it again.
     WaitFor {

@@ -15,12 +15,14 @@ use std::marker::Model;
 use sync_types::{Name, Seq};
 use workload::Workload;
 
-/// The clock's moment, the objects, and for each worker the replies to its calls so far and the place of its next call.
+/// The clock's moment, the objects, and for each worker the replies to its calls so far, how many waits of its call it has begun, and the place of
+/// its next call.
 #[derive(Drop)]
 pub struct State {
     pub(crate) moment: u64,
     pub(crate) objects: Vec<ObjectState>,
     pub(crate) replies: Seq<Seq<Reply<Name>>>,
+    pub(crate) begun: Vec<u32>,
     places: Vec<usize>,
 }
 
@@ -33,7 +35,7 @@ impl Model for State {
 
     ghost coded = { Prim.hlevel (codes, object.the_row.coded) };
 
-    ghost view = { λ s. record { state = record { moment = s.moment; objects = s.objects.items; replies = s.replies }; places = s.places.items } };
+    ghost view = { λ s. record { state = record { moment = s.moment; objects = s.objects.items; replies = s.replies; begun = s.begun.items }; places = s.places.items } };
 }
 
 /// The objects of a workload as a run begins with them.
@@ -60,6 +62,17 @@ fn no_replies(alloc: Global, workers: u32) -> Result<Seq<Seq<Reply<Name>>>, Allo
     Ok(replies)
 }
 
+/// For each worker no wait that was begun.
+fn no_waits(alloc: Global, workers: u32) -> Result<Vec<u32>, AllocError>
+    ensures { IfOk result (λ begun. begun.items ≡ replicate workers 0) }
+{
+    let mut begun = Vec::new(alloc);
+    for _ in 0..workers {
+        begun.push(0)?;
+    }
+    Ok(begun)
+}
+
 /// For each worker the first place of its script.
 fn first_places(alloc: Global, workers: u32) -> Result<Vec<usize>, AllocError>
     ensures { IfOk result (λ places. places.items ≡ replicate workers 0) }
@@ -82,11 +95,13 @@ impl State {
         let workers = workload.workers();
         let objects = new_objects(alloc, workload)?;
         let replies = no_replies(alloc, workers)?;
+        let begun = no_waits(alloc, workers)?;
         let places = first_places(alloc, workers)?;
         Ok(State {
             moment: 0,
             objects,
             replies,
+            begun,
             places,
         })
     }

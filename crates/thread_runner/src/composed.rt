@@ -27,7 +27,7 @@ fn value_of(call: ComposedCall) -> Number
     ensures { (value : Number) (passes : ℕ) → call ≡ IfEqual value passes → result ≡ value }
 {
     match call {
-        ComposedCall::IfEqual { value, .. } => value,
+        ComposedCall::IfEqual { value, .. } | ComposedCall::WaitFor { value, .. } => value,
     }
 }
 

@@ -167,21 +167,22 @@ abbrev pub call_form : Draft → Verb → ObjectWord → List (List ℕ) → Opt
 call_form d verbs.WaitFor words.Cond operands = Some (wait_for_words d operands)
 call_form d verb word operands = form_of verb word
 
--- one operand
-abbrev pub operand_check : Draft → Operand → List ℕ → List Check
-operand_check d operands.Key word = (is_name word, BadName) ∷ []
-operand_check d operands.Value word = (is_number_to MAX_VALUE word, BadNumber) ∷ []
-operand_check d (operands.Number kind) word = (is_number_word kind word, BadNumber) ∷ []
-operand_check d operands.Amount word = (is_amount_word word, BadNumber) ∷ []
-operand_check d operands.Passes word = (is_passes_word word, BadNumber) ∷ []
-operand_check d operands.Tries word = (is_tries_word word, BadNumber) ∷ []
-operand_check d operands.Atomic word = reference_checks d is_atomic word
+-- the form of an operand
+abbrev pub operand_check : Operand → List ℕ → Check
+operand_check operands.Key word = (is_name word, BadName)
+operand_check operands.Value word = (is_number_to MAX_VALUE word, BadNumber)
+operand_check (operands.Number kind) word = (is_number_word kind word, BadNumber)
+operand_check operands.Amount word = (is_amount_word word, BadNumber)
+operand_check operands.Passes word = (is_passes_word word, BadNumber)
+operand_check operands.Tries word = (is_tries_word word, BadNumber)
+operand_check operands.Atomic word = (is_name word, BadName)
 
--- the operands from left to right
+-- the operands from left to right; the name of an atomic is that of one that is declared before
 abbrev pub operand_checks : Draft → List Operand → List (List ℕ) → List Check
 operand_checks d [] words = []
 operand_checks d (form ∷ forms) [] = []
-operand_checks d (form ∷ forms) (word ∷ words) = operand_check d form word ++ operand_checks d forms words
+operand_checks d (operands.Atomic ∷ forms) (word ∷ words) = reference_checks d is_atomic word ++ operand_checks d forms words
+operand_checks d (form ∷ forms) (word ∷ words) = operand_check form word ∷ operand_checks d forms words
 
 -- the keys among the operands
 abbrev pub key_operands : List Operand → List (List ℕ) → List (List ℕ)

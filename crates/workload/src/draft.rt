@@ -5,7 +5,7 @@ ghost use Rattle.std.specs.FinMap.{insert};
 ghost use Rattle.sync_types.specs.Name.{is_name};
 ghost use Rattle.workload.specs.declared.limits.TheConstants.{MAX_WORKERS};
 ghost use Rattle.workload.specs.Index.{with_keys};
-ghost use Rattle.workload.specs.Draft.{started, with_line, may_follow, declared, count_of, count_together, limit_of, call_count, key_count, keys_of, is_range, range_count};
+ghost use Rattle.workload.specs.Draft.{started, with_line, may_follow, declared, count_of, count_together, limit_of, call_count, key_count, keys_of, is_range, range_count, tries_of, try_count};
 
 use crate::keys::Keys;
 use crate::limits::{MAX_ATOMICS, MAX_MAPS, MAX_OTHERS};
@@ -14,7 +14,7 @@ use crate::object::{Declared, ObjectLine, ObjectWord};
 use crate::turn::Turn;
 use crate::workload::Workload;
 use name_table::NameTable;
-use script_calls::{Call, Operation};
+use script_calls::{Call, ComposedCall, Operation};
 use std::alloc::{AllocError, Global};
 use std::marker::Model;
 use sync_types::{Name, Seq};
@@ -32,6 +32,7 @@ pub struct Draft {
     keys: NameTable<()>,
     calls: usize,
     ranges: usize,
+    tries: usize,
 }
 
 impl Model for Draft {
@@ -42,7 +43,7 @@ impl Model for Draft {
 
     ghost view = { λ d. record { plan = record { workers = d.workers; objects = d.objects; scripts = d.scripts; schedule = d.schedule }; current = d.current } };
 
-    ghost invariant = { λ d. IsIndexed (record { workers = d.workers; objects = d.objects; scripts = d.scripts; schedule = d.schedule }) d.current d.names d.keys d.calls d.ranges };
+    ghost invariant = { λ d. IsIndexed (record { workers = d.workers; objects = d.objects; scripts = d.scripts; schedule = d.schedule }) d.current d.names d.keys d.calls d.ranges d.tries };
 }
 
 /// As many empty scripts as there are workers.
@@ -134,6 +135,16 @@ fn ranges_in(call: &Call) -> usize
     }
 }
 
+/// How many waits a call may make: those of a `waitfor`.
+fn tries_in(call: &Call) -> usize
+    ensures { result ≡ tries_of call.now.operation }
+{
+    match &call.operation {
+        Operation::Composed(ComposedCall::WaitFor { tries, .. }) => *tries as usize,
+        _ => 0,
+    }
+}
+
 impl Draft {
     /// The draft behind the first line.
     pub fn start(alloc: Global, workers: u32) -> Result<Self, AllocError>
@@ -151,6 +162,7 @@ impl Draft {
             keys: NameTable::new(alloc)?,
             calls: 0,
             ranges: 0,
+            tries: 0,
         })
     }
 
@@ -194,6 +206,13 @@ impl Draft {
         ensures { result ≡ range_count self.now.plan.scripts }
     {
         self.ranges
+    }
+
+    /// How many waits all calls may make, all workers together.
+    pub fn tries(&self) -> usize
+        ensures { result ≡ try_count self.now.plan.scripts }
+    {
+        self.tries
     }
 
     /// How many items the schedule has.
@@ -243,6 +262,7 @@ impl Draft {
             keys,
             calls,
             ranges,
+            tries,
         } = self;
         let declared = Declared {
             place: objects.len(),
@@ -260,6 +280,7 @@ impl Draft {
             keys,
             calls,
             ranges,
+            tries,
         })
     }
 
@@ -277,6 +298,7 @@ impl Draft {
             keys,
             calls,
             ranges,
+            tries,
         } = self;
         Draft {
             workers,
@@ -288,6 +310,7 @@ impl Draft {
             keys,
             calls,
             ranges,
+            tries,
         }
     }
 
@@ -305,6 +328,7 @@ impl Draft {
             keys,
             calls,
             ranges,
+            tries,
         } = self;
         schedule.extend_from_slice(turns)?;
         Ok(Draft {
@@ -317,12 +341,19 @@ impl Draft {
             keys,
             calls,
             ranges,
+            tries,
         })
     }
 
-    fn with_call(self, alloc: Global, name: Name, call: Call) -> Result<Self, AllocError>
-        requires { may_follow self (Line.Call name call) ≡ true }
-        ensures { IfOk result (λ draft. draft ≡ with_line self (Line.Call name call)) }
+    fn with_call(
+        self,
+        alloc: Global,
+        name: Name,
+        second: Option<Name>,
+        call: Call,
+    ) -> Result<Self, AllocError>
+        requires { may_follow self (Line.Call name second call) ≡ true }
+        ensures { IfOk result (λ draft. draft ≡ with_line self (Line.Call name second call)) }
     {
         let Draft {
             workers,
@@ -334,12 +365,14 @@ impl Draft {
             mut keys,
             calls,
             ranges,
+            tries,
         } = self;
         let Some(worker) = current else {
             unreachable!()
         };
         insert_keys(alloc, &mut keys, &call)?;
         let more_ranges = ranges_in(&call);
+        let more_tries = tries_in(&call);
         scripts.push_at(worker as usize, call)?;
         Ok(Draft {
             workers,
@@ -351,6 +384,7 @@ impl Draft {
             keys,
             calls: calls + 1,
             ranges: ranges + more_ranges,
+            tries: tries + more_tries,
         })
     }
 
@@ -363,7 +397,7 @@ impl Draft {
             Line::Object(object, reference) => self.with_object(alloc, object, reference),
             Line::Worker(worker) => Ok(self.with_worker(worker)),
             Line::Schedule(turns) => self.with_turns(turns.as_slice()),
-            Line::Call(name, call) => self.with_call(alloc, name, call),
+            Line::Call(name, second, call) => self.with_call(alloc, name, second, call),
         }
     }
 

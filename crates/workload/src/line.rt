@@ -13,6 +13,6 @@ pub enum Line {
     Worker(u32),
     /// More items of the schedule.
     Schedule(Seq<Turn>),
-    /// The next call of the worker named last, with the name of its object.
+    /// The next call of the worker named last, with the name of its object and that of a second one, if it names one.
     Call(Name, Option<Name>, Call),
 }

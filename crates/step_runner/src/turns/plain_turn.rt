@@ -13,7 +13,7 @@ use crate::turns::object_state::ObjectState;
 use crate::turns::stages::Taker;
 use script_calls::{ComposedCall, Reply};
 use std::alloc::{AllocError, Global};
-use sync_types::{AtomicCall, MapCall, Name, Number, atomic_object, map_object};
+use sync_types::{AtomicCall, AtomicReply, MapCall, Name, Number, atomic_object, map_object};
 
 /// Makes a call on a map, which is completed in this turn.
 pub(crate) fn take_map_turn(
@@ -67,19 +67,15 @@ pub(crate) fn take_atomic_turn(object: &mut ObjectState, call: AtomicCall, taker
     }
 }
 
-/// Makes a call on an atomic that is made of others, which is completed in this turn. An `ifeq` tells whether the atomic holds a
-/// number: so does a compare-and-swap on a copy of what it holds.
+/// Makes a call on an atomic that is made of others, which is completed in this turn: an `ifeq` tells whether the atomic holds a
+/// number.
 pub(crate) fn take_composed_turn(object: &ObjectState, call: ComposedCall, taker: Taker) -> Answer
     requires { has_call (kind_of object.now) (operations.Composed call) ≡ true }
     ensures { turn_on (operations.Composed call) taker.worker taker.moment object.now ≡ (object.now, result) }
 {
-    let ComposedCall::IfEqual { value, .. } = call;
-    match object {
-        ObjectState::Atomic(number) => {
-            let mut held = *number;
-            let (old, new) = (value, value);
-            let reply = atomic_object::apply(&mut held, AtomicCall::CompareAndSwap { old, new });
-            Answer::Completed(Reply::Atomic(reply))
+    match (object, call) {
+        (ObjectState::Atomic(number), ComposedCall::IfEqual { value, .. }) => {
+            Answer::Completed(Reply::Atomic(AtomicReply::Compared(*number == value)))
         }
         _ => Answer::Still,
     }

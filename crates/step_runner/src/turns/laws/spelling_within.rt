@@ -19,7 +19,9 @@ ghost use Rattle.step_runner.specs.Tells.{Tells};
 ghost use Rattle.step_runner.specs.TurnWithin.{turn_within, items_within};
 ghost use Rattle.step_runner.specs.Within.{IsIdle};
 
-use crate::turns::laws::spelling::{calls_are_entered_whole, items_are_their_workers, turns_spell_their_calls};
+use crate::turns::laws::spelling::{
+    calls_are_entered_whole, items_are_their_workers, turns_spell_their_calls,
+};
 use crate::turns::laws::{turns_keep_kinds_and_machines, workers_stand_in_their_calls};
 
 /// The items of a worker's turn spell what was left of its call, up to what is left behind the turn. So a turn that completes the

@@ -21,8 +21,8 @@ ghost use Rattle.step_runner.specs.TurnsLeft.{TakesBy, is_told, TellsOwn};
 
 use crate::turns::laws::{
     few_turns_are_left_of_a_call, items_lead_from_turn_to_turn, maps_keep_to_the_keys_of_calls,
-    numbers_stay_in_range, pools_have_room, some_calls_take_one_turn, turns_keep_kinds_and_machines,
-    turns_use_something_up, workers_stand_in_their_calls,
+    numbers_stay_in_range, pools_have_room, some_calls_take_one_turn,
+    turns_keep_kinds_and_machines, turns_use_something_up, workers_stand_in_their_calls,
 };
 
 /// A turn keeps the kind of each object, and leaves each machine ready.
