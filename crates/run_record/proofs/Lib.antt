@@ -26,6 +26,7 @@ mod PartLemmas
 mod PoolReturns
 mod RangeReplies
 mod Returning
+mod RoundLemmas
 mod RunLines
 mod RwReturns
 mod TwoCalls
