@@ -2,10 +2,10 @@
 use Rattle.std.specs.Prelude.{◌≡◌, ◌<◌, ◌≤◌, Bool, true, ◌&&◌, not, nat_lt, List, [], ◌∷◌, ◌++◌, length, is_some}
 use Rattle.std.specs.List.{list_all}
 use Rattle.sync_types.specs.Name.{is_name}
-use Rattle.workload.specs.declared.limits.TheConstants.{MAX_CALLS, MAX_KEYS, MAX_RANGES, MAX_TURNS, MAX_WORKERS}
+use Rattle.workload.specs.declared.limits.TheConstants.{MAX_ALL_TRIES, MAX_CALLS, MAX_KEYS, MAX_RANGES, MAX_TURNS, MAX_WORKERS}
 use Rattle.workload.specs.declared.object.ObjectLine.{ObjectLine}
 use Rattle.workload.specs.Plan.{Plan, word_of, refers, is_valid}
-use Rattle.workload.specs.Draft.{declared_from, count_of, limit_of, is_kind, is_call, is_item, call_count, all_keys, distinct_count, range_count}
+use Rattle.workload.specs.Draft.{declared_from, count_of, limit_of, is_kind, is_call, is_item, call_count, all_keys, distinct_count, range_count, try_count}
 
 -- an object that may be declared behind others: its name is new, it refers to one of them if to any, its numbers are in range, and it keeps its limit
 abbrev pub may_join : List ObjectLine → ObjectLine → Bool
@@ -28,5 +28,6 @@ pub record IsReadable (plan : Plan) : Type 0 where
   pub call_room : call_count plan.scripts ≤ MAX_CALLS
   pub key_room : distinct_count (all_keys plan.scripts) ≤ MAX_KEYS
   pub range_room : range_count plan.scripts ≤ MAX_RANGES
+  pub try_room : try_count plan.scripts ≤ MAX_ALL_TRIES
   pub items : list_all (is_item plan.workers) plan.schedule ≡ true
   pub turn_room : length plan.schedule ≤ MAX_TURNS
