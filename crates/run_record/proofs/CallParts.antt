@@ -1,11 +1,11 @@
 -- What holds of the parts of calls, however they are put together, holds of the calls of a workload.
-use Rattle.std.proofs.Common.{◌≡◌, ℕ, ◌+◌, ℤ, List, [], ◌∷◌, Option, Some, None, slice_get, refl}
+use Rattle.std.proofs.Common.{◌≡◌, ℕ, zero, suc, ◌+◌, ℤ, Bool, true, false, List, [], ◌∷◌, Option, Some, None, slice_get, refl}
 use Rattle.std.specs.List.{range_with_len}
 use Rattle.sync_types.specs.declared.atomic_object.AtomicCall.{AtomicCall}
 use Rattle.sync_types.specs.declared.atomic_object.AtomicCall.TheVariants.{Load}
-use Rattle.sync_types.specs.declared.atomic_object.AtomicReply.TheVariants.{Compared}
+use Rattle.sync_types.specs.declared.atomic_object.Number.{Number}
 use Rattle.script_calls.specs.declared.call.Call.{Call}
-use Rattle.script_calls.specs.declared.call.ComposedCall.TheVariants.{IfEqual}
+use Rattle.script_calls.specs.declared.call.ComposedCall.TheVariants.{IfEqual, WaitFor}
 use Rattle.script_calls.specs.declared.call.Operation.{Operation}
 use Rattle.script_calls.specs.declared.call.Operation.TheVariants as operations
 use Rattle.script_calls.specs.declared.call.Reply.{Reply}
@@ -96,6 +96,18 @@ module _ (Q : (O : Type 0) → Part O → Type 0) (holds : HoldsOfParts Q) where
   of_cond_call object mutex cond_calls.Signal = holds.read _ _ (λ done. replies.Returned) _ (holds.cond object cond_stage.Signal)
   of_cond_call object mutex cond_calls.Broadcast = holds.read _ _ (λ done. replies.Returned) _ (holds.cond object cond_stage.Broadcast)
 
+  of_test : (a : ℕ) (value : Number) → Q Bool (test.tests a value)
+  of_test a value = holds.read _ _ (test.holds value) _ (holds.atomic a Load)
+
+  of_unless_met : (next : Part Bool) → Q Bool next → (met : Bool) → Q Bool (test.unless_met next met)
+  of_unless_met next later true = holds.returned Bool true
+  of_unless_met next later false = later
+
+  of_waits_for : (object mutex a : ℕ) (value : Number) (tries : ℕ) → Q Bool (test.waits_for object mutex a value tries)
+  of_waits_for object mutex a value zero = of_test a value
+  of_waits_for object mutex a value (suc tries) =
+      holds.behind _ _ _ _ (of_test a value) (of_unless_met _ (holds.behind _ _ _ _ (of_wait object mutex) (λ waited. of_waits_for object mutex a value tries)))
+
   module _ {T : Type 0} (part : OnceStage T → Part (OnceOutcome T)) (function : Part T) (ran returned : T → Reply ℕ) (of_part : (stage : OnceStage T) → Q (OnceOutcome T) (part stage)) (of_function : Q T function) where
     of_goes_on : (outcome : OnceOutcome T) → Q (Reply ℕ) (goes_on_once part function ran returned outcome)
     of_goes_on Run = holds.behind _ _ function _ of_function (λ value. holds.read _ _ (λ ended. ran value) _ (of_part (once_stage.End value)))
@@ -144,10 +156,11 @@ module _ (Q : (O : Type 0) → Part O → Type 0) (holds : HoldsOfParts Q) where
     of_call_on place kinds.Map (operations.Map call) on_map = on_map _ call refl
     of_call_on place kinds.Map operations.Range on_map = holds.range _ _ before
     of_call_on place (kinds.Atomic type) (operations.Atomic call) on_map = holds.atomic _ call
-    of_call_on place (kinds.Atomic type) (operations.Composed (IfEqual value passes)) on_map = holds.read _ _ (λ met. replies.Atomic (Compared met)) _ (holds.read _ _ (test.holds value) _ (holds.atomic _ Load))
+    of_call_on place (kinds.Atomic type) (operations.Composed (IfEqual value passes)) on_map = holds.read _ _ test.compared _ (of_test _ value)
     of_call_on place kinds.Mutex (operations.Mutex call) on_map = holds.read _ _ replies.Lock _ (holds.mutex _ _)
     of_call_on place kinds.RwMutex (operations.RwMutex call) on_map = holds.read _ _ replies.Lock _ (of_rw_part _ call)
     of_call_on place (kinds.Cond mutex) (operations.Cond call) on_map = of_cond_call _ _ call
+    of_call_on place (kinds.Cond mutex) (operations.Composed (WaitFor atomic value tries)) on_map = holds.read _ _ test.compared _ (of_waits_for _ _ _ value tries)
     of_call_on place (kinds.WaitGroup start) (operations.WaitGroup call) on_map = holds.read _ _ (λ done. replies.Returned) _ (holds.wait_group _ _)
     of_call_on place (kinds.Once atomic delta) operations.Once on_map = of_do _ _ delta
     of_call_on place (kinds.OnceFunc code) operations.OnceFunc on_map = of_func _ code

@@ -6,12 +6,11 @@ use Rattle.std.proofs.lemmas.Bool.{le-leb}
 use Rattle.std.proofs.lemmas.List.Sorted.{length_permutation}
 use Rattle.sync_model.specs.declared.answer.Answer.TheVariants.{Done, Halted}
 use Rattle.script_calls.specs.declared.call.Call.{Call}
-use Rattle.script_calls.specs.declared.call.ComposedCall.TheVariants.{IfEqual}
+use Rattle.script_calls.specs.declared.call.ComposedCall.TheVariants.{IfEqual, WaitFor}
 use Rattle.script_calls.specs.declared.call.Operation.{Operation}
 use Rattle.script_calls.specs.declared.call.Operation.TheVariants as operations
 use Rattle.script_calls.specs.declared.call.Reply.{Reply}
 use Rattle.script_calls.specs.declared.call.Reply.TheVariants as replies
-use Rattle.sync_types.specs.declared.atomic_object.AtomicReply.TheVariants.{Compared}
 use Rattle.sync_types.specs.declared.once_call.DoReply.TheVariants as do_replies
 use Rattle.sync_types.specs.declared.pool_call.PoolCall.{PoolCall}
 use Rattle.sync_types.specs.declared.pool_call.PoolCall.TheVariants as pool_calls
@@ -42,6 +41,7 @@ use Rattle.run_record.specs.MapKind.{cursor_showing}
 use Rattle.run_record.specs.OnceKind.{goes_on_once, once_part, failure}
 use Rattle.run_record.specs.Parts.{Part, GoesOn, returns, never, and_then, read_as, with_outcome, Places, stages}
 use Rattle.run_record.specs.PoolKind.{pool_call, found_by, found_or, looks_of, swept_by}
+use Rattle.run_record.specs.Tests.{compared}
 
 module _ (most : ℕ) where
   abbrev pub Few : CallAnswer (Reply ℕ) → Type 0
@@ -117,10 +117,11 @@ module _ (most : ℕ) where
         let low = ranged _ shown places in
         subst Few (sym is) (le-leb (length pairs) most (omega (arith, same, low)))
     few_on place (kinds.Atomic type) (operations.Atomic call) (given, places, is) = subst Few (sym is) refl
-    few_on place (kinds.Atomic type) (operations.Composed (IfEqual value passes)) (given, made, is) = subst Few (sym is) (few_given (λ met. replies.Atomic (Compared met)) (λ met. refl) given)
+    few_on place (kinds.Atomic type) (operations.Composed (IfEqual value passes)) (given, made, is) = subst Few (sym is) (few_given compared (λ met. refl) given)
     few_on place kinds.Mutex (operations.Mutex call) (given, made, is) = subst Few (sym is) (few_given replies.Lock (λ reply. refl) given)
     few_on place kinds.RwMutex (operations.RwMutex call) (given, made, is) = subst Few (sym is) (few_given replies.Lock (λ reply. refl) given)
     few_on place (kinds.Cond mutex) (operations.Cond call) spelt = few_cond _ _ call items answer spelt
+    few_on place (kinds.Cond mutex) (operations.Composed (WaitFor atomic value tries)) (given, made, is) = subst Few (sym is) (few_given compared (λ met. refl) given)
     few_on place (kinds.WaitGroup start) (operations.WaitGroup call) (given, made, is) = subst Few (sym is) (few_given (λ done. replies.Returned) (λ done. refl) given)
     few_on place (kinds.Once atomic delta) operations.Once spelt =
         few_once (stages event.Once reply.Once once_event once_meaning _) (adds _ delta) (λ sum. replies.Once (do_replies.Ran sum)) (λ kept. replies.Once do_replies.Done) (λ sum. refl) (λ kept. refl) items answer spelt
