@@ -1,5 +1,6 @@
 -- The scripts of the workers.
 use Rattle.std.proofs.Common.{◌≡◌, ℕ, ◌*◌, ◌/◌, ◌%◌, ◌^◌, ◌<◌, ◌≤◌, nat_lt, ◌==◌, Bool, true, false, ◌&&◌, cond, List, [], ◌∷◌, ◌++◌, map, length, Option, Some, slice_get, refl, ap, ◌∙◌, arith}
+use Rattle.std.specs.Prelude.{sum_by}
 use Rattle.std.specs.List.{list_all, flat_map, count_by}
 use Rattle.std.specs.Option.{option_to_list}
 use Rattle.std.proofs.lemmas.Bool.{lt-ltb, le-leb, ltb-true}
@@ -9,7 +10,7 @@ use Rattle.sync_types.specs.declared.map_object.MapCall.TheVariants.{Load, Store
 use Rattle.sync_types.specs.declared.value.TheConstants.{MAX_VALUE}
 use Rattle.sync_types.specs.Name.{is_name}
 use Rattle.sync_types.specs.SequentialMap.{map_key}
-use Rattle.workload.specs.Draft.{keys_of, is_call, is_map_call, is_value, is_range}
+use Rattle.workload.specs.Draft.{keys_of, is_call, is_map_call, is_value, is_range, tries_of}
 use Rattle.workload.specs.Plan.{is_on}
 use Rattle.made_workload.specs.Generated.{key_of, call_by, round, generated_objects}
 use Rattle.made_workload.proofs.Ranges.{both, pair}
@@ -32,7 +33,7 @@ fits false false key value named small = pair (is_name key && true) true (pair (
 
 -- each call of a round is on an object that has it
 abbrev pub is_in_place : Call → Bool
-is_in_place call = is_on (slice_get generated_objects call.object) call
+is_in_place call = is_on generated_objects (slice_get generated_objects call.object) call
 
 round_in_place : (worker : ℕ) (words : ℕ × ℕ) → list_all is_in_place (round worker words) ≡ true
 round_in_place worker words =
@@ -79,3 +80,8 @@ script_keys worker (words ∷ rounds) =
 pub script_ranges : (worker : ℕ) (rounds : List (ℕ × ℕ)) → count_by is_range (flat_map (round worker) rounds) ≡ 0
 script_ranges worker [] = refl
 script_ranges worker (words ∷ rounds) = script_ranges worker rounds
+
+-- and no `waitfor`
+pub script_tries : (worker : ℕ) (rounds : List (ℕ × ℕ)) → sum_by (λ (call : Call). tries_of call.operation) (flat_map (round worker) rounds) ≡ 0
+script_tries worker [] = refl
+script_tries worker (words ∷ rounds) = script_tries worker rounds

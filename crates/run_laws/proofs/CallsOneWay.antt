@@ -1,5 +1,5 @@
 -- That the beginning of a list which spells a call is found in one way, kind by kind. A range's reply isn't determined by its items, where keys have one name, so it isn't among them.
-use Rattle.std.proofs.Common.{ℕ, ℤ, ◌+◌, pos, List, [], ◌∷◌, sym, ap, ◌∙◌}
+use Rattle.std.proofs.Common.{ℕ, zero, suc, ◌+◌, ℤ, pos, Bool, true, false, List, [], ◌∷◌, sym, ap, ◌∙◌}
 use Rattle.std.specs.Prelude.{Ok}
 use Rattle.std.specs.List.{range_with_len}
 use Rattle.pool_core.specs.declared.pool_event.PoolEvent.{PoolEvent}
@@ -52,14 +52,14 @@ use Rattle.workload.specs.Keys.{key_number}
 use Rattle.run_record.specs.declared.entered.ObjectEvent.TheVariants as event
 use Rattle.run_record.specs.declared.entered.ObjectReply.TheVariants as reply
 use Rattle.run_record.specs.AtomicKind.{atomic_call, adds}
-use Rattle.run_record.specs.CondKind.{cond_part, cond_call}
+use Rattle.run_record.specs.CondKind.{cond_part, wait_part, cond_call}
 use Rattle.run_record.specs.MapKind.{map_call}
 use Rattle.run_record.specs.MutexKind.{mutex_part, mutex_stage, mutex_call}
 use Rattle.run_record.specs.OnceKind.{goes_on_once, once_part, do_call, failure, func_call, value_call}
 use Rattle.run_record.specs.Parts.{Part, and_then, read_as, returns, stages}
 use Rattle.run_record.specs.PoolKind.{pool_part, stage_of, found_or, part_of, found_by, looks_of, swept_by, pool_call}
 use Rattle.run_record.specs.RwMutexKind.{rw_part, rw_mutex_call}
-use Rattle.run_record.specs.Tests.{holds, tests, if_equal_call}
+use Rattle.run_record.specs.Tests.{holds, tests, compared, if_equal_call, unless_met, waits_for, wait_for_call}
 use Rattle.run_record.specs.WaitGroupKind.{wait_group_stage, wait_group_call}
 use Rattle.run_laws.specs.OneSpelling.{IsCertain}
 use Rattle.run_laws.proofs.Backs.{mutex_back, is_mutex_back, rw_mutex_back, is_rw_mutex_back, cond_back, is_cond_back, wait_group_back, is_wait_group_back, once_back, is_once_back, once_func_back, is_once_func_back, once_value_back, is_once_value_back, pool_back, is_pool_back}
@@ -84,8 +84,11 @@ atomic_certain a call items other rest more answer given (r, placed, is) (s, als
     let one = place_certain (shared.Atomic a call) (answers.Atomic r) (answers.Atomic s) items other rest more placed also same in
     (one.0, one.1, is ∙ (ap (λ (t : SharedReply). Done (Ok (replies.Atomic (atomic_in t)))) one.2 ∙ sym are))
 
+tests_certain : (a : ℕ) (value : Number) → IsCertain (tests a value)
+tests_certain a value = read_as_certain (holds value) (atomic_call a Load) (atomic_certain a Load)
+
 pub if_equal_certain : (a : ℕ) (value : Number) → IsCertain (if_equal_call a value)
-if_equal_certain a value = read_as_certain (λ met. replies.Atomic (atomic_replies.Compared met)) (tests a value) (read_as_certain (holds value) (atomic_call a Load) (atomic_certain a Load))
+if_equal_certain a value = read_as_certain compared (tests a value) (tests_certain a value)
 
 pub map_certain : (keys : List (List ℕ)) (m : ℕ) (call : MapCall (List ℕ)) → IsCertain (map_call keys m call)
 map_certain keys m call items other rest more answer given (r, placed, is) (s, also, are) same =
@@ -141,10 +144,29 @@ leaves_certain object mutex = and_then_certain (cond_part object cond_stage.Leav
 unlocks_certain : (object mutex : ℕ) → IsCertain {O = Reply ℕ} (unlocks_and_waits object mutex)
 unlocks_certain object mutex = and_then_certain (mutex_part mutex on_mutex.Unlock) (λ unlocked. leaves_and_locks object mutex) (mutex_part_certain mutex on_mutex.Unlock) (λ unlocked. leaves_certain object mutex)
 
+wait_certain : (object mutex : ℕ) → IsCertain {O = Reply ℕ} (wait_part object mutex)
+wait_certain object mutex = and_then_certain (cond_part object cond_stage.Ticket) (λ ticket. unlocks_and_waits object mutex) (cond_part_certain object cond_stage.Ticket) (λ ticket. unlocks_certain object mutex)
+
 pub cond_certain : (object mutex : ℕ) (call : CondCall) → IsCertain {O = Reply ℕ} (cond_call object mutex call)
-cond_certain object mutex cond_calls.Wait = and_then_certain (cond_part object cond_stage.Ticket) (λ ticket. unlocks_and_waits object mutex) (cond_part_certain object cond_stage.Ticket) (λ ticket. unlocks_certain object mutex)
+cond_certain object mutex cond_calls.Wait = wait_certain object mutex
 cond_certain object mutex cond_calls.Signal = read_as_certain (λ done. replies.Returned) (cond_part object cond_stage.Signal) (cond_part_certain object cond_stage.Signal)
 cond_certain object mutex cond_calls.Broadcast = read_as_certain (λ done. replies.Returned) (cond_part object cond_stage.Broadcast) (cond_part_certain object cond_stage.Broadcast)
+
+unless_met_certain : (next : Part Bool) → IsCertain next → (met : Bool) → IsCertain (unless_met next met)
+unless_met_certain next certain true = returns_certain true
+unless_met_certain next certain false = certain
+
+module _ (cond mutex a : ℕ) (value : Number) where
+  waits_certain : (tries : ℕ) → IsCertain (waits_for cond mutex a value tries)
+  waits_certain zero = tests_certain a value
+  waits_certain (suc tries) =
+      let again : IsCertain (and_then (wait_part cond mutex) (λ waited. waits_for cond mutex a value tries)) =
+      and_then_certain (wait_part cond mutex) (λ waited. waits_for cond mutex a value tries) (wait_certain cond mutex) (λ waited. waits_certain tries) in
+      and_then_certain (tests a value) (unless_met (and_then (wait_part cond mutex) (λ waited. waits_for cond mutex a value tries))) (tests_certain a value)
+      (unless_met_certain (and_then (wait_part cond mutex) (λ waited. waits_for cond mutex a value tries)) again)
+
+  pub wait_for_certain : (tries : ℕ) → IsCertain (wait_for_call cond mutex a value tries)
+  wait_for_certain tries = read_as_certain compared (waits_for cond mutex a value tries) (waits_certain tries)
 
 module _ {T : Type 0} (part : OnceStage T → Part (OnceOutcome T)) (function : Part T) (ran returned : T → Reply ℕ) (parts : (stage : OnceStage T) → IsCertain (part stage)) (runs : IsCertain function) where
   goes_on_certain : (outcome : OnceOutcome T) → IsCertain (goes_on_once part function ran returned outcome)
