@@ -1,5 +1,5 @@
 -- How many tickets a `wait` takes, and a `waitfor`; and how a `wait` is a misuse.
-use Rattle.std.proofs.Common.{◌≡◌, ◌⊎◌, inl, inr, ⊎_elim, ℕ, zero, suc, ◌+◌, ◌==◌, Bool, true, false, ◌&&◌, cond, List, [], ◌∷◌, ◌++◌, map, length, Result, Ok, Err, refl, sym, ap, ◌∙◌, subst, append_assoc, arith}
+use Rattle.std.proofs.Common.{◌≡◌, ◌⊎◌, inl, inr, ⊎_elim, ℕ, suc, ◌+◌, ◌==◌, Bool, true, false, ◌&&◌, cond, List, [], ◌∷◌, ◌++◌, map, length, Result, Ok, Err, refl, sym, ap, ◌∙◌, subst, append_assoc, arith}
 use Rattle.std.specs.List.{AllByRecursion, flat_map}
 use Rattle.std.proofs.lemmas.Bool.{eq-eqb}
 use Rattle.std.proofs.lemmas.List.{append-nil, length-append}
@@ -38,7 +38,6 @@ use Rattle.run_record.specs.CondKind.{cond_part, wait_part}
 use Rattle.run_record.specs.MutexKind.{mutex_part}
 use Rattle.run_record.specs.Parts.{Part, GoesOn, and_then, read_as, with_outcome, lifted, lifted_deed}
 use Rattle.run_record.specs.Record.{ObjectEntry, shared_in}
-use Rattle.run_record.specs.Returns.{IsOnce}
 use Rattle.run_record.specs.Rounds.{Round, round_items, IsRound, HasWaited, HasStopped, EndsUnlocking, is_ticket, is_ticket_of, tickets_of}
 use Rattle.run_record.proofs.PairLemmas.{shared_both}
 use Rattle.run_record.proofs.Returning.{goes_on, one_event}
