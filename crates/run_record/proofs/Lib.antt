@@ -26,6 +26,7 @@ mod PartLemmas
 mod PoolReturns
 mod RangeReplies
 mod Returning
+mod RoundCounts
 mod RoundLemmas
 mod RunLines
 mod RwReturns

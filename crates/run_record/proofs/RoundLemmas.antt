@@ -1,10 +1,8 @@
 -- The items of a `waitfor` as rounds of a load and a wait.
-use Rattle.std.proofs.Common.{◌≡◌, ℕ, zero, suc, ◌+◌, ◌<◌, ◌≤◌, ◌==◌, Bool, true, false, ◌&&◌, cond, List, [], ◌∷◌, ◌++◌, map, length, Result, Ok, Err, refl, sym, ap, ◌∙◌, subst, append_assoc, arith}
+use Rattle.std.proofs.Common.{◌≡◌, ℕ, zero, suc, ◌+◌, ◌≤◌, Bool, true, false, List, [], ◌∷◌, ◌++◌, length, Ok, Err, refl, sym, ap, ◌∙◌, subst, append_assoc, arith}
 use Rattle.std.specs.List.{AllByRecursion, flat_map}
-use Rattle.std.specs.Prelude.{count_by}
-use Rattle.std.proofs.lemmas.Bool.{false≢true, eq-eqb}
+use Rattle.std.proofs.lemmas.Bool.{false≢true}
 use Rattle.std.proofs.lemmas.List.{append-nil}
-use Rattle.std.proofs.lemmas.List.Sums.{sum_by-append, sum_by-cons}
 use Rattle.script_calls.specs.declared.call.Reply.{Reply}
 use Rattle.script_calls.specs.declared.call.Reply.TheVariants as replies
 use Rattle.sync_types.specs.declared.atomic_object.AtomicCall.TheVariants.{Load}
@@ -12,8 +10,6 @@ use Rattle.sync_types.specs.declared.atomic_object.AtomicReply.{AtomicReply}
 use Rattle.sync_types.specs.declared.atomic_object.AtomicReply.TheVariants as atomic_replies
 use Rattle.sync_types.specs.declared.atomic_object.Number.{Number}
 use Rattle.sync_types.specs.declared.lock_call.LockReply.{LockReply}
-use Rattle.sync_types.specs.declared.misuse.Misuse.{Misuse}
-use Rattle.sync_types.specs.declared.wait_call.CondCall.TheVariants.{Wait}
 use Rattle.sync_model.specs.declared.answer.Answer.TheVariants.{Done, Halted}
 use Rattle.sync_model.specs.declared.item.Item.{Item}
 use Rattle.sync_model.specs.declared.item.SharedCall.{SharedCall}
@@ -24,12 +20,12 @@ use Rattle.protocols.specs.Spelling.{CallAnswer}
 use Rattle.protocols.specs.declared.cond.CondStage.TheVariants as cond_stage
 use Rattle.protocols.specs.declared.mutex.MutexStage.TheVariants as mutex_stage
 use Rattle.run_record.specs.declared.made.Made.{Made}
-use Rattle.run_record.specs.declared.made.Made.TheVariants.{Shared, Entered}
+use Rattle.run_record.specs.declared.made.Made.TheVariants.{Shared}
 use Rattle.run_record.specs.CondKind.{cond_part, wait_part}
 use Rattle.run_record.specs.MutexKind.{mutex_part}
-use Rattle.run_record.specs.Parts.{Part, GoesOn, and_then, read_as, with_outcome, Places}
+use Rattle.run_record.specs.Parts.{Part, GoesOn, and_then, read_as, with_outcome}
 use Rattle.run_record.specs.Rounds.{IsLoadOf, shows_number, finds, Round, round_items, IsRound, HasWaited, HasStopped}
-use Rattle.run_record.specs.Tests.{holds, tests, compared, unless_met, waits_for}
+use Rattle.run_record.specs.Tests.{holds, tests, unless_met, waits_for}
 use Rattle.run_record.proofs.Returning.{read_off, goes_on}
 use Rattle.run_record.proofs.TwoCalls.{one_place}
 

@@ -1,6 +1,9 @@
 -- What a `waitfor` has made, by its items: rounds of a load and a wait, and a load behind them.
-use Rattle.std.specs.Prelude.{◌≡◌, ℕ, ◌<◌, ◌≤◌, ◌==◌, Bool, true, false, ◌&&◌, List, [], ◌∷◌, ◌++◌, length, count_by, Ok, Err}
+use Rattle.std.specs.Prelude.{◌≡◌, ℕ, ◌<◌, ◌≤◌, ◌==◌, Bool, true, false, ◌&&◌, List, [], ◌∷◌, ◌++◌, length, count_by, Some, Ok, slice_get}
 use Rattle.std.specs.List.{AllByRecursion, flat_map}
+use Rattle.script_calls.specs.declared.call.Call.{Call}
+use Rattle.script_calls.specs.declared.call.ComposedCall.TheVariants.{WaitFor}
+use Rattle.script_calls.specs.declared.call.Operation.TheVariants as operations
 use Rattle.script_calls.specs.declared.call.Reply.{Reply}
 use Rattle.script_calls.specs.declared.call.Reply.TheVariants as replies
 use Rattle.sync_types.specs.SequentialAtomic.{is_same}
@@ -22,6 +25,9 @@ use Rattle.mutex_core.specs.declared.reply.MutexReply.TheVariants as mutex_answe
 use Rattle.mutex_core.specs.declared.reply.Unlocking.TheVariants as unlocking
 use Rattle.protocols.specs.Spelling.{CallAnswer}
 use Rattle.wait_cores.specs.declared.notify.NotifyEvent.TheVariants.{Ticket}
+use Rattle.workload.specs.declared.object.ObjectKind.TheVariants as kinds
+use Rattle.workload.specs.declared.object.ObjectLine.{ObjectLine}
+use Rattle.workload.specs.Plan.{Plan}
 use Rattle.run_record.specs.declared.entered.ObjectEvent.{ObjectEvent}
 use Rattle.run_record.specs.declared.entered.ObjectEvent.TheVariants as event
 use Rattle.run_record.specs.declared.entered.ObjectReply.{ObjectReply}
@@ -30,6 +36,13 @@ use Rattle.run_record.specs.declared.made.Made.{Made}
 use Rattle.run_record.specs.declared.made.Made.TheVariants.{Shared, Entered}
 use Rattle.run_record.specs.CondKind.{cond_call}
 use Rattle.run_record.specs.Record.{ObjectEntry}
+
+-- The call is a `waitfor` on a cond, whose mutex is the object at this place: of the atomic at that place, this number, and so many waits
+pub record IsWaitFor (plan : Plan) (call : Call) (mutex atomic : ℕ) (value : Number) (tries : ℕ) : Type 0 where
+  pub object : ObjectLine
+  pub there : slice_get plan.objects call.object ≡ Some object
+  pub on_cond : object.kind ≡ kinds.Cond mutex
+  pub waits_for : call.operation ≡ operations.Composed (WaitFor atomic value tries)
 
 -- the item is a load of the atomic
 abbrev pub IsLoadOf : ℕ → Item → Type 0
