@@ -47,4 +47,5 @@ mod SmallRecords
 mod UnionAtEnd
 mod Unlifted
 mod Weaving
+mod WaitFor
 mod WritesOneWay

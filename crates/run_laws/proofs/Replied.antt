@@ -66,7 +66,7 @@ module _ (plan : Plan) (r : Record) (lawful : IsRecordOf plan r) (worker : ℕ) 
   abbrev there : Item → Contents
   there x = contents_at (contents_of plan) r.history x.place
 
-  replied : (x : Item) → items ≡ Shared x ∷ [] → IsReply x.call x.reply (there x)
+  pub replied : (x : Item) → items ≡ Shared x ∷ [] → IsReply x.call x.reply (there x)
   replied x are =
       let own : calls_of r worker ≡ shared_in earlier ++ x ∷ shared_in later =
       ap shared_in whole ∙ (shared_append earlier (items ++ later) ∙ ap (λ (l : List Made). shared_in earlier ++ shared_in (l ++ later)) are) in

@@ -17,3 +17,4 @@ pub mod NoRanges
 pub mod OneSpelling
 pub mod Order
 pub mod Owners
+pub mod WaitedFor

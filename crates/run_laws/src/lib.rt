@@ -14,3 +14,4 @@ pub mod order;
 pub mod owners;
 pub mod replies;
 pub mod spelling;
+pub mod wait_for;
