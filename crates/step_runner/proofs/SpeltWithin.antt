@@ -1,8 +1,7 @@
 -- What the items of a turn spell of its call, whether the call is a `waitfor` or one that makes one turn at its objects.
-use Rattle.std.proofs.Common.{◌≡◌, ◌≢◌, ℕ, zero, suc, ◌+◌, ◌-◌, Bool, List, [], ◌++◌, map, length, filter, Option, Some, None, refl, sym, ap, ◌∙◌, subst}
-use Rattle.std.specs.Prelude.{◌==◌, slice_get}
+use Rattle.std.proofs.Common.{◌≡◌, ◌≢◌, ℕ, zero, suc, ◌+◌, ◌-◌, Bool, List, [], ◌++◌, map, length, filter, Option, None, refl, sym, ap, ◌∙◌, subst}
+use Rattle.std.specs.Prelude.{◌==◌}
 use Rattle.std.proofs.lemmas.List.Elements.{filter-append}
-use Rattle.sync_types.specs.declared.atomic_object.Number.{Number}
 use Rattle.script_calls.specs.declared.call.Call.{Call}
 use Rattle.script_calls.specs.declared.call.ComposedCall.TheVariants.{WaitFor}
 use Rattle.script_calls.specs.declared.call.Operation.{Operation}
@@ -11,9 +10,9 @@ use Rattle.script_calls.specs.declared.call.Reply.{Reply}
 use Rattle.protocols.specs.Spelling.{CallAnswer}
 use Rattle.run_record.specs.Calls.{call_on, call_at, SpellsCall}
 use Rattle.run_record.specs.Objects.{atomic_number}
-use Rattle.run_record.specs.Parts.{Part, and_then, read_as}
+use Rattle.run_record.specs.Parts.{Part, and_then}
 use Rattle.run_record.specs.Record.{object_number, shared_in}
-use Rattle.run_record.specs.Tests.{compared, waits_for, wait_for_call}
+use Rattle.run_record.specs.Tests.{compared, waits_for}
 use Rattle.run_record.specs.declared.made.Made.{Made}
 use Rattle.workload.specs.declared.object.ObjectKind.{ObjectKind}
 use Rattle.workload.specs.declared.object.ObjectLine.{ObjectLine}
@@ -37,7 +36,7 @@ use Rattle.step_runner.specs.TurnWithin.{wait_on, load_of, turn_within, items_wi
 use Rattle.step_runner.specs.Within.{IsIdle, IsWithin, StandsBehind}
 use Rattle.step_runner.proofs.Entered.{line_there}
 use Rattle.step_runner.proofs.GoesOn.{CanBe}
-use Rattle.step_runner.proofs.WaitBegins.{WaitAt, wait_there, wait_kept, waited_then, left_unbegun, left_begun}
+use Rattle.step_runner.proofs.WaitBegins.{wait_there, wait_kept, waited_then, left_unbegun, left_begun}
 use Rattle.step_runner.proofs.WaitCan.{waits_can, waited_can, read_can}
 use Rattle.step_runner.proofs.WaitSpelt.{TurnLaws, own_within}
 use Rattle.step_runner.proofs.WithinTurns.{turns_keep, all_items}
@@ -135,10 +134,10 @@ module _ (laws : OtherLaws) (plan : Plan) (worker other before moment : ℕ) (ap
     others_kept (operations.Composed (WaitFor atomic value tries)) by =
         (turns_keep other moment place atomic value tries (λ new. IsReadyWithin plan.workers worker own new × (IsReady plan.workers other (wait_on place) new × Kept own begun objects new))
         (λ new is.
-            let kept = one_kept own.object own.operation begun (wait_on place) new is.0 is.1.0 in (
-              ready_on laws plan.workers worker other moment own.object own.operation (wait_on place) new is.0 is.1.0,
-              (laws.ready plan.workers other moment other (wait_on place) (wait_on place) new is.1.0 is.1.0, (λ within. kept.0 (is.1.1.0 within), λ items answer left. is.1.1.1 items answer (kept.1 items answer left))),
-            ))
+        let kept = one_kept own.object own.operation begun (wait_on place) new is.0 is.1.0 in (
+          ready_on laws plan.workers worker other moment own.object own.operation (wait_on place) new is.0 is.1.0,
+          (laws.ready plan.workers other moment other (wait_on place) (wait_on place) new is.1.0 is.1.0, (λ within. kept.0 (is.1.1.0 within), λ items answer left. is.1.1.1 items answer (kept.1 items answer left))),
+        ))
         later objects (ready, (by.0, (λ within. within, λ items answer left. left)))).1.1
     others_kept operation by = one_kept own.object own.operation begun (call_of place operation) objects ready by
 

@@ -3,7 +3,6 @@ use Rattle.std.proofs.Common.{◌≡◌, ℕ, zero, suc, ◌-◌, ◌<◌, Bool,
 use Rattle.std.specs.Prelude.{slice_get}
 use Rattle.sync_types.specs.declared.atomic_object.AtomicCall.TheVariants.{Load}
 use Rattle.sync_types.specs.declared.atomic_object.Number.{Number}
-use Rattle.sync_types.specs.declared.lock_call.LockReply.{LockReply}
 use Rattle.script_calls.specs.declared.call.Call.{Call}
 use Rattle.script_calls.specs.declared.call.ComposedCall.TheVariants.{WaitFor}
 use Rattle.script_calls.specs.declared.call.Operation.TheVariants as operations
@@ -28,7 +27,6 @@ use Rattle.run_record.specs.Objects.{atomic_number}
 use Rattle.run_record.specs.Parts.{Part, and_then, read_as}
 use Rattle.run_record.specs.Record.{object_number}
 use Rattle.run_record.specs.Tests.{compared, waits_for, wait_for_call}
-use Rattle.workload.specs.declared.object.ObjectKind.{ObjectKind}
 use Rattle.workload.specs.declared.object.ObjectKind.TheVariants as kinds
 use Rattle.workload.specs.Plan.{Plan, has_call, is_target, reference_of}
 use Rattle.step_runner.specs.declared.turns.answer.Answer.{Answer}

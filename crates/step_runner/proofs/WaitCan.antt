@@ -1,5 +1,5 @@
 -- Whatever is left of a `waitfor` can be spelt.
-use Rattle.std.proofs.Common.{◌≡◌, ℕ, zero, suc, Bool, false, List, [], ◌∷◌, ◌++◌, map, refl, sym, append-nil}
+use Rattle.std.proofs.Common.{ℕ, zero, suc, Bool, false, List, [], ◌∷◌, ◌++◌, map, refl, sym, append-nil}
 use Rattle.std.specs.Prelude.{Ok, Err}
 use Rattle.sync_model.specs.declared.answer.Answer.TheVariants.{Done, Halted}
 use Rattle.sync_model.specs.declared.item.SharedCall.TheVariants as calls
@@ -10,7 +10,6 @@ use Rattle.sync_types.specs.declared.atomic_object.Number.{Number}
 use Rattle.script_calls.specs.declared.call.Reply.{Reply}
 use Rattle.script_calls.specs.declared.call.Reply.TheVariants as replies
 use Rattle.sync_types.specs.declared.wait_call.CondCall.TheVariants as cond_calls
-use Rattle.protocols.specs.Spelling.{CallAnswer}
 use Rattle.run_record.specs.CondKind.{wait_part}
 use Rattle.run_record.specs.Parts.{Part, and_then, read_as, with_outcome}
 use Rattle.run_record.specs.Tests.{tests, waits_for}

@@ -1,14 +1,14 @@
 -- A worker's own turn spells what was left of its `waitfor`.
-use Rattle.std.proofs.Common.{◌≡◌, ℕ, zero, suc, ◌+◌, ◌-◌, ◌≤◌, ◌<◌, Bool, true, false, List, [], ◌∷◌, ◌++◌, map, length, Option, Some, None, refl, sym, ap, ◌∙◌, subst, arith, append-nil, append_assoc}
+use Rattle.std.proofs.Common.{◌≡◌, ℕ, zero, suc, ◌+◌, ◌-◌, Bool, true, false, List, [], ◌∷◌, ◌++◌, map, length, Option, Some, None, refl, sym, ap, ◌∙◌, subst, arith, append-nil, append_assoc}
 use Rattle.std.specs.Prelude.{nat_le, Ok, Err, slice_get}
 use Rattle.std.specs.Option.{option_map_or}
 use Rattle.std.proofs.lemmas.Bool.{leb-true, leb-false}
-use Rattle.sync_model.specs.declared.answer.Answer.TheVariants.{Done, Halted}
+use Rattle.sync_model.specs.declared.answer.Answer.TheVariants.{Done}
 use Rattle.sync_model.specs.declared.item.SharedCall.TheVariants as calls
 use Rattle.sync_model.specs.declared.item.SharedReply.TheVariants as shared
 use Rattle.sync_types.specs.SequentialAtomic.{is_same}
 use Rattle.sync_types.specs.declared.atomic_object.AtomicCall.TheVariants.{Load}
-use Rattle.sync_types.specs.declared.atomic_object.AtomicReply.TheVariants.{Held, Compared}
+use Rattle.sync_types.specs.declared.atomic_object.AtomicReply.TheVariants.{Held}
 use Rattle.sync_types.specs.declared.atomic_object.Number.{Number}
 use Rattle.script_calls.specs.declared.call.Call.{Call}
 use Rattle.script_calls.specs.declared.call.ComposedCall.TheVariants.{WaitFor}
@@ -28,7 +28,7 @@ use Rattle.step_runner.specs.declared.turns.answer.Answer.{Answer}
 use Rattle.step_runner.specs.declared.turns.answer.Answer.TheVariants as answers
 use Rattle.step_runner.specs.declared.turns.object_state.ObjectState.{ObjectState}
 use Rattle.step_runner.specs.declared.turns.object_state.ObjectState.TheVariants as states
-use Rattle.step_runner.specs.Items.{Item, placed_at, items_at}
+use Rattle.step_runner.specs.Items.{Item, items_at}
 use Rattle.step_runner.specs.Left.{left_at}
 use Rattle.step_runner.specs.MachinesStand.{MutexStands}
 use Rattle.step_runner.specs.MapKeys.{HasObjectKeysIn}
@@ -214,16 +214,26 @@ module _ (laws : TurnLaws) (plan : Plan) (worker moment place atomic tries : ℕ
         let after = waited_then (wait_part (object_number place) (object_number mutex)) (rest mutex left) in
         let tells = subst (λ (new : Part (Reply ℕ)). Tells plan after new made step.1) (sym (ap (left_within plan worker later call step.0) next ∙ left_began later begun mutex step.0 n)) of_whole in
         let told = began_told after made later begun step is tells own.1 in
-        let taken = begin_wait begun step in
-        (told.0, (in_front plan whole after (left_within plan worker later call taken.0.0 taken.0.1) (load number ∷ []) made taken.1
-            (λ items answer spelt. subst (λ (k : ℕ). read_as compared (rest mutex k) (load number ∷ items) answer) same (unmet_then mutex left number unmet items answer spelt)) told.0 told.1.0, told.1.1))
+        let taken = begin_wait begun step in (
+          told.0,
+          (
+            in_front plan whole after (left_within plan worker later call taken.0.0 taken.0.1) (load number ∷ []) made taken.1
+                (λ items answer spelt. subst (λ (k : ℕ). read_as compared (rest mutex k) (load number ∷ items) answer) same (unmet_then mutex left number unmet items answer spelt)) told.0 told.1.0,
+            told.1.1,
+          ),
+        )
 
     last_told : (last : Bool) → nat_le tries begun ≡ last → is_same number value ≡ false
         → Looked (load number ∷ recorded plan counted (unless_last_items worker moment place atomic value tries last objects)) (unless_last worker moment place atomic value tries last begun objects)
     last_told true is unmet =
-        let none : 0 ≡ tries - begun = omega (arith, leb-true tries begun is) in
-        (tt, (subst (λ (k : ℕ). read_as compared (rest mutex k) (load number ∷ []) (Done (Ok (compared false)))) none
-            (Done (Ok false), subst (λ (b : Bool). tests (atomic_number plan.objects atomic) value (load number ∷ []) (Done (Ok b))) unmet (test number), refl), idle))
+        let none : 0 ≡ tries - begun = omega (arith, leb-true tries begun is) in (
+          tt,
+          (
+            subst (λ (k : ℕ). read_as compared (rest mutex k) (load number ∷ []) (Done (Ok (compared false)))) none
+                (Done (Ok false), subst (λ (b : Bool). tests (atomic_number plan.objects atomic) value (load number ∷ []) (Done (Ok b))) unmet (test number), refl),
+            idle,
+          ),
+        )
     last_told false is unmet = begins_told is unmet
 
     met_told : (met : Bool) → is_same number value ≡ met
@@ -269,10 +279,12 @@ module _ (laws : TurnLaws) (plan : Plan) (worker moment place atomic tries : ℕ
         let taken = look worker moment place atomic value tries (suc begun) new in
         let now = before + length (shared_in first) in
         let told = look_told now later (suc begun) mutex new w number there ready keys stands out in
-        let left = left_within plan worker later call taken.0.0 taken.0.1 in
-        (subst (λ (l : List Made). Tells plan old_within left l taken.1) (sym (recorded-append plan before made looked))
-            (in_front plan old_within (read_as compared (rest mutex (tries - suc begun))) left first (recorded plan now looked) taken.1
-            (λ items answer spelt. wait_returned plan (left_at plan worker before wait objects) (left_at plan worker later wait new) (rest mutex (tries - suc begun)) first items reply answer (tells later) spelt) told.0 told.1.0), told.1.1)
+        let left = left_within plan worker later call taken.0.0 taken.0.1 in (
+          subst (λ (l : List Made). Tells plan old_within left l taken.1) (sym (recorded-append plan before made looked))
+              (in_front plan old_within (read_as compared (rest mutex (tries - suc begun))) left first (recorded plan now looked) taken.1
+              (λ items answer spelt. wait_returned plan (left_at plan worker before wait objects) (left_at plan worker later wait new) (rest mutex (tries - suc begun)) first items reply answer (tells later) spelt) told.0 told.1.0),
+          told.1.1,
+        )
 
   pub own_within : (before later begun : ℕ) (objects : List ObjectState) → IsReadyWithin plan.workers worker call objects → Keyed objects → IsOutBut (waits_within (map kind_of objects) call begun) worker objects → IsWithinCall worker call begun objects
       → Told (left_within plan worker before call objects begun) (recorded plan before (wait_for_items worker moment place atomic value tries begun objects)) later (wait_for_turn worker moment place atomic value tries begun objects)
@@ -282,9 +294,11 @@ module _ (laws : TurnLaws) (plan : Plan) (worker moment place atomic tries : ℕ
       let told = look_told before later zero w.0 objects w.1 number.0 number.1 ready.0 keys idle out in
       let taken = look worker moment place atomic value tries zero objects in
       let all : tries - zero ≡ tries = omega arith in
-      let whole_is = left_unbegun plan plan.workers worker before place w.0 objects w.1 atomic tries value in
-      (subst (λ (old : Part (Reply ℕ)). Tells plan old (left_within plan worker later call taken.0.0 taken.0.1) (recorded plan before (look_items worker moment place atomic value tries zero objects)) taken.1)
-          (ap (λ (k : ℕ). read_as compared (rest w.0 k)) all ∙ sym whole_is) told.1.0, told.1.1)
+      let whole_is = left_unbegun plan plan.workers worker before place w.0 objects w.1 atomic tries value in (
+        subst (λ (old : Part (Reply ℕ)). Tells plan old (left_within plan worker later call taken.0.0 taken.0.1) (recorded plan before (look_items worker moment place atomic value tries zero objects)) taken.1)
+            (ap (λ (k : ℕ). read_as compared (rest w.0 k)) all ∙ sym whole_is) told.1.0,
+        told.1.1,
+      )
   own_within before later (suc begun) objects ready keys out within =
       let w = wait_there plan.workers worker place objects ready.0 in
       let step = turn_at wait worker moment objects in
@@ -298,6 +312,8 @@ module _ (laws : TurnLaws) (plan : Plan) (worker moment place atomic tries : ℕ
       (left_any plan plan.workers worker place w.0 step.0 n (before + length (shared_in (recorded plan before made))) k) own.0 in
       let told = within_told before later begun w.0 objects made step n number.0 number.1 ready_on (laws.keys (all_keys plan.scripts) worker moment place objects keys)
       (laws.out plan.workers worker moment wait objects ready.0 out) tells own.1 in
-      let taken = behind_wait worker moment place atomic value tries (suc begun) step in
-      (subst (λ (old : Part (Reply ℕ)). Tells plan old (left_within plan worker later call taken.0.0 taken.0.1) (recorded plan before (made ++ behind_wait_items worker moment place atomic value tries (suc begun) step)) taken.1)
-          (sym (left_began before begun w.0 objects w.1)) told.0, told.1)
+      let taken = behind_wait worker moment place atomic value tries (suc begun) step in (
+        subst (λ (old : Part (Reply ℕ)). Tells plan old (left_within plan worker later call taken.0.0 taken.0.1) (recorded plan before (made ++ behind_wait_items worker moment place atomic value tries (suc begun) step)) taken.1)
+            (sym (left_began before begun w.0 objects w.1)) told.0,
+        told.1,
+      )

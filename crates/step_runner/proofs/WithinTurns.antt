@@ -15,7 +15,6 @@ use Rattle.step_runner.specs.TurnWithin.{
   begin_wait,
   unless_last,
   unless_met,
-  look,
   behind_wait,
   wait_for_turn,
   unless_last_items,
