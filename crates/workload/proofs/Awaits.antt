@@ -1,6 +1,6 @@
 -- What a `waitfor` names: the atomic that it loads, which may hold its value.
-use Rattle.std.proofs.Common.{◌≡◌, ℕ, ◌-◌, true, false, not, eqb, List, Option, Some, None, refl, sym, ap, subst, ◌∙◌, arith}
-use Rattle.std.specs.Prelude.{is_some, slice_get}
+use Rattle.std.proofs.Common.{◌≡◌, ℕ, ◌-◌, true, false, eqb, List, Option, Some, None, refl, sym, ap, subst, ◌∙◌, arith}
+use Rattle.std.specs.Prelude.{slice_get}
 use Rattle.std.specs.Option.{option_map_or}
 use Rattle.std.proofs.lemmas.Bool.{eqb-true}
 use Rattle.sync_types.specs.Name.{is_name}
@@ -68,6 +68,10 @@ held objects a v h = at (slice_get objects a) refl h
     at None is h = absurd cc
     at (Some o) is h = let atomic = atomic_is v o.kind h in (o, is, atomic.0, atomic.1, atomic.2)
 
+declared_as : (found : Declared) (a : ℕ) (k : AtomicKind) → found.place ≡ a → found.kind ≡ kinds.Atomic k → Some found ≡ Some (record { place = a; kind = kinds.Atomic k })
+declared_as found a k place kind = ap (λ (p : ℕ). Some (record { place = p; kind = found.kind })) place ∙ ap (λ (x : ObjectKind). Some (record { place = a; kind = x })) kind
+
+-- a second name of a `waitfor` that its cond has is that of such an atomic
 pub awaits : (d : Draft) (a : ℕ) (v : Number) (n : ℕ) (second : Option (List ℕ)) → option_map_or (λ object. may_hold v object.kind) (slice_get d.plan.objects a) false ≡ true → names_second d (operations.Composed (WaitFor a v n)) second ≡ true → Awaits d a v second
 awaits d a v n None on named = absurd cc
 awaits d a v n (Some name) on named =
@@ -88,6 +92,6 @@ awaits d a v n (Some name) on named =
           is = refl;
           named = word;
           kind = atomic.0;
-          found = is ∙ ap (λ (p : ℕ). Some (record { place = p; kind = found.kind })) place ∙ ap (λ (k : ObjectKind). Some (record { place = a; kind = k })) atomic.1;
+          found = is ∙ declared_as found a atomic.0 place atomic.1;
           fits = atomic.2;
         }

@@ -47,7 +47,7 @@ use Rattle.workload.specs.KeywordWords.{object_word, verb_word}
 use Rattle.workload.specs.NumberWords.{number_word, is_tries}
 use Rattle.workload.specs.CallWords.{group_operands, pool_operands, composed_operands, verb_of, operands_of, map_values, map_operands, atomic_operands}
 use Rattle.workload.specs.Words.{spelled, first_spelled, kind_parameters, turn_word}
-use Rattle.workload.specs.Plan.{word_of, is_amount, has_call, has_among, may_hold}
+use Rattle.workload.specs.Plan.{word_of, is_amount, has_call, has_among}
 use Rattle.workload.specs.declared.object.Declared.{Declared}
 use Rattle.workload.proofs.CallWords.{narrow, amount_small}
 use Rattle.workload.proofs.Awaits.{held}
