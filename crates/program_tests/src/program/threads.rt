@@ -1,9 +1,7 @@
 //! Runs with threads.
 
-use crate::program::endings::MISUSES;
-use crate::program::rows::{
-    Row, STEP, TESTS, TWO_CALLS, comes_out, first_other, matches_row, run_by, run_through,
-};
+use crate::program::made::LINES;
+use crate::program::rows::{Row, STEP, TWO_CALLS, comes_out, matches_row, run_by, run_through};
 use std::sync::atomic::{AtomicU64, Ordering};
 use std::test::Fail;
 use sync_outside::{Clock, HoldGate, OpenGate, RefuseStart, ThreadSpawner};
@@ -17,64 +15,12 @@ const RUN: Row = Row {
 const EACH_WAITS: &str =
     "workers 2\nwaitgroup g0 1\nwaitgroup g1 1\nworker 0\ndone g0\nwait g1\nworker 1\ndone g1\nwait g0\n";
 
+const CANNOT_START: &str = "gosync: cannot start the workers\n";
+
 const EACH_REPORT: &str =
     "0.0 done g0 -> ok\n0.1 wait g1 -> ok\n1.0 done g1 -> ok\n1.1 wait g0 -> ok\n";
 
 const TWO_REPORT: &str = "0.0 store t apple 5 -> ok\n0.1 load t apple -> 5 true\nend t apple 5\n";
-
-const RUNS: [(&str, &str); 6] = [
-    (TWO_CALLS, TWO_REPORT),
-    (
-        "workers 1\nmap t\nworker 0\nlos t k 7\nlos t k 8\nrange t\nclear t\nrange t\n",
-        "0.0 los t k 7 -> 7 false\n0.1 los t k 8 -> 7 true\n0.2 range t -> k=7\n0.3 clear t -> ok\n0.4 range t -> -\n",
-    ),
-    (
-        "workers 1\nint32 a\nworker 0\nadd a 1\nadd a -1\ncas a 0 1\n",
-        "0.0 add a 1 -> 1\n0.1 add a -1 -> 0\n0.2 cas a 0 1 -> true\nend a 1\n",
-    ),
-    (
-        "workers 2\nint64 a\nonce o a 5\noncefunc g 3\nworker 0\ndo o\ncall g\ncall g\n",
-        "0.0 do o -> ran 5\n0.1 call g -> err 3\n0.2 call g -> err 3\nend a 5\n",
-    ),
-    (EACH_WAITS, EACH_REPORT),
-    (
-        "workers 3\nmap t\nworker 0\nstore t b 2\nworker 1\nstore t a 1\nworker 2\nstore t c 3\n",
-        "0.0 store t b 2 -> ok\n1.0 store t a 1 -> ok\n2.0 store t c 3 -> ok\nend t a 1\nend t b 2\nend t c 3\n",
-    ),
-];
-
-#[test]
-fn a_text_is_run_by_threads_and_reported(rt: HostRuntime) -> Result<(), Fail> {
-    assert!(rt; first_other(&rt, rt.alloc(), RUN.words, &RUNS)? == None);
-    assert!(rt; first_other(&rt, rt.alloc(), RUN.words, &TESTS)? == None);
-    Ok(())
-}
-
-// Misuses of one worker are the same by schedule and with threads.
-#[test]
-fn a_misuse_ends_the_run(rt: HostRuntime) -> Result<(), Fail> {
-    for &(text, report, message) in &MISUSES {
-        let row = Row {
-            text,
-            status: 2,
-            report,
-            message,
-            ..RUN
-        };
-        assert!(rt; comes_out(&rt, rt.alloc(), &row)?, "{text}");
-    }
-    // Behind a write that failed there is no text of Go's.
-    let row = Row {
-        text: "workers 1\nmutex m\nworker 0\nlock m\nunlock m\nunlock m\n",
-        status: 3,
-        out: &[2],
-        report: "0.0 lock m -> ok\n",
-        message: "gosync: cannot write the report\n",
-        ..RUN
-    };
-    assert!(rt; comes_out(&rt, rt.alloc(), &row)?);
-    Ok(())
-}
 
 const HELD: [(u32, &str); 2] = [
     (0, "0.0 add a 1 -> 2\n1.0 add a 1 -> 1\nend a 2\n"),
@@ -124,7 +70,7 @@ fn a_run_reads_its_own_clock(rt: HostRuntime) -> Result<(), Fail> {
     };
     let made = Row {
         words: "gosync make 7",
-        report: crate::program::made::LINES,
+        report: LINES,
         ..RUN
     };
     for row in &[locked, made] {
@@ -148,18 +94,22 @@ fn a_run_reads_its_own_clock(rt: HostRuntime) -> Result<(), Fail> {
     Ok(())
 }
 
-const REFUSED_STARTS: [(usize, u8, &str, &str); 3] = [
-    (1, 3, "", "gosync: cannot start the workers\n"),
-    (2, 3, "", "gosync: cannot start the workers\n"),
-    (3, 0, EACH_REPORT, ""),
+const REFUSED_STARTS: [(&str, &str, usize, u8, &str, &str); 6] = [
+    ("gosync run w.txt", EACH_WAITS, 1, 3, "", CANNOT_START),
+    ("gosync run w.txt", EACH_WAITS, 2, 3, "", CANNOT_START),
+    ("gosync run w.txt", EACH_WAITS, 3, 0, EACH_REPORT, ""),
+    ("gosync make 7", "", 1, 3, "", CANNOT_START),
+    ("gosync make 7", "", 8, 3, "", CANNOT_START),
+    ("gosync make 7", "", 9, 0, LINES, ""),
 ];
 
-// There are two starts, so a third isn't refused.
+// A run of two workers has two starts and a made one eight, so one more isn't refused.
 #[test]
 fn a_refused_start_is_status_3(rt: HostRuntime) -> Result<(), Fail> {
-    for &(refused, status, report, message) in &REFUSED_STARTS {
+    for &(words, text, refused, status, report, message) in &REFUSED_STARTS {
         let row = Row {
-            text: EACH_WAITS,
+            words,
+            text,
             status,
             report,
             message,
@@ -175,32 +125,12 @@ fn a_refused_start_is_status_3(rt: HostRuntime) -> Result<(), Fail> {
             &mut spawner,
             &OpenGate,
         )?;
-        assert!(rt; matches_row(&ran, &row), "{refused}");
+        assert!(rt; matches_row(&ran, &row), "{words}: {refused}");
         assert!(rt;
             spawner.counts().faults() == u64::from(status == 3),
-            "{refused}"
+            "{words}: {refused}"
         );
     }
-    Ok(())
-}
-
-// What isn't read is refused as by schedule, and starts nothing.
-#[test]
-fn a_text_that_is_not_read_is_not_run(rt: HostRuntime) -> Result<(), Fail> {
-    let row = Row {
-        text: "workers 1\nworker 1\n",
-        status: 1,
-        message: "gosync: line 2: no such worker\n",
-        ..RUN
-    };
-    assert!(rt; comes_out(&rt, rt.alloc(), &row)?);
-    let row = Row {
-        words: "gosync run none.txt",
-        status: 3,
-        message: "gosync: cannot read none.txt\n",
-        ..RUN
-    };
-    assert!(rt; comes_out(&rt, rt.alloc(), &row)?);
     Ok(())
 }
 
