@@ -4,8 +4,6 @@
 #[cfg(test)]
 mod faults;
 #[cfg(test)]
-mod made;
-#[cfg(test)]
 mod rows;
 #[cfg(test)]
 mod threads;
