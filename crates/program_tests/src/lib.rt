@@ -1,8 +1,8 @@
-//! Tests of a run by threads, and in `program` of the whole call `gosync`.
+//! Tests of a run over maps and atomics that take turns, and in `program` of the whole call `gosync`.
 #![tactic(auto)]
 
 #[cfg(test)]
 mod plain_maps;
-mod program;
 #[cfg(test)]
-mod threads;
+mod plain_rows;
+mod program;

@@ -1,12 +1,10 @@
-//! Tests of workloads: texts that are read and refused, the texts of three seeds, the words of the command line, and runs by
-//! schedule.
+//! Tests of texts: what their lines say, the canonical text, and the text of a seed. What a text comes to, and why
+//! another is refused, `.ci/check-rows` and `.ci/check-refusals` try through the built program.
 #![tactic(auto)]
 
+#[cfg(test)]
+mod canonical;
 #[cfg(test)]
 mod generator;
 #[cfg(test)]
 mod reader;
-#[cfg(test)]
-mod schedule;
-#[cfg(test)]
-mod words;

@@ -32,31 +32,10 @@ pub(super) const STEP: Row = Row {
     message: "",
 };
 
-// The words of a run by schedule and of one with threads.
-pub(super) const BY_BOTH: [&str; 2] = ["gosync step w.txt", "gosync run w.txt"];
-
 pub(super) const TWO_CALLS: &str = "workers 1\nmap t\nworker 0\nstore t apple 5\nload t apple\n";
-
-// What the calls that an `ifeq` passes over leave out of a report, and where the next one stands.
-pub(super) const TESTS: [(&str, &str); 3] = [
-    (
-        "workers 1\nint64 a\nworker 0\nifeq a 1 2\nstore a 5\nstore a 6\nifeq a 0 9\nadd a 3\n",
-        "0.0 ifeq a 1 2 -> false\n0.3 ifeq a 0 9 -> true\n0.4 add a 3 -> 3\nend a 3\n",
-    ),
-    (
-        "workers 2\nbool b\nmap t\nworker 0\nifeq b true 1000\nstore b true\nrange t\nworker 1\nload t k\n",
-        "0.0 ifeq b true 1000 -> false\n1.0 load t k -> - false\nend b false\n",
-    ),
-    (
-        "workers 1\nint32 a\nuint64 u\nworker 0\nifeq a -2147483648 1\nstore a -2147483648\nifeq a -2147483648 1\nstore a -2147483648\nifeq a -2147483648 1\nifeq u 18446744073709551615 1\nifeq a 0 1\nload a\n",
-        "0.0 ifeq a -2147483648 1 -> false\n0.2 ifeq a -2147483648 1 -> false\n0.4 ifeq a -2147483648 1 -> false\n0.6 ifeq a 0 1 -> true\n0.7 load a -> 0\nend a 0\nend u 0\n",
-    ),
-];
 
 pub(super) const COND_CALLS: &str =
     "workers 2\nmutex m\ncond c m\nworker 0\nlock m\nwait c\nunlock m\nworker 1\nlock m\nsignal c\nunlock m\n";
-
-pub(super) const USAGE: &str = "usage: gosync run FILE | gosync step FILE | gosync make SEED\n";
 
 /// What the program answers and writes.
 #[derive(Drop)]
@@ -149,25 +128,4 @@ pub(super) fn comes_out<R: Threads + Wait + Sync>(
     row: &Row,
 ) -> Result<bool, AllocError> {
     comes_out_on(rt, alloc, row.text, row)
-}
-
-/// The first of these texts whose run doesn't end in status 0 with the report beside it.
-pub(super) fn first_other<R: Threads + Wait + Sync>(
-    rt: &R,
-    alloc: Global,
-    words: &'static str,
-    table: &[(&'static str, &'static str)],
-) -> Result<Option<&'static str>, AllocError> {
-    for &(text, report) in table {
-        let row = Row {
-            text,
-            words,
-            report,
-            ..STEP
-        };
-        if !comes_out(rt, alloc, &row)? {
-            return Ok(Some(text));
-        }
-    }
-    Ok(None)
 }

@@ -1,9 +1,6 @@
 //! Runs with threads.
 
-use crate::program::endings::MISUSES;
-use crate::program::rows::{
-    Row, STEP, TESTS, TWO_CALLS, comes_out, first_other, matches_row, run_by, run_through,
-};
+use crate::program::rows::{Row, STEP, TWO_CALLS, comes_out, matches_row, run_by, run_through};
 use std::sync::atomic::{AtomicU64, Ordering};
 use std::test::Fail;
 use sync_outside::{Clock, HoldGate, OpenGate, RefuseStart, ThreadSpawner};
@@ -17,42 +14,111 @@ const RUN: Row = Row {
 const EACH_WAITS: &str =
     "workers 2\nwaitgroup g0 1\nwaitgroup g1 1\nworker 0\ndone g0\nwait g1\nworker 1\ndone g1\nwait g0\n";
 
+// The five lines of seed 7.
+const LINES: &str = "workers 8\ncalls 16000\ntotal 2007240\nkeys 347\nsum 3001507156\n";
+
+const CANNOT_START: &str = "gosync: cannot start the workers\n";
+
 const EACH_REPORT: &str =
     "0.0 done g0 -> ok\n0.1 wait g1 -> ok\n1.0 done g1 -> ok\n1.1 wait g0 -> ok\n";
 
 const TWO_REPORT: &str = "0.0 store t apple 5 -> ok\n0.1 load t apple -> 5 true\nend t apple 5\n";
 
-const RUNS: [(&str, &str); 6] = [
-    (TWO_CALLS, TWO_REPORT),
+const HELD: [(u32, &str, &str, u64); 4] = [
     (
-        "workers 1\nmap t\nworker 0\nlos t k 7\nlos t k 8\nrange t\nclear t\nrange t\n",
-        "0.0 los t k 7 -> 7 false\n0.1 los t k 8 -> 7 true\n0.2 range t -> k=7\n0.3 clear t -> ok\n0.4 range t -> -\n",
+        0,
+        "workers 2\nint64 a\nworker 0\nadd a 1\nworker 1\nadd a 1\n",
+        "0.0 add a 1 -> 2\n1.0 add a 1 -> 1\nend a 2\n",
+        2,
     ),
     (
-        "workers 1\nint32 a\nworker 0\nadd a 1\nadd a -1\ncas a 0 1\n",
-        "0.0 add a 1 -> 1\n0.1 add a -1 -> 0\n0.2 cas a 0 1 -> true\nend a 1\n",
+        1,
+        "workers 2\nint64 a\nworker 0\nadd a 1\nworker 1\nadd a 1\n",
+        "0.0 add a 1 -> 1\n1.0 add a 1 -> 2\nend a 2\n",
+        2,
     ),
     (
-        "workers 2\nint64 a\nonce o a 5\noncefunc g 3\nworker 0\ndo o\ncall g\ncall g\n",
-        "0.0 do o -> ran 5\n0.1 call g -> err 3\n0.2 call g -> err 3\nend a 5\n",
+        0,
+        "workers 2\nint64 a\nonce o a 5\nworker 0\ndo o\nload a\nworker 1\ndo o\n",
+        "0.0 do o -> done\n0.1 load a -> 5\n1.0 do o -> ran 5\nend a 5\n",
+        3,
     ),
-    (EACH_WAITS, EACH_REPORT),
     (
-        "workers 3\nmap t\nworker 0\nstore t b 2\nworker 1\nstore t a 1\nworker 2\nstore t c 3\n",
-        "0.0 store t b 2 -> ok\n1.0 store t a 1 -> ok\n2.0 store t c 3 -> ok\nend t a 1\nend t b 2\nend t c 3\n",
+        1,
+        "workers 2\nint64 a\nonce o a 5\nworker 0\ndo o\nload a\nworker 1\ndo o\n",
+        "0.0 do o -> ran 5\n0.1 load a -> 5\n1.0 do o -> done\nend a 5\n",
+        3,
+    ),
+];
+
+// The gate holds the first call of one worker until the other's was answered, so the two work beside each other.
+#[test]
+fn workers_work_beside_each_other(rt: HostRuntime) -> Result<(), Fail> {
+    for &(held, text, report, answered) in &HELD {
+        let row = Row {
+            text,
+            report,
+            ..RUN
+        };
+        let mut spawner = ThreadSpawner::new();
+        let gate = HoldGate::new(held);
+        let ran = run_through(&rt, rt.alloc(), row.text, 1_000, &row, &mut spawner, &gate)?;
+        assert!(rt; matches_row(&ran, &row), "{held}: {text}");
+        assert!(rt; !gate.has_given_up(), "{held}: {text}");
+        assert!(rt; gate.answered() == answered, "{held}: {text}");
+    }
+    Ok(())
+}
+
+// Worker 1 makes the misuse, and its first call is held until that of worker 0 was answered. The others wait for good, unless said.
+const MISUSES: [(&str, &str, &str); 8] = [
+    (
+        "workers 3\nmutex m\nmutex n\nwaitgroup g 1\nworker 0\nlock m\nlock m\nworker 1\nunlock n\nworker 2\nwait g\n",
+        "0.0 lock m -> ok\n",
+        "fatal error: sync: unlock of unlocked mutex\n",
+    ),
+    (
+        "workers 3\nrwmutex w\nrwmutex v\nwaitgroup g 1\nworker 0\nrlock w\nlock w\nworker 1\nrunlock v\nworker 2\nwait g\n",
+        "0.0 rlock w -> ok\n",
+        "fatal error: sync: RUnlock of unlocked RWMutex\n",
+    ),
+    (
+        "workers 2\nrwmutex w\nrwmutex v\nworker 0\nlock w\nrlock w\nworker 1\nunlock v\n",
+        "0.0 lock w -> ok\n",
+        "fatal error: sync: Unlock of unlocked RWMutex\n",
+    ),
+    (
+        "workers 2\nmutex m\ncond c m\nwaitgroup g 0\nworker 0\nlock m\nwait c\nworker 1\ndone g\n",
+        "0.0 lock m -> ok\n",
+        "panic: sync: negative WaitGroup counter\n",
+    ),
+    // Who was signalled waits for the mutex.
+    (
+        "workers 2\nmutex m\ncond c m\nwaitgroup g 0\nworker 0\nlock m\nwait c\nworker 1\nlock m\nsignal c\ndone g\n",
+        "0.0 lock m -> ok\n1.0 lock m -> ok\n1.1 signal c -> ok\n",
+        "panic: sync: negative WaitGroup counter\n",
+    ),
+    (
+        "workers 4\nmutex m\ncond c m\nwaitgroup g 1\nworker 0\nadd g 1\nwait g\nworker 1\nwait c\nworker 2\nwait g\nworker 3\nwait g\n",
+        "0.0 add g 1 -> ok\n",
+        "fatal error: sync: unlock of unlocked mutex\n",
+    ),
+    // Nobody waits for good on these kinds of object. They are halted when their calls have returned.
+    (
+        "workers 3\nint64 a\nonce o a 5\noncefunc f 3\noncevalue v 9\npool p\nwaitgroup g 1\nwaitgroup h 1\nmutex m\nworker 0\ncall f\nwait g\nworker 1\nwait h\nunlock m\nworker 2\ndo o\ncall f\nvalue v\nput p 1\nget p\ndone h\nwait g\n",
+        "0.0 call f -> err 3\n1.0 wait h -> ok\n2.0 do o -> ran 5\n2.1 call f -> err 3\n2.2 value v -> 9\n2.3 put p 1 -> ok\n2.4 get p -> 1 put\n2.5 done h -> ok\n",
+        "fatal error: sync: unlock of unlocked mutex\n",
+    ),
+    // Who calls only maps and atomics goes on to the end of the script.
+    (
+        "workers 2\nmap t\nint64 a\nmutex m\nworker 0\nstore t k 1\nload t k\nadd a 1\nrange t\nworker 1\nunlock m\n",
+        "0.0 store t k 1 -> ok\n0.1 load t k -> 1 true\n0.2 add a 1 -> 1\n0.3 range t -> k=1\n",
+        "fatal error: sync: unlock of unlocked mutex\n",
     ),
 ];
 
 #[test]
-fn a_text_is_run_by_threads_and_reported(rt: HostRuntime) -> Result<(), Fail> {
-    assert!(rt; first_other(&rt, rt.alloc(), RUN.words, &RUNS)? == None);
-    assert!(rt; first_other(&rt, rt.alloc(), RUN.words, &TESTS)? == None);
-    Ok(())
-}
-
-// Misuses of one worker are the same by schedule and with threads.
-#[test]
-fn a_misuse_ends_the_run(rt: HostRuntime) -> Result<(), Fail> {
+fn a_misuse_ends_all_who_wait(rt: HostRuntime) -> Result<(), Fail> {
     for &(text, report, message) in &MISUSES {
         let row = Row {
             text,
@@ -61,41 +127,53 @@ fn a_misuse_ends_the_run(rt: HostRuntime) -> Result<(), Fail> {
             message,
             ..RUN
         };
-        assert!(rt; comes_out(&rt, rt.alloc(), &row)?, "{text}");
+        let mut spawner = ThreadSpawner::new();
+        let gate = HoldGate::new(1);
+        let ran = run_through(&rt, rt.alloc(), row.text, 1_000, &row, &mut spawner, &gate)?;
+        assert!(rt; matches_row(&ran, &row), "{text}");
+        assert!(rt; !gate.has_given_up(), "{text}");
     }
-    // Behind a write that failed there is no text of Go's.
-    let row = Row {
-        text: "workers 1\nmutex m\nworker 0\nlock m\nunlock m\nunlock m\n",
-        status: 3,
-        out: &[2],
-        report: "0.0 lock m -> ok\n",
-        message: "gosync: cannot write the report\n",
-        ..RUN
-    };
-    assert!(rt; comes_out(&rt, rt.alloc(), &row)?);
     Ok(())
 }
 
-const HELD: [(u32, &str); 2] = [
-    (0, "0.0 add a 1 -> 2\n1.0 add a 1 -> 1\nend a 2\n"),
-    (1, "0.0 add a 1 -> 1\n1.0 add a 1 -> 2\nend a 2\n"),
+const PASSED: [(&str, &str, u8, &str, &str, u64); 4] = [
+    ("gosync run w.txt", EACH_WAITS, 0, EACH_REPORT, "", 4),
+    (
+        "gosync run w.txt",
+        "workers 1\nint64 a\nworker 0\nifeq a 1 2\nload a\nload a\nload a\n",
+        0,
+        "0.0 ifeq a 1 2 -> false\n0.3 load a -> 0\nend a 0\n",
+        "",
+        2,
+    ),
+    (
+        "gosync run w.txt",
+        "workers 1\nmutex m\nworker 0\nunlock m\n",
+        2,
+        "",
+        "fatal error: sync: unlock of unlocked mutex\n",
+        1,
+    ),
+    ("gosync make 7", "", 0, LINES, "", 16_000),
 ];
 
-// The gate holds one worker until the other's call is answered, so the two work beside each other.
+// The gate is passed before and after each call, and counts the calls that were answered.
 #[test]
-fn workers_work_beside_each_other(rt: HostRuntime) -> Result<(), Fail> {
-    for &(held, report) in &HELD {
+fn each_call_passes_the_gate(rt: HostRuntime) -> Result<(), Fail> {
+    for &(words, text, status, report, message, answered) in &PASSED {
         let row = Row {
-            text: "workers 2\nint64 a\nworker 0\nadd a 1\nworker 1\nadd a 1\n",
+            words,
+            text,
+            status,
             report,
+            message,
             ..RUN
         };
         let mut spawner = ThreadSpawner::new();
-        let gate = HoldGate::new(held);
+        let gate = HoldGate::new(2);
         let ran = run_through(&rt, rt.alloc(), row.text, 1_000, &row, &mut spawner, &gate)?;
-        assert!(rt; matches_row(&ran, &row), "{held}");
-        assert!(rt; !gate.has_given_up(), "{held}");
-        assert!(rt; gate.answered() == 2, "{held}");
+        assert!(rt; matches_row(&ran, &row), "{words}: {text}");
+        assert!(rt; gate.answered() == answered, "{words}: {text}");
     }
     Ok(())
 }
@@ -124,7 +202,7 @@ fn a_run_reads_its_own_clock(rt: HostRuntime) -> Result<(), Fail> {
     };
     let made = Row {
         words: "gosync make 7",
-        report: crate::program::made::LINES,
+        report: LINES,
         ..RUN
     };
     for row in &[locked, made] {
@@ -148,18 +226,76 @@ fn a_run_reads_its_own_clock(rt: HostRuntime) -> Result<(), Fail> {
     Ok(())
 }
 
-const REFUSED_STARTS: [(usize, u8, &str, &str); 3] = [
-    (1, 3, "", "gosync: cannot start the workers\n"),
-    (2, 3, "", "gosync: cannot start the workers\n"),
-    (3, 0, EACH_REPORT, ""),
+// Which start is refused, what comes out, and how many starts were refused, how many jobs were done, and in how many calls.
+const REFUSED_STARTS: [(&str, &str, usize, u8, &str, &str, (u64, u64, u64)); 11] = [
+    ("gosync run w.txt", "workers 3\n", 0, 0, "", "", (0, 3, 1)),
+    (
+        "gosync run w.txt",
+        "workers 3\n",
+        1,
+        3,
+        "",
+        CANNOT_START,
+        (1, 0, 0),
+    ),
+    (
+        "gosync run w.txt",
+        "workers 3\n",
+        2,
+        3,
+        "",
+        CANNOT_START,
+        (1, 0, 0),
+    ),
+    (
+        "gosync run w.txt",
+        "workers 3\n",
+        3,
+        3,
+        "",
+        CANNOT_START,
+        (1, 0, 0),
+    ),
+    ("gosync run w.txt", "workers 3\n", 4, 0, "", "", (0, 3, 1)),
+    (
+        "gosync run w.txt",
+        EACH_WAITS,
+        1,
+        3,
+        "",
+        CANNOT_START,
+        (1, 0, 0),
+    ),
+    (
+        "gosync run w.txt",
+        EACH_WAITS,
+        2,
+        3,
+        "",
+        CANNOT_START,
+        (1, 0, 0),
+    ),
+    (
+        "gosync run w.txt",
+        EACH_WAITS,
+        3,
+        0,
+        EACH_REPORT,
+        "",
+        (0, 2, 1),
+    ),
+    ("gosync make 7", "", 1, 3, "", CANNOT_START, (1, 0, 0)),
+    ("gosync make 7", "", 8, 3, "", CANNOT_START, (1, 0, 0)),
+    ("gosync make 7", "", 9, 0, LINES, "", (0, 8, 1)),
 ];
 
-// There are two starts, so a third isn't refused.
+// A run has a start for each worker, and a made one has eight, so one more isn't refused.
 #[test]
 fn a_refused_start_is_status_3(rt: HostRuntime) -> Result<(), Fail> {
-    for &(refused, status, report, message) in &REFUSED_STARTS {
+    for &(words, text, refused, status, report, message, numbers) in &REFUSED_STARTS {
         let row = Row {
-            text: EACH_WAITS,
+            words,
+            text,
             status,
             report,
             message,
@@ -175,32 +311,11 @@ fn a_refused_start_is_status_3(rt: HostRuntime) -> Result<(), Fail> {
             &mut spawner,
             &OpenGate,
         )?;
-        assert!(rt; matches_row(&ran, &row), "{refused}");
-        assert!(rt;
-            spawner.counts().faults() == u64::from(status == 3),
-            "{refused}"
-        );
+        assert!(rt; matches_row(&ran, &row), "{words}: {text}: {refused}");
+        let counts = spawner.counts();
+        let counted = (counts.faults(), counts.ran(), counts.rounds());
+        assert!(rt; counted == numbers, "{words}: {text}: {refused}");
     }
-    Ok(())
-}
-
-// What isn't read is refused as by schedule, and starts nothing.
-#[test]
-fn a_text_that_is_not_read_is_not_run(rt: HostRuntime) -> Result<(), Fail> {
-    let row = Row {
-        text: "workers 1\nworker 1\n",
-        status: 1,
-        message: "gosync: line 2: no such worker\n",
-        ..RUN
-    };
-    assert!(rt; comes_out(&rt, rt.alloc(), &row)?);
-    let row = Row {
-        words: "gosync run none.txt",
-        status: 3,
-        message: "gosync: cannot read none.txt\n",
-        ..RUN
-    };
-    assert!(rt; comes_out(&rt, rt.alloc(), &row)?);
     Ok(())
 }
 

@@ -43,3 +43,32 @@ fn the_canonical_text(rt: HostRuntime) -> Result<(), Fail> {
     }
     Ok(())
 }
+
+const IFEQS: [(&[u8], &[u8]); 10] = [
+    (b"int32", b"ifeq a -2147483648 1"),
+    (b"int32", b"ifeq a 2147483647 1000"),
+    (b"int64", b"ifeq a -9223372036854775808 1000"),
+    (b"int64", b"ifeq a 9223372036854775807 1"),
+    (b"uint32", b"ifeq a 0 1"),
+    (b"uint32", b"ifeq a 4294967295 999"),
+    (b"uint64", b"ifeq a 0 1000"),
+    (b"uint64", b"ifeq a 18446744073709551615 2"),
+    (b"bool", b"ifeq a true 1"),
+    (b"bool", b"ifeq a false 1000"),
+];
+
+#[test]
+fn an_ifeq_is_printed_as_it_is_read(rt: HostRuntime) -> Result<(), Fail> {
+    for &(kind, call) in &IFEQS {
+        let mut text = Vec::new(rt.alloc());
+        text.extend_from_slice(b"workers 1\n")?;
+        text.extend_from_slice(kind)?;
+        text.extend_from_slice(b" a\nworker 0\n")?;
+        text.extend_from_slice(call)?;
+        text.push(b'\n')?;
+        let workload = parse(rt.alloc(), &text).ok().ok_or("the text is read")?;
+        let printed = print(rt.alloc(), &workload)?;
+        assert!(rt; printed == text, "at {text:?}");
+    }
+    Ok(())
+}
