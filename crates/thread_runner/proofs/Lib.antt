@@ -20,4 +20,5 @@ pub mod Sites
 pub mod HaltLemmas
 pub mod PoolLooks
 pub mod Slots
+pub mod Tries
 pub mod Working

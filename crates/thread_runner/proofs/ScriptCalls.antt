@@ -59,16 +59,16 @@ module _ (plan : Plan) (worker : ℕ) (call : Call) (scripted : IsScripted plan 
   of_each : (p : Call → Bool) → list_all (list_all p) plan.scripts ≡ true → p call ≡ true
   of_each p all = all_at p found.0 scripted.0 call (all_at (list_all p) plan.scripts worker found.0 all found.1) found.2
 
-  pub on_object : is_valid plan ≡ true → is_on (slice_get plan.objects call.object) call ≡ true
+  pub on_object : is_valid plan ≡ true → is_on plan.objects (slice_get plan.objects call.object) call ≡ true
   on_object valid =
-      let on = list_all (list_all (λ (c : Call). is_on (slice_get plan.objects c.object) c)) plan.scripts in
+      let on = list_all (list_all (λ (c : Call). is_on plan.objects (slice_get plan.objects c.object) c)) plan.scripts in
       let rest = list_all (is_turn plan.workers) plan.schedule && list_all (λ (o : ObjectLine). refers plan.objects o.kind) plan.objects in
-      of_each (λ c. is_on (slice_get plan.objects c.object) c) (and_parts on rest (and_parts (length plan.scripts == plan.workers) (on && rest) valid).1).0
+      of_each (λ c. is_on plan.objects (slice_get plan.objects c.object) c) (and_parts on rest (and_parts (length plan.scripts == plan.workers) (on && rest) valid).1).0
 
   -- it is a worker of the run
   pub worker_within : is_valid plan ≡ true → worker < plan.workers
   worker_within valid =
-      let on = list_all (list_all (λ (c : Call). is_on (slice_get plan.objects c.object) c)) plan.scripts in
+      let on = list_all (list_all (λ (c : Call). is_on plan.objects (slice_get plan.objects c.object) c)) plan.scripts in
       let rest = list_all (is_turn plan.workers) plan.schedule && list_all (λ (o : ObjectLine). refers plan.objects o.kind) plan.objects in
       omega (arith, slice_get_within plan.scripts worker found.0 found.1, eqb-true (length plan.scripts) plan.workers (and_parts (length plan.scripts == plan.workers) (on && rest) valid).0)
 
@@ -82,7 +82,7 @@ module _ (plan : Plan) (worker : ℕ) (call : Call) (scripted : IsScripted plan 
 pub refers_at : (plan : Plan) (place : ℕ) (line : ObjectLine) → is_valid plan ≡ true → slice_get plan.objects place ≡ Some line → refers plan.objects line.kind ≡ true
 refers_at plan place line valid at =
     let count = length plan.scripts == plan.workers in
-    let on = list_all (list_all (λ (c : Call). is_on (slice_get plan.objects c.object) c)) plan.scripts in
+    let on = list_all (list_all (λ (c : Call). is_on plan.objects (slice_get plan.objects c.object) c)) plan.scripts in
     let turns = list_all (is_turn plan.workers) plan.schedule in
     let refer = list_all (λ (o : ObjectLine). refers plan.objects o.kind) plan.objects in
     all_at (λ (o : ObjectLine). refers plan.objects o.kind) plan.objects place line (and_parts turns refer (and_parts on (turns && refer) (and_parts count (on && (turns && refer)) valid).1).1).1 at

@@ -1,11 +1,12 @@
 -- What calls reply that are on several objects, or are made of other calls.
-use Rattle.std.specs.Prelude.{ℕ, Bool}
+use Rattle.std.specs.Prelude.{ℕ, Bool, false, not, Ok, Err}
+use Rattle.sync_model.specs.declared.answer.Answer.TheVariants.{Done, Halted}
 use Rattle.script_calls.specs.declared.call.Reply.{Reply}
 use Rattle.script_calls.specs.declared.call.Reply.TheVariants as replies
-use Rattle.sync_types.specs.declared.atomic_object.AtomicReply.TheVariants.{Compared}
 use Rattle.sync_types.specs.declared.lock_call.LockReply.{LockReply}
 use Rattle.sync_types.specs.declared.pool_call.PoolCallReply.TheVariants as pool_replies
 use Rattle.protocols.specs.declared.pool.PoolOutcome.{PoolOutcome}
+use Rattle.protocols.specs.Spelling.{CallAnswer}
 
 -- of a cond's `wait`, whose mutex is locked again
 abbrev pub relocked : LockReply → Reply ℕ
@@ -15,6 +16,8 @@ relocked reply = replies.Returned
 abbrev pub pool_done : PoolOutcome → Reply ℕ
 pool_done outcome = replies.Pool pool_replies.Done
 
--- of an `ifeq`, by whether its load found the number
-abbrev pub compared : Bool → Reply ℕ
-compared met = replies.Atomic (Compared met)
+-- whether a test found another number
+abbrev pub is_unmet : CallAnswer Bool → Bool
+is_unmet (Done (Ok met)) = not met
+is_unmet (Done (Err misuse)) = false
+is_unmet (Halted misuse) = false

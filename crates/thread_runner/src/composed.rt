@@ -1,59 +1,35 @@
-//! Calls that are made of other calls: `ifeq` is a load of an atomic, and answers whether it found a number.
-ghost use Rattle.std.specs.Prelude.{◌≡◌, ℕ, List};
+//! Calls that are made of other calls: `ifeq` tests an atomic, and `waitfor` waits on a cond until a test of an atomic is met.
+ghost use Rattle.std.specs.Prelude.{◌≡◌, ℕ, true, List};
 ghost use Rattle.sync_types.specs.declared.atomic_object.AtomicKind.{AtomicKind};
-ghost use Rattle.sync_types.specs.declared.atomic_object.Number.{Number};
-ghost use Rattle.script_calls.specs.declared.call.ComposedCall.TheVariants.{IfEqual};
 ghost use Rattle.script_calls.specs.declared.call.Operation.TheVariants.{Composed};
 ghost use Rattle.sync_model.specs.Shared.{IsCallerAt};
 ghost use Rattle.workload.specs.declared.object.ObjectKind.TheVariants.{Atomic};
-ghost use Rattle.run_record.specs.Tests.{holds, if_equal_call};
+ghost use Rattle.workload.specs.Plan.{has_among, refers};
 ghost use Rattle.run_record.specs.Calls.{call_on};
 ghost use Rattle.run_record.specs.Objects.{atomic_number};
-ghost use Rattle.run_record.specs.Parts.{with_outcome};
 ghost use Rattle.run_record.specs.Record.{ObjectEntry};
+ghost use Rattle.run_record.specs.Tests.{if_equal_call};
 ghost use Rattle.thread_objects.specs.Calling.{HasCalled};
 ghost use Rattle.thread_objects.specs.Catalog.{HasAtomics, IsAt};
+ghost use Rattle.thread_objects.specs.Desks.{AreSeats};
+ghost use Rattle.thread_objects.specs.Passes.{owns_of};
 ghost use Rattle.thread_objects.specs.Working.{Works, desk_with};
-ghost use Rattle.thread_runner.specs.Replies.{compared};
+ghost use Rattle.thread_runner.specs.Sites.{IsSite};
 
-use script_calls::{ComposedCall, Reply};
+mod testing;
+mod waiting;
+
+use crate::composed::testing::{compared, test_at};
+use crate::composed::waiting::wait_for_at;
+use crate::site::Site;
+use script_calls::ComposedCall;
 use std::sync::Wait;
-use sync_model::{Answer, Caller, Shared};
-use sync_types::{AtomicCall, AtomicReply, Number};
-use thread_objects::{CallAnswer, Catalog, atomic_at};
-
-// The number that a call compares with.
-fn value_of(call: ComposedCall) -> Number
-    ensures { (value : Number) (passes : ℕ) → call ≡ IfEqual value passes → result ≡ value }
-{
-    match call {
-        ComposedCall::IfEqual { value, .. } | ComposedCall::WaitFor { value, .. } => value,
-    }
-}
-
-// Whether a load found the number.
-fn holds(value: Number, reply: &Reply<u32>) -> bool
-    ensures { result ≡ holds value reply.now }
-{
-    match reply {
-        Reply::Atomic(AtomicReply::Held(number)) => *number == value,
-        _ => false,
-    }
-}
-
-// What an `ifeq` answers whose load was answered so.
-fn compared(value: Number, answer: CallAnswer) -> CallAnswer
-    ensures { result ≡ with_outcome compared (with_outcome (holds value) answer) }
-{
-    match answer {
-        Answer::Done(Ok(reply)) => {
-            let equal = holds(value, &reply);
-            Answer::Done(Ok(Reply::Atomic(AtomicReply::Compared(equal))))
-        }
-        Answer::Done(Err(misuse)) => Answer::Done(Err(misuse)),
-        Answer::Halted(misuse) => Answer::Halted(misuse),
-    }
-}
+use sync_model::{Caller, Shared};
+use sync_outside::Clock;
+use sync_types::Number;
+use thread_objects::laws::objects_are_of_their_kinds;
+use thread_objects::{AnyPass, CallAnswer, Catalog, Worker};
+use workload::ObjectKind;
 
 // Loads the atomic at a place among the workload's objects, and answers whether it holds the number.
 fn if_equal_at<S: Shared, R: Wait>(
@@ -70,26 +46,55 @@ fn if_equal_at<S: Shared, R: Wait>(
     ensures works { (owns : ℕ → List ObjectEntry)
         → Works (if_equal_call (atomic_number catalog.now.workload.now.objects place) value) (desk_with S.Mark.own S.Mark.front owns caller.old.note) result (desk_with S.Mark.own S.Mark.front owns caller.new.note) }
 {
-    compared(
-        value,
-        atomic_at(rt, catalog, caller, place, AtomicCall::Load),
-    )
+    compared(test_at(rt, catalog, caller, place, value))
 }
 
-/// Makes a call that is made of others, on the atomic at a place among the workload's objects. It may wait for other callers.
-pub(crate) fn composed_at<S: Shared, R: Wait>(
+/// Makes a call that is made of others, on the object at a place among the workload's objects, which is of this kind and has the
+/// call. It may wait for other callers.
+pub(crate) fn composed_at<S: Shared, C: Clock, R: Wait>(
     rt: &R,
-    catalog: &Catalog<S>,
+    site: &Site<S>,
+    worker: &Worker<S::Mark, C>,
     caller: &mut Caller<S::Mark>,
+    passes: &mut [AnyPass<S::Mark>],
     place: usize,
+    kind: ObjectKind,
     call: ComposedCall,
 ) -> CallAnswer
-    requires atomics { HasAtomics catalog.now.workload.now (S.kinds catalog.now.shared.now) catalog.now.numbers.now }
-    requires place { (type : AtomicKind) × IsAt catalog.now.workload.now place (Atomic type) }
-    requires caller { IsCallerAt S.Mark.at S.Mark.own (S.home_of catalog.now.shared.now) caller.old }
-    ensures called { HasCalled S.Mark.at S.Mark.own catalog.now.workload.now 0 caller.old.note caller.new.note }
-    ensures works { (owns : ℕ → List ObjectEntry) (worker before : ℕ) (type : AtomicKind)
-        → Works (call_on catalog.now.workload.now worker before place (Atomic type) (Composed call)) (desk_with S.Mark.own S.Mark.front owns caller.old.note) result (desk_with S.Mark.own S.Mark.front owns caller.new.note) }
+    requires site { IsSite S.Mark.at worker.now.at.home.now site.now.catalog.workload.now (S.maps site.now.catalog.shared.now) (S.kinds site.now.catalog.shared.now) (S.takes site.now.catalog.shared.now) site.now.objects.now site.now.catalog.numbers.now }
+    requires homes { S.home_of site.now.catalog.shared.now ≡ worker.now.at.home.now }
+    requires place { IsAt site.now.catalog.workload.now place kind }
+    requires call { has_among site.now.catalog.workload.now.objects kind (Composed call) ≡ true }
+    requires reference { refers site.now.catalog.workload.now.objects kind ≡ true }
+    requires caller { IsCallerAt S.Mark.at S.Mark.own worker.now.at.home.now caller.old }
+    requires seats { AreSeats S.Mark.at worker.now.at.home.now worker.now.workers worker.now.number site.now.objects.now passes.old }
+    ensures seats { AreSeats S.Mark.at worker.now.at.home.now worker.now.workers worker.now.number site.now.objects.now passes.new }
+    ensures called { HasCalled S.Mark.at S.Mark.own site.now.catalog.workload.now 0 caller.old.note caller.new.note }
+    ensures works { (before : ℕ)
+        → Works (call_on site.now.catalog.workload.now worker.now.number before place kind (Composed call)) (desk_with S.Mark.own S.Mark.front (owns_of passes.old) caller.old.note) result (desk_with S.Mark.own S.Mark.front (owns_of passes.new) caller.new.note) }
 {
-    if_equal_at(rt, catalog, caller, place, value_of(call))
+    objects_are_of_their_kinds::<S::Mark>();
+    match call {
+        ComposedCall::IfEqual { value, .. } => if_equal_at(rt, &site.catalog, caller, place, value),
+        ComposedCall::WaitFor {
+            atomic,
+            value,
+            tries,
+        } => match kind {
+            ObjectKind::Cond { mutex } => wait_for_at(
+                rt,
+                worker,
+                &site.catalog,
+                caller,
+                site.objects,
+                passes,
+                place,
+                mutex,
+                atomic,
+                value,
+                tries,
+            ),
+            _ => unreachable!(),
+        },
+    }
 }

@@ -8,7 +8,7 @@ ghost use Rattle.sync_model.specs.Shared.{IsCallerAt, items_of};
 ghost use Rattle.workload.specs.declared.object.ObjectKind.TheVariants.{Pool};
 ghost use Rattle.workload.specs.Draft.{all_keys, is_operation, operation_keys};
 ghost use Rattle.workload.specs.Keys.{keys_in};
-ghost use Rattle.workload.specs.Plan.{has_call, refers};
+ghost use Rattle.workload.specs.Plan.{has_among, refers};
 ghost use Rattle.run_record.specs.Calls.{SpellsCall, call_on};
 ghost use Rattle.run_record.specs.Limits.{IsCallOf};
 ghost use Rattle.run_record.specs.Objects.{first_part, object_count};
@@ -93,7 +93,7 @@ fn call_at<S: Shared, C: Clock, R: Wait>(
     requires workers { site.now.catalog.workload.now.workers ≡ worker.now.workers }
     requires own { worker.now.number < worker.now.workers }
     requires place { IsAt site.now.catalog.workload.now place kind }
-    requires call { has_call kind operation.now ≡ true }
+    requires call { has_among site.now.catalog.workload.now.objects kind operation.now ≡ true }
     requires reference { refers site.now.catalog.workload.now.objects kind ≡ true }
     requires ranged { is_operation operation.now ≡ true }
     requires keys { (name : List ℕ) → list_any (bytes_eq name) (operation_keys operation.now) ≡ true → list_any (bytes_eq name) (all_keys site.now.catalog.workload.now.scripts) ≡ true }
@@ -116,7 +116,9 @@ fn call_at<S: Shared, C: Clock, R: Wait>(
     match operation {
         Operation::Map(call) => Some(map_at(rt, site, caller, place, call)),
         Operation::Atomic(call) => Some(atomic_at(rt, &site.catalog, caller, place, *call)),
-        Operation::Composed(call) => Some(composed_at(rt, &site.catalog, caller, place, *call)),
+        Operation::Composed(call) => Some(composed_at(
+            rt, site, worker, caller, passes, place, kind, *call,
+        )),
         Operation::Range => range_at(rt, site, caller, place, take_room(rooms)),
         Operation::Cond(CondCall::Wait) => match kind {
             ObjectKind::Cond { mutex } => Some(wait_at(

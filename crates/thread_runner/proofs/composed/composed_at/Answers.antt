@@ -1,5 +1,39 @@
-use Rattle.thread_runner.proofs.ByKind.{if_equal_made}
+use Rattle.std.proofs.Common.{subst}
+use Rattle.workload.specs.declared.object.ObjectKind.{ObjectKind}
+use Rattle.workload.specs.declared.object.ObjectKind.TheVariants as kinds
+use Rattle.thread_objects.specs.Catalog.{IsAt}
+use Rattle.thread_objects.specs.Passes.{owns_of}
+use Rattle.thread_runner.proofs.ByKind.{awaits_at, if_equal_made, tested_at, tested_type, wait_for_made}
+use Rattle.thread_runner.proofs.Sites.{has_atomics, mutex_of}
 use Rattle.thread_runner.proofs.composed.composed_at.Goals as goal
 
-pub returns-clause-works : goal.returns-clause-works
-returns-clause-works g c = λ owns worker before type. if_equal_made c.args.catalog.now.workload.now worker before c.args.place _ _ _ type c.args.call c.value_of.result c.value_of.ensures (c.if_equal_at.ensures.works owns)
+pub if_equal_at-requires-clause-atomics : goal.if_equal_at-requires-clause-atomics
+if_equal_at-requires-clause-atomics g c = has_atomics c.args.site.now.catalog.workload.now _ _ _ _ c.requires.site.shared c.requires.site.numbered
+
+pub if_equal_at-requires-clause-place : goal.if_equal_at-requires-clause-place
+if_equal_at-requires-clause-place g c = tested_at c.args.site.now.catalog.workload.now c.args.kind c.args.call c.requires.call c.args.place c.in-IfEqual.value _ c.in-IfEqual.is c.requires.place
+
+pub returns-in-IfEqual-clause-works : goal.returns-in-IfEqual-clause-works
+returns-in-IfEqual-clause-works g c =
+    let plan = c.args.site.now.catalog.workload.now in
+    let type = tested_type plan c.args.kind c.args.call c.requires.call c.in-IfEqual.value _ c.in-IfEqual.is in
+    λ before. if_equal_made plan c.args.worker.now.number before c.args.place _ _ _ c.args.kind c.args.call c.in-IfEqual.value _ c.in-IfEqual.is type.0 type.1 (c.if_equal_at.ensures.works (owns_of c.args.passes.now))
+
+pub wait_for_at-requires-clause-cond : goal.wait_for_at-requires-clause-cond
+wait_for_at-requires-clause-cond g c = c.objects_are_of_their_kinds.ensures.kind c.args.worker.now.at.home.now c.args.site.now.catalog.workload.now c.args.site.now.objects.now c.args.place (kinds.Cond c.in-Cond.mutex) c.requires.site.declared (subst (λ (k : ObjectKind). IsAt c.args.site.now.catalog.workload.now c.args.place k) c.in-Cond.is c.requires.place)
+
+pub wait_for_at-requires-clause-mutex : goal.wait_for_at-requires-clause-mutex
+wait_for_at-requires-clause-mutex g c = c.objects_are_of_their_kinds.ensures.kind c.args.worker.now.at.home.now c.args.site.now.catalog.workload.now c.args.site.now.objects.now c.in-Cond.mutex kinds.Mutex c.requires.site.declared (mutex_of c.args.site.now.catalog.workload.now c.args.kind c.in-Cond.mutex c.in-Cond.is c.requires.reference)
+
+pub wait_for_at-requires-clause-room : goal.wait_for_at-requires-clause-room
+wait_for_at-requires-clause-room g c = (c.objects_are_of_their_kinds.ensures.there c.args.worker.now.at.home.now c.args.site.now.catalog.workload.now c.args.site.now.objects.now c.args.place c.args.kind c.requires.site.declared c.requires.place, c.objects_are_of_their_kinds.ensures.there c.args.worker.now.at.home.now c.args.site.now.catalog.workload.now c.args.site.now.objects.now c.in-Cond.mutex kinds.Mutex c.requires.site.declared (mutex_of c.args.site.now.catalog.workload.now c.args.kind c.in-Cond.mutex c.in-Cond.is c.requires.reference))
+
+pub wait_for_at-requires-clause-atomics : goal.wait_for_at-requires-clause-atomics
+wait_for_at-requires-clause-atomics g c = has_atomics c.args.site.now.catalog.workload.now _ _ _ _ c.requires.site.shared c.requires.site.numbered
+
+pub wait_for_at-requires-clause-atomic : goal.wait_for_at-requires-clause-atomic
+wait_for_at-requires-clause-atomic g c = (awaits_at c.args.site.now.catalog.workload.now c.args.kind c.args.call c.requires.call c.in-WaitFor.atomic c.in-WaitFor.value c.in-WaitFor.tries c.in-WaitFor.is).1
+
+pub returns-in-Cond-clause-works : goal.returns-in-Cond-clause-works
+returns-in-Cond-clause-works g c =
+    λ before. wait_for_made c.args.site.now.catalog.workload.now c.args.worker.now.number before c.args.place _ _ _ c.args.kind c.args.call c.in-WaitFor.atomic c.in-WaitFor.value c.in-WaitFor.tries c.in-WaitFor.is c.in-Cond.mutex c.in-Cond.is c.wait_for_at.ensures.works

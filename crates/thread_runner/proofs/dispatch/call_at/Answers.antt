@@ -32,9 +32,6 @@ object_at-requires-clause-room g c = c.objects_are_of_their_kinds.ensures.there 
 pub atomic_at-requires-clause-atomics : goal.atomic_at-requires-clause-atomics
 atomic_at-requires-clause-atomics g c = has_atomics c.args.site.now.catalog.workload.now _ _ _ _ c.requires.site.shared c.requires.site.numbered
 
-pub composed_at-requires-clause-atomics : goal.composed_at-requires-clause-atomics
-composed_at-requires-clause-atomics g c = has_atomics c.args.site.now.catalog.workload.now _ _ _ _ c.requires.site.shared c.requires.site.numbered
-
 pub object_at-requires-clause-atomics : goal.object_at-requires-clause-atomics
 object_at-requires-clause-atomics g c = has_atomics c.args.site.now.catalog.workload.now _ _ _ _ c.requires.site.shared c.requires.site.numbered
 
@@ -45,7 +42,7 @@ pub returns-in-Atomic-clause-works : goal.returns-in-Atomic-clause-works
 returns-in-Atomic-clause-works g c = on_atomic c.args.site.now.catalog.workload.now c.args.worker.now.number _ c.args.place _ _ _ c.args.kind c.args.operation.now c.requires.call c.in-Atomic.call c.in-Atomic.is (c.atomic_at.ensures.works (owns_of c.args.passes.now))
 
 pub returns-in-Composed-clause-works : goal.returns-in-Composed-clause-works
-returns-in-Composed-clause-works g c = on_composed c.args.site.now.catalog.workload.now c.args.worker.now.number _ c.args.place _ _ _ c.args.kind c.args.operation.now c.requires.call c.in-Composed.call c.in-Composed.is (c.composed_at.ensures.works (owns_of c.args.passes.now) c.args.worker.now.number (length (items_of (g.S.Mark.Note.own c.args.caller.now.note))))
+returns-in-Composed-clause-works g c = on_composed c.args.site.now.catalog.workload.now c.args.worker.now.number _ c.args.place _ _ _ c.args.kind c.args.operation.now c.requires.call c.in-Composed.call c.in-Composed.is (c.composed_at.ensures.works (length (items_of (g.S.Mark.Note.own c.args.caller.now.note))))
 
 pub returns-in-Range-clause-works : goal.returns-in-Range-clause-works
 returns-in-Range-clause-works g c = IfSome_then c.range_at.result c.range_at.ensures.works (λ answer works. on_range c.args.site.now.catalog.workload.now c.args.worker.now.number _ c.args.place _ _ answer c.args.kind c.args.operation.now c.requires.call c.in-Range.is (works (owns_of c.args.passes.now)))
@@ -57,13 +54,13 @@ pub first_part_of-requires-clause-room : goal.first_part_of-requires-clause-room
 first_part_of-requires-clause-room g c = omega (arith, c.requires.site.declared.count)
 
 pub first_part_of-requires-clause-place : goal.first_part_of-requires-clause-place
-first_part_of-requires-clause-place g c = subst (λ (k : ObjectKind). IsAt c.args.site.now.catalog.workload.now c.args.place k) (of_pool c.args.kind c.args.operation.now c.in-Pool.call c.requires.call c.in-Pool.is) c.requires.place
+first_part_of-requires-clause-place g c = subst (λ (k : ObjectKind). IsAt c.args.site.now.catalog.workload.now c.args.place k) (of_pool c.args.site.now.catalog.workload.now c.args.kind c.args.operation.now c.in-Pool.call c.requires.call c.in-Pool.is) c.requires.place
 
 pub call_pool-requires-clause-parts : goal.call_pool-requires-clause-parts
 call_pool-requires-clause-parts g c =
     let plan = c.args.site.now.catalog.workload.now in
     let objects = c.args.site.now.objects.now in
-    let is = subst (λ (k : ObjectKind). IsAt plan c.args.place k) (of_pool c.args.kind c.args.operation.now c.in-Pool.call c.requires.call c.in-Pool.is) c.requires.place in
+    let is = subst (λ (k : ObjectKind). IsAt plan c.args.place k) (of_pool c.args.site.now.catalog.workload.now c.args.kind c.args.operation.now c.in-Pool.call c.requires.call c.in-Pool.is) c.requires.place in
     subst (λ (first : ℕ). ArePartsAt objects first c.args.worker.now.workers) (sym c.first_part_of.ensures)
     (λ part below. (c.objects_are_of_their_kinds.ensures.parts c.args.worker.now.at.home.now plan objects c.args.place part c.requires.site.declared is (omega (arith, below, c.requires.workers))).1)
 
@@ -71,7 +68,7 @@ pub call_pool-requires-clause-room : goal.call_pool-requires-clause-room
 call_pool-requires-clause-room g c =
     let plan = c.args.site.now.catalog.workload.now in
     let objects = c.args.site.now.objects.now in
-    let is = subst (λ (k : ObjectKind). IsAt plan c.args.place k) (of_pool c.args.kind c.args.operation.now c.in-Pool.call c.requires.call c.in-Pool.is) c.requires.place in
+    let is = subst (λ (k : ObjectKind). IsAt plan c.args.place k) (of_pool c.args.site.now.catalog.workload.now c.args.kind c.args.operation.now c.in-Pool.call c.requires.call c.in-Pool.is) c.requires.place in
     let last = (c.objects_are_of_their_kinds.ensures.parts c.args.worker.now.at.home.now plan objects c.args.place (plan.workers - 1) c.requires.site.declared is (omega (arith, c.requires.own, c.requires.workers))).0 in
     omega (arith, last, c.first_part_of.ensures, c.requires.own, c.requires.workers)
 
