@@ -31,7 +31,7 @@ use Rattle.run_record.specs.Parts.{Part, Places}
 use Rattle.run_record.specs.Tests.{holds, tests, compared, if_equal_call}
 use Rattle.run_record.specs.declared.made.Made.{Made}
 use Rattle.run_record.specs.declared.made.Made.TheVariants.{Shared, Entered}
-use Rattle.run_cuts.specs.Cuts.{whole, within, wrong, Cutter, Cuts, by_reply, place_cut, read_cut}
+use Rattle.run_cuts.specs.Cuts.{whole, within, wrong, Cutter, Cuts, by_reply, place_cut}
 use Rattle.run_cuts.specs.SharedCuts.{same_map_call, same_atomic_call, is_map_call, is_atomic_call, map_read, atomic_read, sum_read, map_cut, atomic_cut, adds_cut, tests_cut, if_equal_cut}
 use Rattle.run_cuts.proofs.CutLemmas.{read_cuts, same_whole, within_whole, wrong_whole, whole_within, whole_wrong, within_wrong, wrong_within}
 

@@ -1,7 +1,6 @@
 -- That a `waitfor` is cut as it is spelt.
-use Rattle.std.proofs.Common.{ℕ, zero, suc, Bool, true, false, List, [], ◌++◌, refl}
+use Rattle.std.proofs.Common.{ℕ, zero, suc, Bool, true, false, List, [], refl}
 use Rattle.std.specs.Prelude.{Ok}
-use Rattle.script_calls.specs.declared.call.Reply.{Reply}
 use Rattle.sync_model.specs.declared.answer.Answer.TheVariants.{Done}
 use Rattle.sync_types.specs.declared.atomic_object.Number.{Number}
 use Rattle.sync_types.specs.declared.wait_call.CondCall.TheVariants.{Wait}

@@ -1,7 +1,7 @@
 //! What the items of a call are.
 ghost use Rattle.std.specs.Prelude.{◌≡◌, ◌≢◌, ℕ, ℤ, ◌+◌, ◌≤◌, Bool, false, List, [], ◌∷◌, ◌++◌, length, Some, Ok, Err, slice_get};
-ghost use Rattle.protocols.specs.Spelling.{CallAnswer};
 ghost use Rattle.sync_types.specs.declared.misuse.Misuse.{Misuse};
+ghost use Rattle.protocols.specs.Spelling.{CallAnswer};
 ghost use Rattle.workload.specs.Plan.{Plan};
 ghost use Rattle.run_record.specs.Calls.{SpellsCall};
 ghost use Rattle.run_record.specs.Objects.{atomic_number};
