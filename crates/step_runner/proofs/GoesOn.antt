@@ -9,7 +9,7 @@ use Rattle.sync_types.specs.declared.atomic_object.AtomicCall.TheVariants.{Load,
 use Rattle.sync_types.specs.declared.atomic_object.AtomicReply.TheVariants as atomic_replies
 use Rattle.sync_types.specs.declared.atomic_object.Number.TheVariants.{Int64}
 use Rattle.script_calls.specs.declared.call.Call.{Call}
-use Rattle.script_calls.specs.declared.call.ComposedCall.TheVariants.{IfEqual}
+use Rattle.script_calls.specs.declared.call.ComposedCall.TheVariants.{IfEqual, WaitFor}
 use Rattle.script_calls.specs.declared.call.Operation.{Operation}
 use Rattle.script_calls.specs.declared.call.Operation.TheVariants as operations
 use Rattle.script_calls.specs.declared.call.Reply.{Reply}
@@ -78,7 +78,7 @@ use Rattle.step_runner.specs.Left.{mutex_waits, rw_waits, rw_later, mutex_left, 
 use Rattle.step_runner.proofs.SpeltAtObjects.{left_alone, left_referring}
 use Rattle.step_runner.proofs.PlacedSpelled.{places}
 use Rattle.step_runner.proofs.Spelled.{refused}
-use Rattle.step_runner.proofs.TurnOwn.{Pair, only_pairs, cond_refers, once_refers}
+use Rattle.step_runner.proofs.TurnOwn.{Pair, only_pairs, cond_refers, once_refers, wait_for_alone}
 
 -- some items spell it
 abbrev pub CanBe : {O : Type 0} → Part O → Type 0
@@ -187,6 +187,7 @@ module _ (plan : Plan) (x before place : ℕ) where
   on_can (operations.Pool pool_calls.Get) (states.Pool p) has alone = found_can x (first_part plan place) (record_pool.looks_of plan.workers x)
   on_can (operations.Cond call) o has alone = absurd (cond_refers o call has alone)
   on_can operations.Once o has alone = absurd (once_refers o has alone)
+  on_can (operations.Composed (WaitFor atomic value tries)) o has alone = absurd (wait_for_alone o atomic tries value has)
   on_can operation o has alone = absurd cc
 
   both_can : (other : ℕ) (operation : Operation) (o target : ObjectState) → Pair operation o target → CanBe (left_on_both plan x before place other operation o target)

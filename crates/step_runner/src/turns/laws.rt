@@ -37,7 +37,7 @@ use sync_types::Name;
 use sync_types::laws::atomics::calls_keep_the_type;
 
 /// An object begins as one of its kind, with a machine that is ready for the workers' turns. A turn keeps
-/// the kind of each object, and leaves each machine ready. So what is ready for a turn stays so behind another one.
+/// the kind of each object, and leaves each machine ready; so whoever is ready for a call is ready behind it.
 pub fn turns_keep_kinds_and_machines()
     ensures begins { (workers room : ℕ) (kind : ObjectKind) → (kind_of (new_object workers room kind) ≡ kind) × IsMachineOf workers (new_object workers room kind) }
     ensures kinds { (workers worker moment : ℕ) (call : Call) (objects : List ObjectState) → IsReady workers worker call objects → map kind_of (turn_at call worker moment objects).0 ≡ map kind_of objects }
