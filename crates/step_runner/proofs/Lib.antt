@@ -61,3 +61,9 @@ mod RwSpelled
 mod Spelled
 mod TurnOwn
 mod WaitSpelled
+mod TurnsWithin
+mod WaitTurns
+mod WithinKeeps
+mod WithinLeft
+mod WithinLemmas
+mod WithinUses
