@@ -12,8 +12,10 @@ pub mod pool_turn;
 pub mod stages;
 pub mod turn;
 pub mod wait_turn;
+pub mod within;
 
 pub use answer::Answer;
 pub use object_state::ObjectState;
 pub use stages::Taker;
 pub use turn::take_turn_at;
+pub use within::take_turn_within;
