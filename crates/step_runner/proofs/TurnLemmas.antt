@@ -150,7 +150,7 @@ may_load : (value : Number) (kind : ObjectKind) → may_hold value kind ≡ true
 may_load value (kinds.Atomic kind) is = refl
 may_load value kind is = absurd cc
 
-Loads : Option ObjectState → Type 0
+abbrev Loads : Option ObjectState → Type 0
 Loads o = (object : ObjectState) × (o ≡ Some object) × (has_call (kind_of object) (operations.Atomic Load) ≡ true)
 
 loads : (o : Option ObjectState) (l : Option ObjectLine) (value : Number) → option_map kind_of o ≡ option_map (λ (line : ObjectLine). line.kind) l → option_map_or (λ (line : ObjectLine). may_hold value line.kind) l false ≡ true → Loads o

@@ -1,6 +1,5 @@
 //! The turn of a worker that stands before a call or within it.
 ghost use Rattle.std.specs.Prelude.{◌≡◌, ◌≤◌, IfOk};
-ghost use Rattle.workload.specs.Draft.{tries_of};
 ghost use Rattle.step_runner.specs.StandsWithin.{IsReadyWithin};
 ghost use Rattle.step_runner.specs.TurnWithin.{turn_within};
 
@@ -20,7 +19,6 @@ pub fn take_turn_within(
 ) -> Result<(u32, Answer), AllocError>
     requires ready { IsReadyWithin taker.workers taker.worker call.now objects.old }
     requires few { taker.workers ≤ 64 }
-    requires begun { begun ≤ tries_of call.now.operation }
     ensures { IfOk result (λ taken. turn_within call.now taker.worker taker.moment begun objects.old ≡ ((objects.new, taken.0), taken.1)) }
 {
     let answer = take_turn_at(alloc, objects, call, taker)?;
