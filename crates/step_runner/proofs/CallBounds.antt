@@ -34,14 +34,14 @@ use Rattle.step_runner.proofs.TurnLemmas.{Takes, takes_by, turn_cases, moved, re
 -- what the laws of turns say
 pub record CallLaws : Type 0 where
   pub most : (worker : ℕ) (call : Call) (objects : List ObjectState) → turns_left (map kind_of objects) call worker objects ≤ 4
-  pub own : (workers worker moment : ℕ) (call : Call) (objects : List ObjectState) → IsReady workers worker call objects
-      → TakesBy (goes_back (items_at call worker moment objects)) (turns_left (map kind_of objects) call worker objects) (turns_left (map kind_of objects) call worker (turn_at call worker moment objects).0) (turn_at call worker moment objects).1
-  pub others : (workers worker other moment : ℕ) (own call : Call) (objects : List ObjectState) → IsReady workers other call objects → worker ≢ other
-      → turns_left (map kind_of objects) own worker (turn_at call other moment objects).0 ≤ turns_left (map kind_of objects) own worker objects
-  pub told_before : (workers worker moment : ℕ) (call : Call) (objects : List ObjectState) → IsReady workers worker call objects
-      → TellsOwn (goes_back (items_at call worker moment objects)) (is_told (map kind_of objects) call worker objects) (is_told (map kind_of objects) call worker (turn_at call worker moment objects).0)
-  pub told_by : (workers worker other moment : ℕ) (own call : Call) (objects : List ObjectState) → IsReady workers other call objects → worker ≢ other
-      → is_told (map kind_of objects) own worker objects ≡ false → is_told (map kind_of objects) own worker (turn_at call other moment objects).0 ≡ true → unlocks (items_at call other moment objects) ≡ true
+  pub own : (workers worker moment begun : ℕ) (call : Call) (objects : List ObjectState) → IsReadyWithin workers worker call objects
+      → TakesBy (goes_back (items_within call worker moment begun objects)) (turns_left (map kind_of objects) call worker objects) (turns_left (map kind_of objects) call worker (turn_within call worker moment begun objects).0.0) (turn_within call worker moment begun objects).1
+  pub others : (workers worker other moment : ℕ) (own call : Call) (objects : List ObjectState) → IsReadyWithin workers other call objects → worker ≢ other
+      → turns_left (map kind_of objects) own worker (turn_within call other moment begun objects).0.0 ≤ turns_left (map kind_of objects) own worker objects
+  pub told_before : (workers worker moment begun : ℕ) (call : Call) (objects : List ObjectState) → IsReadyWithin workers worker call objects
+      → TellsOwn (goes_back (items_within call worker moment begun objects)) (is_told (map kind_of objects) call worker objects) (is_told (map kind_of objects) call worker (turn_within call worker moment begun objects).0.0)
+  pub told_by : (workers worker other moment : ℕ) (own call : Call) (objects : List ObjectState) → IsReadyWithin workers other call objects → worker ≢ other
+      → is_told (map kind_of objects) own worker objects ≡ false → is_told (map kind_of objects) own worker (turn_within call other moment begun objects).0.0 ≡ true → unlocks (items_within call other moment begun objects) ≡ true
   pub untold : (worker : ℕ) (object : ObjectState) → IsOutAt worker object → told_at worker object ≡ false
 
 -- a turn without an event changes nothing
@@ -185,53 +185,53 @@ module _ (plan : Plan) (worker number : ℕ) where
       abbrev done : List (Reply (List ℕ))
       done = get_or s.replies worker []
 
-      eased : (call : Call) (objects : List ObjectState) (answer : Answer) → Takes plan by s call objects answer → most_by done objects ≤ most_by done s.objects
+      eased : (call : Call) (objects : List ObjectState) (waits : ℕ) (answer : Answer) → Takes plan by s call objects waits answer → most_by done objects ≤ most_by done s.objects
       eased call objects answer takes = most_less done s.objects objects (by_own (slice_get (left_of (get_or plan.scripts worker []) done) 0))
         where
           by_own : (o : Option Call) → option_map_or (λ call. turns_left (kinds_in plan) call worker objects) o 0 ≤ option_map_or (λ call. turns_left (kinds_in plan) call worker s.objects) o 0
           by_own None = omega arith
           by_own (Some own) = subst (λ (ks : List ObjectKind). turns_left ks own worker objects ≤ turns_left ks own worker s.objects) of.objects
-              (takes_by (λ y. turns_left (map kind_of s.objects) own worker y.0 ≤ turns_left (map kind_of s.objects) own worker s.objects) plan by s call objects answer of takes
+              (takes_by (λ y. turns_left (map kind_of s.objects) own worker y.0 ≤ turns_left (map kind_of s.objects) own worker s.objects) plan by s call objects waits answer of takes
               (λ r. laws.others plan.workers worker by s.moment own call s.objects r apart))
 
       other_few : behind (turn_of plan by s) most ≤ most s
       other_few = turn_cases (λ x. behind x most ≤ most s) plan by s of (record {
         ended = λ is. omega arith;
-        still = λ call objects takes. eased call objects answers.Still takes;
-        unfinished = λ call objects takes. eased call objects answers.Unfinished takes;
-        completed = λ call objects reply takes. subst (λ (replies : List (Reply (List ℕ))). most_by replies objects ≤ most s) (sym (replied_other by worker reply (moved objects s) apart)) (eased call objects (answers.Completed reply) takes);
-        misused = λ call objects misuse takes. omega arith;
+        still = λ call objects waits takes. eased call objects answers.Still takes;
+        unfinished = λ call objects waits takes. eased call objects answers.Unfinished takes;
+        completed = λ call objects waits reply takes. subst (λ (replies : List (Reply (List ℕ))). most_by replies objects ≤ most s) (sym (replied_other by worker reply (moved objects s) apart)) (eased call objects (answers.Completed reply) takes);
+        misused = λ call objects waits misuse takes. omega arith;
       })
 
-      tells : (call : Call) (objects : List ObjectState) (answer : Answer) → Takes plan by s call objects answer → told_by done s.objects ≡ false → told_by done objects ≡ true → unlocks (made_by plan by s) ≡ true
+      tells : (call : Call) (objects : List ObjectState) (waits : ℕ) (answer : Answer) → Takes plan by s call objects waits answer → told_by done s.objects ≡ false → told_by done objects ≡ true → unlocks (made_by plan by s) ≡ true
       tells call objects answer takes = by_own (slice_get (left_of (get_or plan.scripts worker []) done) 0)
         where
-          made : made_by plan by s ≡ items_at call by s.moment s.objects
-          made = ap (λ (o : Option Call). option_map_or (λ call. items_at call by s.moment s.objects) o []) takes.next
+          made : made_by plan by s ≡ items_within call by s.moment (begun_by by s) s.objects
+          made = ap (λ (o : Option Call). option_map_or (λ call. items_within call by s.moment (begun_by by s) s.objects) o []) takes.next
 
           by_own : (o : Option Call) → option_map_or (λ call. is_told (kinds_in plan) call worker s.objects) o false ≡ false → option_map_or (λ call. is_told (kinds_in plan) call worker objects) o false ≡ true → unlocks (made_by plan by s) ≡ true
           by_own None = λ was now. no now
           by_own (Some own) = subst (λ (ks : List ObjectKind). is_told ks own worker s.objects ≡ false → is_told ks own worker objects ≡ true → unlocks (made_by plan by s) ≡ true) of.objects
-              (takes_by (λ y. is_told (map kind_of s.objects) own worker s.objects ≡ false → is_told (map kind_of s.objects) own worker y.0 ≡ true → unlocks (made_by plan by s) ≡ true) plan by s call objects answer of takes
+              (takes_by (λ y. is_told (map kind_of s.objects) own worker s.objects ≡ false → is_told (map kind_of s.objects) own worker y.0 ≡ true → unlocks (made_by plan by s) ≡ true) plan by s call objects waits answer of takes
               (λ r was now. ap unlocks made ∙ laws.told_by plan.workers worker by s.moment own call s.objects r apart was now))
 
       abbrev Wakes : State → Type 0
       Wakes t = told t ≤ one_if (not (by == worker) && (stands_before worker number s && (unlocks (made_by plan by s) && (not (was_told plan worker s) && was_told plan worker t)))) + told s
 
-      woken : (call : Call) (objects : List ObjectState) (answer : Answer) → Takes plan by s call objects answer → Wakes (moved objects s)
+      woken : (call : Call) (objects : List ObjectState) (waits : ℕ) (answer : Answer) → Takes plan by s call objects waits answer → Wakes (moved objects s)
       woken call objects answer takes =
           other_told (by == worker) (length done == number) (unlocks (made_by plan by s)) (told_by done s.objects) (told_by done objects) (not_same by worker (λ same. apart (sym same))) (tells call objects answer takes)
 
       other_woken : behind (turn_of plan by s) told ≤ one_if (wakes plan worker number by s) + told s
       other_woken = turn_cases (λ x. behind x told ≤ one_if (not (by == worker) && (stands_before worker number s && (unlocks (made_by plan by s) && (not (was_told plan worker s) && was_told plan worker x.0)))) + told s) plan by s of (record {
         ended = λ is. omega arith;
-        still = λ call objects takes. woken call objects answers.Still takes;
-        unfinished = λ call objects takes. woken call objects answers.Unfinished takes;
-        completed = λ call objects reply takes.
+        still = λ call objects waits takes. woken call objects answers.Still takes;
+        unfinished = λ call objects waits takes. woken call objects answers.Unfinished takes;
+        completed = λ call objects waits reply takes.
             subst (λ (replies : List (Reply (List ℕ))). one_if ((length replies == number) && told_by replies objects)
             ≤ one_if (not (by == worker) && (stands_before worker number s && (unlocks (made_by plan by s) && (not (was_told plan worker s) && told_by replies objects)))) + told s)
             (sym (replied_other by worker reply (moved objects s) apart)) (woken call objects (answers.Completed reply) takes);
-        misused = λ call objects misuse takes. omega arith;
+        misused = λ call objects waits misuse takes. omega arith;
       })
 
     -- ---- the worker's own turn
@@ -240,19 +240,19 @@ module _ (plan : Plan) (worker number : ℕ) where
       abbrev own_done : List (Reply (List ℕ))
       own_done = get_or s.replies worker []
 
-      own_made : (call : Call) → next_call plan worker s ≡ Some call → made_by plan worker s ≡ items_at call worker s.moment s.objects
-      own_made call next = ap (λ (o : Option Call). option_map_or (λ call. items_at call worker s.moment s.objects) o []) next
+      own_made : (call : Call) → next_call plan worker s ≡ Some call → made_by plan worker s ≡ items_within call worker s.moment (begun_by worker s) s.objects
+      own_made call next = ap (λ (o : Option Call). option_map_or (λ call. items_within call worker s.moment (begun_by worker s) s.objects) o []) next
 
       own_left : (call : Call) (objects : List ObjectState) → next_call plan worker s ≡ Some call → left_by own_done objects ≡ turns_left (kinds_in plan) call worker objects
       own_left call objects next = ap (λ (o : Option Call). option_map_or (λ call. turns_left (kinds_in plan) call worker objects) o 0) next
 
-      own_takes : (call : Call) (objects : List ObjectState) (answer : Answer) → Takes plan worker s call objects answer → TakesBy (goes_back (made_by plan worker s)) (left_by own_done s.objects) (left_by own_done objects) answer
+      own_takes : (call : Call) (objects : List ObjectState) (waits : ℕ) (answer : Answer) → Takes plan worker s call objects waits answer → TakesBy (goes_back (made_by plan worker s)) (left_by own_done s.objects) (left_by own_done objects) answer
       own_takes call objects answer takes =
           subst (λ (made : List Item). TakesBy (goes_back made) (left_by own_done s.objects) (left_by own_done objects) answer) (sym (own_made call takes.next))
-          (subst (λ (n : ℕ). TakesBy (goes_back (items_at call worker s.moment s.objects)) n (left_by own_done objects) answer) (sym (own_left call s.objects takes.next))
-          (subst (λ (n : ℕ). TakesBy (goes_back (items_at call worker s.moment s.objects)) (turns_left (kinds_in plan) call worker s.objects) n answer) (sym (own_left call objects takes.next))
-          (subst (λ (ks : List ObjectKind). TakesBy (goes_back (items_at call worker s.moment s.objects)) (turns_left ks call worker s.objects) (turns_left ks call worker objects) answer) of.objects
-          (takes_by (λ y. TakesBy (goes_back (items_at call worker s.moment s.objects)) (turns_left (map kind_of s.objects) call worker s.objects) (turns_left (map kind_of s.objects) call worker y.0) y.1) plan worker s call objects answer of takes
+          (subst (λ (n : ℕ). TakesBy (goes_back (items_within call worker s.moment (begun_by worker s) s.objects)) n (left_by own_done objects) answer) (sym (own_left call s.objects takes.next))
+          (subst (λ (n : ℕ). TakesBy (goes_back (items_within call worker s.moment (begun_by worker s) s.objects)) (turns_left (kinds_in plan) call worker s.objects) n answer) (sym (own_left call objects takes.next))
+          (subst (λ (ks : List ObjectKind). TakesBy (goes_back (items_within call worker s.moment (begun_by worker s) s.objects)) (turns_left ks call worker s.objects) (turns_left ks call worker objects) answer) of.objects
+          (takes_by (λ y. TakesBy (goes_back (items_within call worker s.moment (begun_by worker s) s.objects)) (turns_left (map kind_of s.objects) call worker s.objects) (turns_left (map kind_of s.objects) call worker y.0) y.1) plan worker s call objects waits answer of takes
           (λ r. laws.own plan.workers worker s.moment call s.objects r)))))
 
       some_left : (call : Call) → next_call plan worker s ≡ Some call → 1 ≤ left_by own_done s.objects
@@ -290,13 +290,13 @@ module _ (plan : Plan) (worker number : ℕ) where
       here : (length own_done == number) ≡ true → advance (turn_of plan worker s).1 + behind (turn_of plan worker s) most ≤ most s
       here is = turn_cases (λ x. advance x.1 + behind x most ≤ most s) plan worker s of (record {
         ended = λ none. omega (arith, none_still (worker == worker) (stands_before worker number s) (not (goes_back (made_by plan worker s))));
-        still = λ call objects takes. omega (
+        still = λ call objects waits takes. omega (
           arith,
           none_still (worker == worker) (stands_before worker number s) (not (goes_back (made_by plan worker s))),
-          ap most (same plan worker s (moved objects s) of (turn_before plan worker s call objects answers.Still takes.next takes.turn)),
+          ap most (same plan worker s (moved objects s) of (turn_before plan worker s call objects waits answers.Still takes.next takes.turn)),
         );
-        unfinished = λ call objects takes. unfinished (goes_back (made_by plan worker s)) objects refl (own_takes call objects answers.Unfinished takes);
-        completed = λ call objects reply takes. omega (
+        unfinished = λ call objects waits takes. unfinished (goes_back (made_by plan worker s)) objects refl (own_takes call objects answers.Unfinished takes);
+        completed = λ call objects waits reply takes. omega (
           arith,
           at,
           most_at own_done s.objects at,
@@ -304,7 +304,7 @@ module _ (plan : Plan) (worker number : ℕ) where
           one_most ((worker == worker) && (stands_before worker number s && (true && not (goes_back (made_by plan worker s))))),
           most_past (get_or (with_reply worker reply (moved objects s)).replies worker []) objects (omega (arith, at, replied_more worker reply (moved objects s) (omega (arith, of.workers, takes.below)))),
         );
-        misused = λ call objects misuse takes. omega (
+        misused = λ call objects waits misuse takes. omega (
           arith,
           most_at own_done s.objects at,
           some_left call takes.next,
@@ -335,17 +335,17 @@ module _ (plan : Plan) (worker number : ℕ) where
       ] refl
 
       -- whether it was told, by its own turn
-      own_tells : (call : Call) (objects : List ObjectState) (answer : Answer) → Takes plan worker s call objects answer → TellsOwn (goes_back (made_by plan worker s)) (told_by own_done s.objects) (told_by own_done objects)
+      own_tells : (call : Call) (objects : List ObjectState) (waits : ℕ) (answer : Answer) → Takes plan worker s call objects waits answer → TellsOwn (goes_back (made_by plan worker s)) (told_by own_done s.objects) (told_by own_done objects)
       own_tells call objects answer takes =
-          subst (λ (o : Option Call). TellsOwn (goes_back (option_map_or (λ call. items_at call worker s.moment s.objects) o [])) (option_map_or (λ call. is_told (kinds_in plan) call worker s.objects) o false) (option_map_or (λ call. is_told (kinds_in plan) call worker objects) o false)) (sym takes.next)
-          (subst (λ (ks : List ObjectKind). TellsOwn (goes_back (items_at call worker s.moment s.objects)) (is_told ks call worker s.objects) (is_told ks call worker objects)) of.objects
-          (takes_by (λ y. TellsOwn (goes_back (items_at call worker s.moment s.objects)) (is_told (map kind_of s.objects) call worker s.objects) (is_told (map kind_of s.objects) call worker y.0)) plan worker s call objects answer of takes
+          subst (λ (o : Option Call). TellsOwn (goes_back (option_map_or (λ call. items_within call worker s.moment (begun_by worker s) s.objects) o [])) (option_map_or (λ call. is_told (kinds_in plan) call worker s.objects) o false) (option_map_or (λ call. is_told (kinds_in plan) call worker objects) o false)) (sym takes.next)
+          (subst (λ (ks : List ObjectKind). TellsOwn (goes_back (items_within call worker s.moment (begun_by worker s) s.objects)) (is_told ks call worker s.objects) (is_told ks call worker objects)) of.objects
+          (takes_by (λ y. TellsOwn (goes_back (items_within call worker s.moment (begun_by worker s) s.objects)) (is_told (map kind_of s.objects) call worker s.objects) (is_told (map kind_of s.objects) call worker y.0)) plan worker s call objects waits answer of takes
           (λ r. laws.told_before plan.workers worker s.moment call s.objects r)))
 
       abbrev returned : ℕ
       returned = one_if ((worker == worker) && (stands_before worker number s && goes_back (made_by plan worker s)))
 
-      kept : (call : Call) (objects : List ObjectState) (answer : Answer) → Takes plan worker s call objects answer → returned + told (moved objects s) ≤ told s
+      kept : (call : Call) (objects : List ObjectState) (waits : ℕ) (answer : Answer) → Takes plan worker s call objects waits answer → returned + told (moved objects s) ≤ told s
       kept call objects answer takes = own_told (worker == worker) (length own_done == number) (goes_back (made_by plan worker s)) (told_by own_done s.objects) (told_by own_done objects) (own_tells call objects answer takes)
 
       -- at objects at which it is out
@@ -360,23 +360,23 @@ module _ (plan : Plan) (worker number : ℕ) where
           by_call None = refl
           by_call (Some call) = let k = unwrap_or (refers_to (kinds_in plan) call) call.object in by_object k (slice_get objects k) refl
 
-      own_woken : ((call : Call) (objects : List ObjectState) (reply : Reply (List ℕ)) → Takes plan worker s call objects (answers.Completed reply) → IsOutBut None worker objects) → returned + behind (turn_of plan worker s) told ≤ told s
+      own_woken : ((call : Call) (objects : List ObjectState) (waits : ℕ) (reply : Reply (List ℕ)) → Takes plan worker s call objects waits (answers.Completed reply) → IsOutBut None worker objects) → returned + behind (turn_of plan worker s) told ≤ told s
       own_woken outs = turn_cases (λ x. returned + behind x told ≤ told s) plan worker s of (record {
         ended = λ none. own_told (worker == worker) (length own_done == number) (goes_back (made_by plan worker s)) (told_by own_done s.objects) (told_by own_done s.objects) (nothing none);
-        still = λ call objects takes. kept call objects answers.Still takes;
-        unfinished = λ call objects takes. kept call objects answers.Unfinished takes;
-        completed = λ call objects reply takes.
+        still = λ call objects waits takes. kept call objects answers.Still takes;
+        unfinished = λ call objects waits takes. kept call objects answers.Unfinished takes;
+        completed = λ call objects waits reply takes.
             let after = get_or (with_reply worker reply (moved objects s)).replies worker [] in
             omega (
               arith,
               kept call objects (answers.Completed reply) takes,
               told_none (length after == number) (told_by after objects) (out_everywhere objects (outs call objects reply takes) after),
             );
-        misused = λ call objects misuse takes. omega (arith, kept call objects (answers.Misused misuse) takes);
+        misused = λ call objects waits misuse takes. omega (arith, kept call objects (answers.Misused misuse) takes);
       })
         where
           nothing : next_call plan worker s ≡ None → TellsOwn (goes_back (made_by plan worker s)) (told_by own_done s.objects) (told_by own_done s.objects)
-          nothing none = subst (λ (o : Option Call). TellsOwn (goes_back (option_map_or (λ call. items_at call worker s.moment s.objects) o [])) (told_by own_done s.objects) (told_by own_done s.objects)) (sym none) (λ was. was)
+          nothing none = subst (λ (o : Option Call). TellsOwn (goes_back (option_map_or (λ call. items_within call worker s.moment (begun_by worker s) s.objects) o [])) (told_by own_done s.objects) (told_by own_done s.objects)) (sym none) (λ was. was)
 
           told_none : (a b : Bool) → b ≡ false → one_if (a && b) ≡ 0
           told_none true b e = ap one_if e
@@ -399,7 +399,7 @@ module _ (plan : Plan) (worker number : ℕ) where
     turn_woken stands same by s h = elim (by == worker) as (λ b. (by == worker) ≡ b → one_if (requeues plan worker number by s) + behind (turn_of plan by s) told ≤ one_if (wakes plan worker number by s) + told s) [
       | true ↦ λ e. let same_worker : worker ≡ by = sym (eqb-true by worker e) in
           subst (λ (w : ℕ). one_if (requeues plan worker number w s) + behind (turn_of plan w s) told ≤ one_if (wakes plan worker number w s) + told s) same_worker
-          (omega (arith, own_woken same s h.of (λ call objects reply takes. own_at stands plan worker s h call objects (answers.Completed reply) takes)))
+          (omega (arith, own_woken same s h.of (λ call objects waits reply takes. own_at stands plan worker s h call objects waits (answers.Completed reply) takes)))
       | false ↦ λ e. omega (
         arith,
         none_by (by == worker) (stands_before worker number s && goes_back (made_by plan by s)) e,

@@ -37,12 +37,12 @@ use Rattle.step_runner.proofs.RunLemmas.{GoesOn, moment_valid, Kept, items_keep,
 -- what the law of turns says
 pub record TurnStands : Type 0 where
   pub begins : (worker workers room : ℕ) (kind : ObjectKind) → IsOutAt worker (new_object workers room kind)
-  pub forms : (workers worker moment : ℕ) (call : Call) (objects : List ObjectState) → IsReady workers worker call objects → IsOutBut (waits_at (map kind_of objects) call) worker objects
-      → HasForm call.operation (turn_at call worker moment objects).1
-  pub own : (workers worker moment : ℕ) (call : Call) (objects : List ObjectState) → IsReady workers worker call objects → IsOutBut (waits_at (map kind_of objects) call) worker objects
-      → IsOutBut (waits_behind (turn_at call worker moment objects).1 (waits_at (map kind_of objects) call)) worker (turn_at call worker moment objects).0
-  pub others : (workers worker other moment : ℕ) (call : Call) (but : Option ℕ) (objects : List ObjectState) → IsReady workers other call objects → worker ≢ other → IsOutBut but worker objects
-      → IsOutBut but worker (turn_at call other moment objects).0
+  pub forms : (workers worker moment begun : ℕ) (call : Call) (objects : List ObjectState) → IsReadyWithin workers worker call objects → IsOutBut (waits_at (map kind_of objects) call) worker objects
+      → HasForm call.operation (turn_within call worker moment begun objects).1
+  pub own : (workers worker moment begun : ℕ) (call : Call) (objects : List ObjectState) → IsReadyWithin workers worker call objects → IsOutBut (waits_at (map kind_of objects) call) worker objects
+      → IsOutBut (waits_behind (turn_within call worker moment begun objects).1 (waits_at (map kind_of objects) call)) worker (turn_within call worker moment begun objects).0.0
+  pub others : (workers worker other moment begun : ℕ) (call : Call) (but : Option ℕ) (objects : List ObjectState) → IsReadyWithin workers other call objects → worker ≢ other → IsOutBut but worker objects
+      → IsOutBut but worker (turn_within call other moment begun objects).0.0
 
 -- ---- replies in a list
 
@@ -115,30 +115,30 @@ out_anywhere but worker objects out place object at ne = out place object at (λ
 
 module _ (laws : TurnStands) (plan : Plan) (by : ℕ) (s : State) (h : Standing plan s) where
   -- the worker that took the turn
-  pub own_at : (call : Call) (objects : List ObjectState) (answer : Answer) → Takes plan by s call objects answer → IsOutBut (waits_behind answer (waits_at (kinds_in plan) call)) by objects
+  pub own_at : (call : Call) (objects : List ObjectState) (waits : ℕ) (answer : Answer) → Takes plan by s call objects waits answer → IsOutBut (waits_behind answer (waits_at (kinds_in plan) call)) by objects
   own_at call objects answer takes =
-      takes_by (λ x. IsOutBut (waits_behind x.1 (waits_at (kinds_in plan) call)) by x.0) plan by s call objects answer h.of takes
-      (λ r. subst (λ (ks : List ObjectKind). IsOutBut (waits_at ks call) by s.objects → IsOutBut (waits_behind (turn_at call by s.moment s.objects).1 (waits_at ks call)) by (turn_at call by s.moment s.objects).0) h.of.objects
+      takes_by (λ x. IsOutBut (waits_behind x.1 (waits_at (kinds_in plan) call)) by x.0) plan by s call objects waits answer h.of takes
+      (λ r. subst (λ (ks : List ObjectKind). IsOutBut (waits_at ks call) by s.objects → IsOutBut (waits_behind (turn_within call by s.moment (begun_by by s) s.objects).1 (waits_at ks call)) by (turn_within call by s.moment (begun_by by s) s.objects).0) h.of.objects
       (laws.own plan.workers by s.moment call s.objects r) (stands call takes))
     where
-      stands : (call : Call) → {objects : List ObjectState} {answer : Answer} → Takes plan by s call objects answer → IsOutBut (waits_at (kinds_in plan) call) by s.objects
+      stands : (call : Call) → {objects : List ObjectState} {answer : Answer} → Takes plan by s call objects waits answer → IsOutBut (waits_at (kinds_in plan) call) by s.objects
       stands call takes = subst (λ (o : Option Call). IsOutBut (option_map_or (λ c. waits_at (kinds_in plan) c) o None) by s.objects) takes.next (h.out by)
 
-  form_at : (call : Call) (objects : List ObjectState) (answer : Answer) → Takes plan by s call objects answer → HasForm call.operation answer
+  form_at : (call : Call) (objects : List ObjectState) (waits : ℕ) (answer : Answer) → Takes plan by s call objects waits answer → HasForm call.operation answer
   form_at call objects answer takes =
-      takes_by (λ x. HasForm call.operation x.1) plan by s call objects answer h.of takes
+      takes_by (λ x. HasForm call.operation x.1) plan by s call objects waits answer h.of takes
       (λ r. laws.forms plan.workers by s.moment call s.objects r
       (subst (λ (ks : List ObjectKind). IsOutBut (waits_at ks call) by s.objects) (sym h.of.objects)
       (subst (λ (o : Option Call). IsOutBut (option_map_or (λ c. waits_at (kinds_in plan) c) o None) by s.objects) takes.next (h.out by))))
 
   -- another worker
-  other_at : (worker : ℕ) (call : Call) (objects : List ObjectState) (answer : Answer) → worker ≢ by → Takes plan by s call objects answer → IsOutBut (awaited plan worker s) worker objects
+  other_at : (worker : ℕ) (call : Call) (objects : List ObjectState) (waits : ℕ) (answer : Answer) → worker ≢ by → Takes plan by s call objects waits answer → IsOutBut (awaited plan worker s) worker objects
   other_at worker call objects answer apart takes =
-      takes_by (λ x. IsOutBut (awaited plan worker s) worker x.0) plan by s call objects answer h.of takes
+      takes_by (λ x. IsOutBut (awaited plan worker s) worker x.0) plan by s call objects waits answer h.of takes
       (λ r. laws.others plan.workers worker by s.moment call (awaited plan worker s) s.objects r apart (h.out worker))
 
   -- behind a turn that completes no call
-  unchanged : (worker : ℕ) (call : Call) (objects : List ObjectState) (answer : Answer) → waits_behind answer (waits_at (kinds_in plan) call) ≡ waits_at (kinds_in plan) call → Takes plan by s call objects answer
+  unchanged : (worker : ℕ) (call : Call) (objects : List ObjectState) (waits : ℕ) (answer : Answer) → waits_behind answer (waits_at (kinds_in plan) call) ≡ waits_at (kinds_in plan) call → Takes plan by s call objects waits answer
       → IsOutBut (awaited plan worker s) worker objects
   unchanged worker call objects answer same takes = elim (eqb worker by) as (λ b. eqb worker by ≡ b → IsOutBut (awaited plan worker s) worker objects) [
     | true ↦ λ e.
@@ -150,7 +150,7 @@ module _ (laws : TurnStands) (plan : Plan) (by : ℕ) (s : State) (h : Standing 
   ] refl
 
   -- behind one that completes its call
-  replied : (worker : ℕ) (call : Call) (objects : List ObjectState) (reply : Reply (List ℕ)) → Takes plan by s call objects (answers.Completed reply)
+  replied : (worker : ℕ) (call : Call) (objects : List ObjectState) (waits : ℕ) (reply : Reply (List ℕ)) → Takes plan by s call objects waits (answers.Completed reply)
       → IsOutBut (awaited plan worker (with_reply by reply (moved objects s))) worker objects
   replied worker call objects reply takes = elim (eqb worker by) as (λ b. eqb worker by ≡ b → IsOutBut (awaited plan worker (with_reply by reply (moved objects s))) worker objects) [
     | true ↦ λ e.
@@ -166,19 +166,19 @@ module _ (laws : TurnStands) (plan : Plan) (by : ℕ) (s : State) (h : Standing 
   pub turn_out : (worker : ℕ) → IsOutBut (awaited plan worker (turn_of plan by s).0) worker (turn_of plan by s).0.objects
   turn_out worker = turn_cases (λ step. IsOutBut (awaited plan worker step.0) worker step.0.objects) plan by s h.of (record {
     ended = λ is. h.out worker;
-    still = λ call objects takes. unchanged worker call objects answers.Still refl takes;
-    unfinished = λ call objects takes. unchanged worker call objects answers.Unfinished refl takes;
-    completed = λ call objects reply takes. replied worker call objects reply takes;
-    misused = λ call objects misuse takes. unchanged worker call objects (answers.Misused misuse) refl takes;
+    still = λ call objects waits takes. unchanged worker call objects answers.Still refl takes;
+    unfinished = λ call objects waits takes. unchanged worker call objects answers.Unfinished refl takes;
+    completed = λ call objects waits reply takes. replied worker call objects reply takes;
+    misused = λ call objects waits misuse takes. unchanged worker call objects (answers.Misused misuse) refl takes;
   })
 
   pub turn_forms : all_have_forms plan.scripts (turn_of plan by s).0.replies ≡ true
   turn_forms = turn_cases (λ step. all_have_forms plan.scripts step.0.replies ≡ true) plan by s h.of (record {
     ended = λ is. h.forms;
-    still = λ call objects takes. h.forms;
-    unfinished = λ call objects takes. h.forms;
-    completed = λ call objects reply takes. forms_set plan.scripts s.replies by call reply h.forms takes.next (form_at call objects (answers.Completed reply) takes);
-    misused = λ call objects misuse takes. h.forms;
+    still = λ call objects waits takes. h.forms;
+    unfinished = λ call objects waits takes. h.forms;
+    completed = λ call objects waits reply takes. forms_set plan.scripts s.replies by call reply h.forms takes.next (form_at call objects (answers.Completed reply) takes);
+    misused = λ call objects waits misuse takes. h.forms;
   })
 
 pub standing_kept : TurnStands → (plan : Plan) → GoesOn plan → Kept plan (Standing plan)

@@ -65,24 +65,24 @@ pub record RunsTold : Type 0 where
 
 -- what the laws of turns say
 pub record Spells : Type 0 where
-  pub own : (plan : Plan) (worker before moment : ℕ) (call : Call) (objects : List ObjectState) → IsReady plan.workers worker call objects
+  pub own : (plan : Plan) (worker before moment begun : ℕ) (call : Call) (objects : List ObjectState) → IsReadyWithin plan.workers worker call objects
       → EachAt (λ place. HasObjectKeysIn (all_keys plan.scripts)) objects → IsOutBut (waits_at (map kind_of objects) call) worker objects → IsWithin worker call objects
-      → Tells plan (left_at plan worker before call objects) (left_at plan worker (before + length (shared_in (recorded plan before (items_at call worker moment objects)))) call (turn_at call worker moment objects).0)
-      (recorded plan before (items_at call worker moment objects)) (turn_at call worker moment objects).1
-      × StandsBehind worker call (turn_at call worker moment objects).1 (turn_at call worker moment objects).0
-  pub others : (plan : Plan) (worker other before moment : ℕ) (own call : Call) (objects : List ObjectState) → IsReady plan.workers worker own objects → IsReady plan.workers other call objects → worker ≢ other
-      → (IsWithin worker own objects → IsWithin worker own (turn_at call other moment objects).0)
-      × ((later : List Made) (answer : CallAnswer (Reply ℕ)) → left_at plan worker before own (turn_at call other moment objects).0 later answer → left_at plan worker before own objects later answer)
-  pub idle : (workers worker other moment : ℕ) (call : Call) (objects : List ObjectState) → IsReady workers other call objects → worker ≢ other
-      → EachAt (λ place. IsIdle worker) objects → EachAt (λ place. IsIdle worker) (turn_at call other moment objects).0
+      → Tells plan (left_at plan worker before call objects) (left_at plan worker (before + length (shared_in (recorded plan before (items_within call worker moment begun objects)))) call (turn_within call worker moment begun objects).0.0)
+      (recorded plan before (items_within call worker moment begun objects)) (turn_within call worker moment begun objects).1
+      × StandsBehind worker call (turn_within call worker moment begun objects).1 (turn_within call worker moment begun objects).0.0
+  pub others : (plan : Plan) (worker other before moment : ℕ) (own call : Call) (objects : List ObjectState) → IsReadyWithin plan.workers worker own objects → IsReadyWithin plan.workers other call objects → worker ≢ other
+      → (IsWithin worker own objects → IsWithin worker own (turn_within call other moment begun objects).0.0)
+      × ((later : List Made) (answer : CallAnswer (Reply ℕ)) → left_at plan worker before own (turn_within call other moment begun objects).0.0 later answer → left_at plan worker before own objects later answer)
+  pub idle : (workers worker other moment begun : ℕ) (call : Call) (objects : List ObjectState) → IsReadyWithin workers other call objects → worker ≢ other
+      → EachAt (λ place. IsIdle worker) objects → EachAt (λ place. IsIdle worker) (turn_within call other moment begun objects).0.0
   pub begins : (worker workers room : ℕ) (kind : ObjectKind) → IsIdle worker (new_object workers room kind)
-  pub enters : (plan : Plan) (worker before : ℕ) (call : Call) (objects : List ObjectState) → IsReady plan.workers worker call objects → map kind_of objects ≡ map (λ (line : ObjectLine). line.kind) plan.objects
+  pub enters : (plan : Plan) (worker before : ℕ) (call : Call) (objects : List ObjectState) → IsReadyWithin plan.workers worker call objects → map kind_of objects ≡ map (λ (line : ObjectLine). line.kind) plan.objects
       → EachAt (λ place. IsIdle worker) objects → IsOutBut None worker objects
       → IsWithin worker call objects × ((items : List Made) (answer : CallAnswer (Reply ℕ)) → left_at plan worker before call objects items answer → SpellsCall plan worker before call items answer)
-  pub goes_on : (plan : Plan) (worker before : ℕ) (call : Call) (objects : List ObjectState) → IsReady plan.workers worker call objects → (later : List Made) × (answer : CallAnswer (Reply ℕ)) × left_at plan worker before call objects later answer
-  pub by_itself : (worker moment : ℕ) (call : Call) (objects : List ObjectState) → filter (λ item. item.caller == worker) (items_at call worker moment objects) ≡ items_at call worker moment objects
+  pub goes_on : (plan : Plan) (worker before : ℕ) (call : Call) (objects : List ObjectState) → IsReadyWithin plan.workers worker call objects → (later : List Made) × (answer : CallAnswer (Reply ℕ)) × left_at plan worker before call objects later answer
+  pub by_itself : (worker moment begun : ℕ) (call : Call) (objects : List ObjectState) → filter (λ item. item.caller == worker) (items_within call worker moment begun objects) ≡ items_within call worker moment begun objects
   pub runs : RunsTold
-  pub by_no_other : (worker other moment : ℕ) (call : Call) (objects : List ObjectState) → worker ≢ other → filter (λ item. item.caller == other) (items_at call worker moment objects) ≡ []
+  pub by_no_other : (worker other moment begun : ℕ) (call : Call) (objects : List ObjectState) → worker ≢ other → filter (λ item. item.caller == other) (items_within call worker moment begun objects) ≡ []
 
 -- ---- what is so of a worker's items so far
 
@@ -198,15 +198,15 @@ module _ (laws : Spells) (stand_laws : TurnStands) (uses : TurnsUse) (plan : Pla
   of = run.standing.of
 
   -- the state behind the turn
-  state_of : (call : Call) (objects : List ObjectState) (answer : Answer) → Takes plan by s call objects answer → IsStateOf plan (settled by answer (moved objects s)).0
-  state_of call objects answer takes = subst (λ (x : State × Step). IsStateOf plan x.0) (turn_before plan by s call objects answer takes.next takes.turn) (goes by s of)
+  state_of : (call : Call) (objects : List ObjectState) (waits : ℕ) (answer : Answer) → Takes plan by s call objects waits answer → IsStateOf plan (settled by answer (moved objects s)).0
+  state_of call objects answer takes = subst (λ (x : State × Step). IsStateOf plan x.0) (turn_before plan by s call objects waits answer takes.next takes.turn) (goes by s of)
 
   -- the turn's items are in the list of its worker, and in no other
   own_list : (made : List Item) (call : Call) → next_call plan by s ≡ Some call
-      → list_of plan (made ++ made_by plan by s) by ≡ list_of plan made by ++ recorded plan (count_in (list_of plan made by)) (items_at call by s.moment s.objects)
+      → list_of plan (made ++ made_by plan by s) by ≡ list_of plan made by ++ recorded plan (count_in (list_of plan made by)) (items_within call by s.moment (begun_by by s) s.objects)
   own_list made call is =
-      let turn = items_at call by s.moment s.objects in
-      let is_turn : made_by plan by s ≡ turn = ap (λ (o : Option Call). option_map_or (λ call. items_at call by s.moment s.objects) o []) is in
+      let turn = items_within call by s.moment (begun_by by s) s.objects in
+      let is_turn : made_by plan by s ≡ turn = ap (λ (o : Option Call). option_map_or (λ call. items_within call by s.moment (begun_by by s) s.objects) o []) is in
       let own = ap (λ (l : List Item). by_worker by (made ++ l)) is_turn ∙ filter-append (λ (item : Item). item.caller == by) made turn ∙ ap (λ (l : List Item). by_worker by made ++ l) (laws.by_itself by s.moment call s.objects) in
       let zero_first : 0 + count_in (list_of plan made by) ≡ count_in (list_of plan made by) = omega arith in
       ap (recorded plan 0) own ∙ recorded-append plan 0 (by_worker by made) turn ∙ ap (λ (n : ℕ). list_of plan made by ++ recorded plan n turn) zero_first
@@ -215,7 +215,7 @@ module _ (laws : Spells) (stand_laws : TurnStands) (uses : TurnsUse) (plan : Pla
   other_list made worker apart =
       ap (recorded plan 0) (filter-append (λ (item : Item). item.caller == worker) made (made_by plan by s) ∙ ap (λ (l : List Item). by_worker worker made ++ l) (none (next_call plan by s)) ∙ append-nil (by_worker worker made))
     where
-      none : (o : Option Call) → by_worker worker (option_map_or (λ call. items_at call by s.moment s.objects) o []) ≡ []
+      none : (o : Option Call) → by_worker worker (option_map_or (λ call. items_within call by s.moment (begun_by by s) s.objects) o []) ≡ []
       none None = refl
       none (Some call) = laws.by_no_other by worker s.moment call s.objects (λ same. apart (sym same))
 
@@ -223,16 +223,16 @@ module _ (laws : Spells) (stand_laws : TurnStands) (uses : TurnsUse) (plan : Pla
 
   module _ (worker : ℕ) (made : Trace) (apart : worker ≢ by) (h : SoFar plan worker made s) where
     -- its objects behind the turn
-    other_stands : (call : Call) (objects : List ObjectState) (answer : Answer) → Takes plan by s call objects answer → Stands plan worker (count_in (items_in h.spelt)) h.last (next_call plan worker s) objects
+    other_stands : (call : Call) (objects : List ObjectState) (waits : ℕ) (answer : Answer) → Takes plan by s call objects waits answer → Stands plan worker (count_in (items_in h.spelt)) h.last (next_call plan worker s) objects
     other_stands call objects answer takes = by_next (next_call plan worker s) refl
       where
         by_next : (o : Option Call) → next_call plan worker s ≡ o → Stands plan worker (count_in (items_in h.spelt)) h.last o objects
         by_next None none =
             let stands = subst (λ (o : Option Call). Stands plan worker (count_in (items_in h.spelt)) h.last o s.objects) none h.stands in
-            (stands.0, takes_by (λ x. EachAt (λ place. IsIdle worker) x.0) plan by s call objects answer of takes (λ r. laws.idle plan.workers worker by s.moment call s.objects r apart stands.1))
+            (stands.0, takes_by (λ x. EachAt (λ place. IsIdle worker) x.0) plan by s call objects waits answer of takes (λ r. laws.idle plan.workers worker by s.moment call s.objects r apart stands.1))
         by_next (Some own) some =
             let stands = subst (λ (o : Option Call). Stands plan worker (count_in (items_in h.spelt)) h.last o s.objects) some h.stands in
-            takes_by (λ x. Stands plan worker (count_in (items_in h.spelt)) h.last (Some own) x.0) plan by s call objects answer of takes
+            takes_by (λ x. Stands plan worker (count_in (items_in h.spelt)) h.last (Some own) x.0) plan by s call objects waits answer of takes
             (λ r.
             let kept = laws.others plan worker by (count_in (items_in h.spelt) + count_in h.last) s.moment own call s.objects (ready plan worker s own of some) r apart in
             (kept.0 stands.0, λ later answer l. stands.1 later answer (kept.1 later answer l)))
@@ -253,17 +253,17 @@ module _ (laws : Spells) (stand_laws : TurnStands) (uses : TurnsUse) (plan : Pla
     other_behind : Behind plan worker by (more plan made by s) (turn_of plan by s)
     other_behind = turn_cases (Behind plan worker by (more plan made by s)) plan by s of (record {
       ended = λ none. other_so_far s refl h.stands;
-      still = λ call objects takes. other_so_far (moved objects s) refl (other_stands call objects answers.Still takes);
-      unfinished = λ call objects takes. other_so_far (moved objects s) refl (other_stands call objects answers.Unfinished takes);
-      completed = λ call objects reply takes. other_so_far (with_reply by reply (moved objects s)) (replied_other by worker reply (moved objects s) apart) (other_stands call objects (answers.Completed reply) takes);
-      misused = λ call objects misuse takes. misused_line call objects misuse takes;
+      still = λ call objects waits takes. other_so_far (moved objects s) refl (other_stands call objects answers.Still takes);
+      unfinished = λ call objects waits takes. other_so_far (moved objects s) refl (other_stands call objects answers.Unfinished takes);
+      completed = λ call objects waits reply takes. other_so_far (with_reply by reply (moved objects s)) (replied_other by worker reply (moved objects s) apart) (other_stands call objects (answers.Completed reply) takes);
+      misused = λ call objects waits misuse takes. misused_line call objects misuse takes;
     })
       where
         not_by : (b : Bool) → (by == worker) ≡ b → b ≡ false
         not_by true is = absurd (apart (sym (eqb-true by worker is)))
         not_by false is = refl
 
-        misused_line : (call : Call) (objects : List ObjectState) (misuse : Misuse) → Takes plan by s call objects (answers.Misused misuse)
+        misused_line : (call : Call) (objects : List ObjectState) (waits : ℕ) (misuse : Misuse) → Takes plan by s call objects waits (answers.Misused misuse)
             → FallsAs plan worker (more plan made by s) (get_or s.replies worker []) (if by == worker then Some misuse else None)
         misused_line call objects misuse takes =
             subst (λ (b : Bool). FallsAs plan worker (more plan made by s) (get_or s.replies worker []) (if b then Some misuse else None)) (sym (not_by (by == worker) refl))
@@ -283,7 +283,7 @@ module _ (laws : Spells) (stand_laws : TurnStands) (uses : TurnsUse) (plan : Pla
 
     module _ (call : Call) (some : next_call plan by s ≡ Some call) where
       abbrev turn_made : List Made
-      turn_made = recorded plan so_many (items_at call by s.moment s.objects)
+      turn_made = recorded plan so_many (items_within call by s.moment (begun_by by s) s.objects)
 
       own_stands : IsWithin by call s.objects × ((later : List Made) (answer : CallAnswer (Reply ℕ)) → left_at plan by so_many call s.objects later answer → SpellsCall plan by before call (h.last ++ later) answer)
       own_stands =
@@ -299,8 +299,8 @@ module _ (laws : Spells) (stand_laws : TurnStands) (uses : TurnsUse) (plan : Pla
       -- they are the turn's, before this call
       own_turns : ByTurns plan h.spelt (h.last ++ turn_made) ((more plan made by s).parts by)
       own_turns =
-          let turn = items_at call by s.moment s.objects in
-          let is_turn : made_by plan by s ≡ turn = ap (λ (o : Option Call). option_map_or (λ call. items_at call by s.moment s.objects) o []) some in
+          let turn = items_within call by s.moment (begun_by by s) s.objects in
+          let is_turn : made_by plan by s ≡ turn = ap (λ (o : Option Call). option_map_or (λ call. items_within call by s.moment (begun_by by s) s.objects) o []) some in
           let count = count_spelt plan by made s h in
           subst (λ (n : ℕ). ByTurns plan h.spelt (h.last ++ recorded plan n turn) ((more plan made by s).parts by)) count_is
           (more_last plan h.spelt h.last (made.parts by) ((more plan made by s).parts by) turn
@@ -315,14 +315,14 @@ module _ (laws : Spells) (stand_laws : TurnStands) (uses : TurnsUse) (plan : Pla
           subst (λ (ks : List ObjectKind). IsOutBut (waits_at ks call) by s.objects) (sym of.objects)
           (subst (λ (o : Option Call). IsOutBut (option_map_or (λ c. waits_at (kinds_in plan) c) o None) by s.objects) some (run.standing.out by))
 
-      told : (objects : List ObjectState) (answer : Answer) → Takes plan by s call objects answer → Told (objects, answer)
-      told objects answer takes = takes_by Told plan by s call objects answer of takes (λ r. laws.own plan by so_many s.moment call s.objects r run.keys.maps out_is own_stands.0)
+      told : (objects : List ObjectState) (answer : Answer) → Takes plan by s call objects waits answer → Told (objects, answer)
+      told objects answer takes = takes_by Told plan by s call objects waits answer of takes (λ r. laws.own plan by so_many s.moment call s.objects r run.keys.maps out_is own_stands.0)
 
       -- a turn without an event
-      own_still : (objects : List ObjectState) → Takes plan by s call objects answers.Still → SoFar plan by (more plan made by s) (moved objects s)
+      own_still : (objects : List ObjectState) → Takes plan by s call objects waits answers.Still → SoFar plan by (more plan made by s) (moved objects s)
       own_still objects takes =
           let t = told objects answers.Still takes in
-          let same : objects ≡ s.objects = takes_by (λ x. UsesBy (sum_by object_left s.objects) (sum_by object_left x.0) (x.0 ≡ s.objects) x.1) plan by s call objects answers.Still of takes (λ r. uses plan.workers by s.moment call s.objects r) in
+          let same : objects ≡ s.objects = takes_by (λ x. UsesBy (sum_by object_left s.objects) (sum_by object_left x.0) (x.0 ≡ s.objects) x.1) plan by s call objects waits answers.Still of takes (λ r. uses plan.workers by s.moment call s.objects r) in
           record {
             spelt = h.spelt;
             last = h.last;
@@ -336,7 +336,7 @@ module _ (laws : Spells) (stand_laws : TurnStands) (uses : TurnsUse) (plan : Pla
           }
 
       -- an event after which the call has not returned
-      own_unfinished : (objects : List ObjectState) → Takes plan by s call objects answers.Unfinished → SoFar plan by (more plan made by s) (moved objects s)
+      own_unfinished : (objects : List ObjectState) → Takes plan by s call objects waits answers.Unfinished → SoFar plan by (more plan made by s) (moved objects s)
       own_unfinished objects takes =
           let t = told objects answers.Unfinished takes in
           let count : before + count_in (h.last ++ turn_made) ≡ so_many + count_in turn_made = omega (arith, count-append h.last turn_made, count_is) in
@@ -361,18 +361,18 @@ module _ (laws : Spells) (stand_laws : TurnStands) (uses : TurnsUse) (plan : Pla
       abbrev one_more : Reply (List ℕ) → SpeltCall
       one_more reply = record { call = call; items = h.last ++ turn_made; reply = recorded_reply plan reply }
 
-      completed_stands : (objects : List ObjectState) (reply : Reply (List ℕ)) → Takes plan by s call objects (answers.Completed reply) → (o : Option Call) → next_call plan by (with_reply by reply (moved objects s)) ≡ o
+      completed_stands : (objects : List ObjectState) (reply : Reply (List ℕ)) → Takes plan by s call objects waits (answers.Completed reply) → (o : Option Call) → next_call plan by (with_reply by reply (moved objects s)) ≡ o
           → Stands plan by (count_in (items_in (h.spelt ++ one_more reply ∷ []))) [] o objects
       completed_stands objects reply takes None is = (refl, (told objects (answers.Completed reply) takes).1)
       completed_stands objects reply takes (Some next) is =
           let t = with_reply by reply (moved objects s) in
           let valid = state_of call objects (answers.Completed reply) takes in
           let first = count_in (items_in (h.spelt ++ one_more reply ∷ [])) in
-          let entered = laws.enters plan by first next objects (ready plan by t next valid is) valid.objects (told objects (answers.Completed reply) takes).1 (own_at stand_laws plan by s run.standing call objects (answers.Completed reply) takes) in
+          let entered = laws.enters plan by first next objects (ready plan by t next valid is) valid.objects (told objects (answers.Completed reply) takes).1 (own_at stand_laws plan by s run.standing call objects waits (answers.Completed reply) takes) in
           let none : first + 0 ≡ first = omega arith in
           (entered.0, λ later answer l. entered.1 later answer (subst (λ (n : ℕ). left_at plan by n next objects later answer) none l))
 
-      own_completed : (objects : List ObjectState) (reply : Reply (List ℕ)) → Takes plan by s call objects (answers.Completed reply) → SoFar plan by (more plan made by s) (with_reply by reply (moved objects s))
+      own_completed : (objects : List ObjectState) (reply : Reply (List ℕ)) → Takes plan by s call objects waits (answers.Completed reply) → SoFar plan by (more plan made by s) (with_reply by reply (moved objects s))
       own_completed objects reply takes =
           let t = with_reply by reply (moved objects s) in
           let one = one_more reply in
@@ -395,7 +395,7 @@ module _ (laws : Spells) (stand_laws : TurnStands) (uses : TurnsUse) (plan : Pla
             stands = completed_stands objects reply takes (next_call plan by t) refl;
           }
 
-      own_misused : (objects : List ObjectState) (misuse : Misuse) → Takes plan by s call objects (answers.Misused misuse)
+      own_misused : (objects : List ObjectState) (misuse : Misuse) → Takes plan by s call objects waits (answers.Misused misuse)
           → FallsAs plan by (more plan made by s) (get_or s.replies by []) (Some misuse)
       own_misused objects misuse takes =
           let spells = own_stands.1 turn_made (Done (Err misuse)) (told objects (answers.Misused misuse) takes).0 in
@@ -414,7 +414,7 @@ module _ (laws : Spells) (stand_laws : TurnStands) (uses : TurnsUse) (plan : Pla
     -- one whose script has ended makes nothing
     own_ended : next_call plan by s ≡ None → SoFar plan by (more plan made by s) s
     own_ended none =
-        let nothing : made_by plan by s ≡ [] = ap (λ (o : Option Call). option_map_or (λ call. items_at call by s.moment s.objects) o []) none in
+        let nothing : made_by plan by s ≡ [] = ap (λ (o : Option Call). option_map_or (λ call. items_within call by s.moment (begun_by by s) s.objects) o []) none in
         record {
           spelt = h.spelt;
           last = h.last;
@@ -435,10 +435,10 @@ module _ (laws : Spells) (stand_laws : TurnStands) (uses : TurnsUse) (plan : Pla
     own_behind : Behind plan by by (more plan made by s) (turn_of plan by s)
     own_behind = turn_cases (Behind plan by by (more plan made by s)) plan by s of (record {
       ended = own_ended;
-      still = λ call objects takes. own_still call takes.next objects takes;
-      unfinished = λ call objects takes. own_unfinished call takes.next objects takes;
-      completed = λ call objects reply takes. own_completed call takes.next objects reply takes;
-      misused = λ call objects misuse takes.
+      still = λ call objects waits takes. own_still call takes.next objects takes;
+      unfinished = λ call objects waits takes. own_unfinished call takes.next objects takes;
+      completed = λ call objects waits reply takes. own_completed call takes.next objects reply takes;
+      misused = λ call objects waits misuse takes.
           subst (λ (b : Bool). FallsAs plan by (more plan made by s) (get_or s.replies by []) (if b then Some misuse else None)) (sym (eq-eqb by by refl)) (own_misused call takes.next objects misuse takes);
     })
 
