@@ -20,9 +20,9 @@ laws c = record {
   };
   stands = record {
     begins = c.workers_stand_in_their_calls.ensures.begins;
-    forms = c.workers_stand_in_their_calls.ensures.forms;
-    own = c.workers_stand_in_their_calls.ensures.own;
-    others = c.workers_stand_in_their_calls.ensures.others;
+    forms = c.workers_wait_where_their_calls_do.ensures.forms;
+    own = c.workers_wait_where_their_calls_do.ensures.own;
+    others = c.workers_wait_where_their_calls_do.ensures.others;
   };
   uses = c.turns_use_something_up.ensures;
   keys = record { begins = c.maps_keep_to_the_keys_of_calls.ensures.begins; goes_on = c.maps_keep_to_the_keys_of_calls.ensures.goes_on };
