@@ -6,7 +6,7 @@ use Rattle.std.proofs.lemmas.Bool.{eqb-true, eqb-false}
 use Rattle.std.proofs.lemmas.Option.{slice_get-map}
 use Rattle.sync_types.specs.declared.atomic_object.Number.TheVariants.{Int64}
 use Rattle.script_calls.specs.declared.call.Call.{Call}
-use Rattle.script_calls.specs.declared.call.ComposedCall.TheVariants.{IfEqual}
+use Rattle.script_calls.specs.declared.call.ComposedCall.TheVariants.{IfEqual, WaitFor}
 use Rattle.script_calls.specs.declared.call.Operation.{Operation}
 use Rattle.script_calls.specs.declared.call.Operation.TheVariants as operations
 use Rattle.script_calls.specs.declared.call.Reply.{Reply}
@@ -47,7 +47,7 @@ use Rattle.step_runner.specs.Left.{mutex_waits, rw_waits, mutex_left, rw_left, g
 use Rattle.step_runner.specs.Within.{IsIdle, StandsOn, StandsOnBoth, IsWithin}
 use Rattle.step_runner.proofs.SpeltAtObjects.{left_alone, left_referring, stands_alone, stands_referring}
 use Rattle.step_runner.proofs.RwSides.{out_sides}
-use Rattle.step_runner.proofs.TurnOwn.{Pair, only_pairs, cond_refers, once_refers}
+use Rattle.step_runner.proofs.TurnOwn.{Pair, only_pairs, cond_refers, once_refers, wait_for_alone}
 
 -- ---- a new object
 
@@ -124,6 +124,7 @@ module _ (plan : Plan) (x before place : ℕ) where
   whole_on (operations.Pool call) (states.Pool p) has alone idle out = refl
   whole_on (operations.Cond call) o has alone idle out = absurd (cond_refers o call has alone)
   whole_on operations.Once o has alone idle out = absurd (once_refers o has alone)
+  whole_on (operations.Composed (WaitFor atomic value tries)) o has alone idle out = absurd (wait_for_alone o atomic tries value has)
   whole_on operation o has alone idle out = absurd cc
 
   some_place : {a b : ℕ} → Some a ≡ Some b → b ≡ a
@@ -139,7 +140,7 @@ module _ (plan : Plan) (x before place : ℕ) where
   whole_both other operation o target pair some idle out = absurd pair
 
 -- the line of the object at a place
-line_there : (plan : Plan) (objects : List ObjectState) (place : ℕ) (o : ObjectState) → map kind_of objects ≡ map (λ (line : ObjectLine). line.kind) plan.objects → slice_get objects place ≡ Some o
+pub line_there : (plan : Plan) (objects : List ObjectState) (place : ℕ) (o : ObjectState) → map kind_of objects ≡ map (λ (line : ObjectLine). line.kind) plan.objects → slice_get objects place ≡ Some o
     → (line : ObjectLine) × (slice_get plan.objects place ≡ Some line) × (kind_of o ≡ line.kind)
 line_there plan objects place o same at = by_line (slice_get plan.objects place) refl
   where

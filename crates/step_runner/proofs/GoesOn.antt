@@ -9,7 +9,7 @@ use Rattle.sync_types.specs.declared.atomic_object.AtomicCall.TheVariants.{Load,
 use Rattle.sync_types.specs.declared.atomic_object.AtomicReply.TheVariants as atomic_replies
 use Rattle.sync_types.specs.declared.atomic_object.Number.TheVariants.{Int64}
 use Rattle.script_calls.specs.declared.call.Call.{Call}
-use Rattle.script_calls.specs.declared.call.ComposedCall.TheVariants.{IfEqual}
+use Rattle.script_calls.specs.declared.call.ComposedCall.TheVariants.{IfEqual, WaitFor}
 use Rattle.script_calls.specs.declared.call.Operation.{Operation}
 use Rattle.script_calls.specs.declared.call.Operation.TheVariants as operations
 use Rattle.script_calls.specs.declared.call.Reply.{Reply}
@@ -78,14 +78,14 @@ use Rattle.step_runner.specs.Left.{mutex_waits, rw_waits, rw_later, mutex_left, 
 use Rattle.step_runner.proofs.SpeltAtObjects.{left_alone, left_referring}
 use Rattle.step_runner.proofs.PlacedSpelled.{places}
 use Rattle.step_runner.proofs.Spelled.{refused}
-use Rattle.step_runner.proofs.TurnOwn.{Pair, only_pairs, cond_refers, once_refers}
+use Rattle.step_runner.proofs.TurnOwn.{Pair, only_pairs, cond_refers, once_refers, wait_for_alone}
 
 -- some items spell it
 abbrev pub CanBe : {O : Type 0} → Part O → Type 0
 CanBe part = (items : List Made) × (answer : CallAnswer _) × part items answer
 
 -- and it may meet a halt
-abbrev CanHalt : {O : Type 0} → Part O → Type 0
+abbrev pub CanHalt : {O : Type 0} → Part O → Type 0
 CanHalt part = (items : List Made) × part items (Halted UnlockOfUnlockedMutex)
 
 halted : {O : Type 0} (part : Part O) → CanHalt part → CanBe part
@@ -94,7 +94,7 @@ halted part (items, spells) = (items, Halted UnlockOfUnlockedMutex, spells)
 read_halts : {O P : Type 0} (f : O → P) (part : Part O) → CanHalt part → CanHalt (read_as f part)
 read_halts f part (items, spells) = (items, (Halted UnlockOfUnlockedMutex, spells, refl))
 
-then_halts : {O P : Type 0} (first : Part O) (next : O → Part P) → CanHalt first → CanHalt (and_then first next)
+pub then_halts : {O P : Type 0} (first : Part O) (next : O → Part P) → CanHalt first → CanHalt (and_then first next)
 then_halts first next (items, spells) = (items, (items, [], Halted UnlockOfUnlockedMutex, sym (append-nil items), spells, (refl, refl)))
 
 stage_halts : {G O E R : Type 0} (event : E → ObjectEvent) (answer : R → ObjectReply) (event_of : G → ℕ → E) (meaning : G → R → Step G O) (object : ℕ) (stage : G) → CanHalt (stages event answer event_of meaning object stage)
@@ -135,7 +135,7 @@ group_can object group_calls.Wait false = group_whole object group_calls.Wait
 group_can object (group_calls.Add delta) waits = group_whole object (group_calls.Add delta)
 group_can object group_calls.Done waits = group_whole object group_calls.Done
 
-cond_can : (object other : ℕ) (call : CondCall) (has waits : Bool) → CanHalt (cond_left object other call has waits)
+pub cond_can : (object other : ℕ) (call : CondCall) (has waits : Bool) → CanHalt (cond_left object other call has waits)
 cond_can object other cond_calls.Wait has true = read_halts (λ locked. replies.Returned) (stages events.Mutex answered.Mutex mutex_event mutex_meaning other mutex_stage.Resume) (stage_halts events.Mutex answered.Mutex mutex_event mutex_meaning other mutex_stage.Resume)
 cond_can object other cond_calls.Wait true false = then_halts (stages events.Cond answered.Cond cond_event cond_meaning object cond_stage.Leave) _ (stage_halts events.Cond answered.Cond cond_event cond_meaning object cond_stage.Leave)
 cond_can object other cond_calls.Wait false false = then_halts (stages events.Cond answered.Cond cond_event cond_meaning object cond_stage.Ticket) _ (stage_halts events.Cond answered.Cond cond_event cond_meaning object cond_stage.Ticket)
@@ -187,6 +187,7 @@ module _ (plan : Plan) (x before place : ℕ) where
   on_can (operations.Pool pool_calls.Get) (states.Pool p) has alone = found_can x (first_part plan place) (record_pool.looks_of plan.workers x)
   on_can (operations.Cond call) o has alone = absurd (cond_refers o call has alone)
   on_can operations.Once o has alone = absurd (once_refers o has alone)
+  on_can (operations.Composed (WaitFor atomic value tries)) o has alone = absurd (wait_for_alone o atomic tries value has)
   on_can operation o has alone = absurd cc
 
   both_can : (other : ℕ) (operation : Operation) (o target : ObjectState) → Pair operation o target → CanBe (left_on_both plan x before place other operation o target)

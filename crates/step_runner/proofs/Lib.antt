@@ -62,3 +62,8 @@ mod RwSpelled
 mod Spelled
 mod TurnOwn
 mod WaitSpelled
+mod SpeltWithin
+mod WaitBegins
+mod WaitCan
+mod WaitSpelt
+mod WithinTurns

@@ -1,5 +1,6 @@
 -- A turn leaves an object of its kind, and a machine valid.
-use Rattle.std.proofs.Common.{◌≡◌, ◌≢◌, ℕ, true, List, map, set, Option, Some, refl, sym, ap, ◌∙◌}
+use Rattle.std.proofs.Common.{◌≡◌, ◌≢◌, ℕ, Bool, true, false, eqb, List, map, set, Option, Some, refl, sym, ap, ◌∙◌, subst}
+use Rattle.std.proofs.lemmas.Bool.{eqb-true, eqb-false}
 use Rattle.std.specs.Prelude.{ℤ, slice_get, Result, Ok}
 use Rattle.std.specs.Int.{w64, int_wrapping_add}
 use Rattle.std.proofs.lemmas.Option.{get_or_from_slice_get}
@@ -21,8 +22,9 @@ use Rattle.protocols.specs.MutexStages.{mutex_event, mutex_meaning}
 use Rattle.protocols.specs.declared.mutex.MutexStage.{MutexStage}
 use Rattle.protocols.specs.declared.once.OnceOutcome.{OnceOutcome}
 use Rattle.protocols.specs.declared.once.OnceOutcome.TheVariants.{Ended}
+use Rattle.workload.specs.declared.object.ObjectKind.{ObjectKind}
 use Rattle.workload.specs.declared.object.ObjectKind.TheVariants as kinds
-use Rattle.workload.specs.Plan.{has_call}
+use Rattle.workload.specs.Plan.{has_call, is_target, reference_of}
 use Rattle.step_runner.specs.declared.turns.answer.Answer.{Answer}
 use Rattle.step_runner.specs.declared.turns.object_state.ObjectState.{ObjectState}
 use Rattle.step_runner.specs.declared.turns.object_state.ObjectState.TheVariants as states
@@ -34,10 +36,11 @@ use Rattle.step_runner.specs.TurnAtObjects.{once_made, number_after, turn_on, tu
 use Rattle.step_runner.proofs.AtObjects.{at_ready, each_set}
 use Rattle.step_runner.proofs.AtomicTypes.{after_type}
 use Rattle.step_runner.proofs.MachineLaws.{OnceLaw, Laws}
+use Rattle.step_runner.proofs.SpeltAtObjects.{set_there}
 use Rattle.step_runner.proofs.Makes.{mutex_keeps, rw_keeps, group_keeps, cond_keeps, once_keeps, pool_keeps}
 use Rattle.step_runner.proofs.Writes.{get_other}
 
-record Keeps (workers : ℕ) (old new : ObjectState) : Type 0 where
+pub record Keeps (workers : ℕ) (old new : ObjectState) : Type 0 where
   pub kind : kind_of new ≡ kind_of old
   pub machine : IsMachineOf workers old → IsMachineOf workers new
 
@@ -114,24 +117,72 @@ both_keep laws workers operation worker moment o target = both_same workers o ta
 kinds_set : (objects : List ObjectState) (place : ℕ) (object next : ObjectState) → slice_get objects place ≡ Some object → kind_of next ≡ kind_of object → map kind_of (set objects place next) ≡ map kind_of objects
 kinds_set objects place object next at kind = map-set_same kind_of objects place next next (kind ∙ ap kind_of (sym (get_or_from_slice_get objects place object next at)))
 
+-- the object that stands at a place behind the turn
+abbrev pub KeptAt : ℕ → List ObjectState → ℕ → ObjectState → Type 0
+KeptAt workers new place object = (next : ObjectState) × (slice_get new place ≡ Some next) × Keeps workers object next
+
+kept_set : (workers : ℕ) (objects : List ObjectState) (place : ℕ) (object next : ObjectState) → slice_get objects place ≡ Some object → Keeps workers object next → EachAt (KeptAt workers (set objects place next)) objects
+kept_set workers objects place object next at keeps k found there = by_place (eqb k place) refl
+  where
+    by_place : (b : Bool) → eqb k place ≡ b → KeptAt workers (set objects place next) k found
+    by_place true is =
+        let here : k ≡ place = eqb-true k place is in
+        let both : Some object ≡ Some found = sym at ∙ ap (slice_get objects) (sym here) ∙ there in
+        let one : object ≡ found = cc in
+        (next, ap (slice_get (set objects place next)) here ∙ set_there objects place next object at, subst (λ (o : ObjectState). Keeps workers o next) one keeps)
+    by_place false far = (found, get_other objects place k next found (eqb-false k place far) there, same workers found)
+
 pub record ObjectsKeep (workers : ℕ) (old new : List ObjectState) : Type 0 where
   pub kinds : map kind_of new ≡ map kind_of old
   pub machines : EachAt (λ place. IsMachineOf workers) old → EachAt (λ place. IsMachineOf workers) new
+  pub each : EachAt (KeptAt workers new) old
 
 one_keeps : (workers : ℕ) (objects : List ObjectState) (place : ℕ) (object next : ObjectState) → slice_get objects place ≡ Some object → Keeps workers object next → ObjectsKeep workers objects (set objects place next)
 one_keeps workers objects place object next at keeps = record {
   kinds = kinds_set objects place object next at keeps.kind;
   machines = λ all. each_set (λ place. IsMachineOf workers) objects place next all (keeps.machine (all place object at));
+  each = kept_set workers objects place object next at keeps;
 }
+
+keeps_on : (workers : ℕ) (first middle last : ObjectState) → Keeps workers first middle → Keeps workers middle last → Keeps workers first last
+keeps_on workers first middle last one two = record { kind = two.kind ∙ one.kind; machine = λ is. two.machine (one.machine is) }
 
 two_keep : (workers : ℕ) (objects : List ObjectState) (place other : ℕ) (object target : ObjectState) (new : ObjectState × ObjectState) → slice_get objects place ≡ Some object → slice_get objects other ≡ Some target
     → other ≢ place → KeepsBoth workers object target new → ObjectsKeep workers objects (set (set objects place new.0) other new.1)
 two_keep workers objects place other object target new at there apart keep =
     let first = one_keeps workers objects place object new.0 at keep.first in
     let second = one_keeps workers (set objects place new.0) other target new.1 (get_other objects place other new.0 target apart there) keep.second in
-    record { kinds = second.kinds ∙ first.kinds; machines = λ all. second.machines (first.machines all) }
+    record {
+      kinds = second.kinds ∙ first.kinds;
+      machines = λ all. second.machines (first.machines all);
+      each = λ k o found.
+          let middle = first.each k o found in
+          let last = second.each k middle.0 middle.1 in
+          (last.0, last.1, keeps_on workers o middle.0 last.0 middle.2 last.2);
+    }
 
 pub turn_keep : Laws → (workers worker : ℕ) (call : Call) (moment : ℕ) (objects : List ObjectState) → IsReady workers worker call objects → ObjectsKeep workers objects (turn_at call worker moment objects).0
 turn_keep laws workers worker call moment objects r = at_ready (λ x. ObjectsKeep workers objects x.0) workers worker call moment objects r
     (λ st. one_keeps workers objects call.object r.object (turn_on call.operation worker moment r.object).0 st.at (turn_keeps laws workers call.operation worker moment r.object st.has))
     (λ other target st. two_keep workers objects call.object other r.object target (turn_on_both call.operation worker moment r.object target).0 st.at st.there st.apart (both_keep laws workers call.operation worker moment r.object target))
+
+-- what a call needs of its objects is so behind another call's turn
+pub ready_kept : (workers worker : ℕ) (call : Call) (old new : List ObjectState) → ObjectsKeep workers old new → IsReady workers worker call old → IsReady workers worker call new
+ready_kept workers worker call old new keep r =
+    let here = keep.each call.object r.object r.there in
+    record {
+      object = here.0;
+      there = here.1;
+      has = subst (λ (kind : ObjectKind). has_call kind call.operation ≡ true) (sym here.2.kind) r.has;
+      below = r.below;
+      machine = here.2.machine r.machine;
+      refers = λ place some.
+          let t = r.refers place (sym (ap reference_of here.2.kind) ∙ some) in
+          let there = keep.each place t.target t.there in
+          record {
+            target = there.0;
+            there = there.1;
+            is = subst (λ (kind : ObjectKind). is_target kind (kind_of there.0) ≡ true) (sym here.2.kind) (subst (λ (kind : ObjectKind). is_target (kind_of r.object) kind ≡ true) (sym there.2.kind) t.is);
+            machine = there.2.machine t.machine;
+          };
+    }

@@ -1,7 +1,7 @@
 -- Another's turn leaves a worker's call where it is: what is left of it is the same, and so is where the worker stands.
 use Rattle.std.proofs.Common.{◌≡◌, ◌≢◌, ℕ, Bool, true, false, Option, Some, None, inl, inr, refl, sym, ap, ◌∙◌}
 use Rattle.std.specs.Prelude.{ℤ, if◌then◌else◌}
-use Rattle.script_calls.specs.declared.call.ComposedCall.TheVariants.{IfEqual}
+use Rattle.script_calls.specs.declared.call.ComposedCall.TheVariants.{IfEqual, WaitFor}
 use Rattle.script_calls.specs.declared.call.Operation.{Operation}
 use Rattle.script_calls.specs.declared.call.Operation.TheVariants as operations
 use Rattle.sync_types.specs.declared.atomic_object.Number.{Number}
@@ -45,6 +45,7 @@ use Rattle.run_record.specs.CondKind.{cond_call}
 use Rattle.run_record.specs.OnceKind.{do_call, failure}
 use Rattle.run_record.specs.Parts.{returns, stages}
 use Rattle.run_record.specs.Record.{object_number}
+use Rattle.run_record.specs.Tests.{wait_for_call}
 use Rattle.run_record.specs.declared.entered.ObjectEvent.TheVariants as events
 use Rattle.run_record.specs.declared.entered.ObjectReply.TheVariants as answered
 use Rattle.workload.specs.Plan.{Plan}
@@ -220,6 +221,8 @@ module _ (plan : Plan) (x before place : ℕ) where
   left_same (states.RwMutex m) (states.RwMutex n) (operations.RwMutex call) same = ap (rw_left (object_number place) call) same.0
   left_same (states.RwMutex m) (states.RwMutex n) operation same = refl
   left_same (states.Cond m at) (states.Cond n other) (operations.Cond call) same = ap (λ (k : ℕ). cond_call (object_number place) (object_number k) call) same.1
+  left_same (states.Cond m at) (states.Cond n other) (operations.Composed (WaitFor atomic value tries)) same =
+      ap (λ (k : ℕ). wait_for_call (object_number place) (object_number k) (atomic_number plan.objects atomic) value tries) same.1
   left_same (states.Cond m at) (states.Cond n other) operation same = refl
   left_same (states.WaitGroup m first) (states.WaitGroup n other) (operations.WaitGroup call) same = ap (group_left (object_number place) call) same.0
   left_same (states.WaitGroup m first) (states.WaitGroup n other) operation same = refl

@@ -10,7 +10,7 @@ use Rattle.sync_types.specs.declared.atomic_object.AtomicCall.TheVariants.{Load,
 use Rattle.sync_types.specs.declared.atomic_object.AtomicReply.TheVariants.{Held}
 use Rattle.sync_types.specs.declared.atomic_object.Number.{Number}
 use Rattle.sync_types.specs.declared.atomic_object.Number.TheVariants.{Int64}
-use Rattle.script_calls.specs.declared.call.ComposedCall.TheVariants.{IfEqual}
+use Rattle.script_calls.specs.declared.call.ComposedCall.TheVariants.{IfEqual, WaitFor}
 use Rattle.script_calls.specs.declared.call.Operation.{Operation}
 use Rattle.script_calls.specs.declared.call.Operation.TheVariants as operations
 use Rattle.script_calls.specs.declared.call.Reply.TheVariants as replies
@@ -114,6 +114,11 @@ cond_refers o call has alone = cc
 pub once_refers : (o : ObjectState) → has_call (kind_of o) operations.Once ≡ true → reference_of (kind_of o) ≡ None → ⊥
 once_refers (states.Once o place delta) has alone = cc
 once_refers o has alone = cc
+
+-- no object alone has a `waitfor`
+pub wait_for_alone : (o : ObjectState) (atomic tries : ℕ) (value : Number) → has_call (kind_of o) (operations.Composed (WaitFor atomic value tries)) ≡ true → ⊥
+wait_for_alone (states.Atomic number) atomic tries value has = cc
+wait_for_alone o atomic tries value has = cc
 
 -- where the worker stands behind its turn at two objects
 abbrev pub BehindBoth : Operation → ℕ → Answer → ObjectState → ObjectState → Type 0
@@ -230,6 +235,7 @@ module _ (laws : Laws) (plan : Plan) (worker before place moment : ℕ) where
       )
   turn_own (operations.Cond call) o has alone below is keys out stands = absurd (cond_refers o call has alone)
   turn_own operations.Once o has alone below is keys out stands = absurd (once_refers o has alone)
+  turn_own (operations.Composed (WaitFor atomic number tries)) o has alone below is keys out stands = absurd (wait_for_alone o atomic tries number has)
   turn_own operation o has alone below is keys out stands = absurd cc
 
   -- ---- at two objects

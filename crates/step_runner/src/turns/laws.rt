@@ -37,12 +37,14 @@ use sync_types::Name;
 use sync_types::laws::atomics::calls_keep_the_type;
 
 /// An object begins as one of its kind, with a machine that is ready for the workers' turns. A turn keeps
-/// the kind of each object, and leaves each machine ready.
+/// the kind of each object, and leaves each machine ready; so whoever is ready for a call is ready behind it.
 pub fn turns_keep_kinds_and_machines()
     ensures begins { (workers room : ℕ) (kind : ObjectKind) → (kind_of (new_object workers room kind) ≡ kind) × IsMachineOf workers (new_object workers room kind) }
     ensures kinds { (workers worker moment : ℕ) (call : Call) (objects : List ObjectState) → IsReady workers worker call objects → map kind_of (turn_at call worker moment objects).0 ≡ map kind_of objects }
     ensures machines { (workers worker moment : ℕ) (call : Call) (objects : List ObjectState) → IsReady workers worker call objects → EachAt (λ place. IsMachineOf workers) objects
         → EachAt (λ place. IsMachineOf workers) (turn_at call worker moment objects).0 }
+    ensures ready { (workers worker moment other : ℕ) (call own : Call) (objects : List ObjectState) → IsReady workers worker call objects → IsReady workers other own objects
+        → IsReady workers other own (turn_at call worker moment objects).0 }
 {
     mutex_core::laws::validity();
     rw_core::laws::validity();

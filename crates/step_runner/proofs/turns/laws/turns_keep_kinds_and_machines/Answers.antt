@@ -1,6 +1,7 @@
+use Rattle.step_runner.specs.TurnAtObjects.{turn_at}
 use Rattle.step_runner.proofs.MachineLaws.{Laws}
 use Rattle.step_runner.proofs.NewObjects.{new_kind, new_machine}
-use Rattle.step_runner.proofs.ObjectKeeps.{turn_keep}
+use Rattle.step_runner.proofs.ObjectKeeps.{turn_keep, ready_kept}
 use Rattle.step_runner.proofs.turns.laws.turns_keep_kinds_and_machines.Goals as goal
 
 abbrev laws : goal.After-keeps_its_parts → Laws
@@ -25,3 +26,7 @@ returns-clause-kinds c workers worker moment call objects ready = (turn_keep (la
 
 pub returns-clause-machines : goal.returns-clause-machines
 returns-clause-machines c workers worker moment call objects ready = (turn_keep (laws c) workers worker call moment objects ready).machines
+
+pub returns-clause-ready : goal.returns-clause-ready
+returns-clause-ready c workers worker moment other call own objects ready is =
+    ready_kept workers other own objects (turn_at call worker moment objects).0 (turn_keep (laws c) workers worker call moment objects ready) is
