@@ -67,3 +67,9 @@ mod WaitBegins
 mod WaitCan
 mod WaitSpelt
 mod WithinTurns
+mod TurnsWithin
+mod WaitTurns
+mod WithinKeeps
+mod WithinLeft
+mod WithinLemmas
+mod WithinUses

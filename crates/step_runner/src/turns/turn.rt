@@ -5,6 +5,7 @@ ghost use Rattle.step_runner.specs.declared.turns.object_state.ObjectState.{Obje
 ghost use Rattle.step_runner.specs.Objects.{IsMachineOf, kind_of};
 ghost use Rattle.step_runner.specs.Ready.{IsReady};
 ghost use Rattle.step_runner.specs.TurnAtObjects.{turn_on, turn_on_both, with_both, turn_at};
+ghost use Rattle.step_runner.specs.TurnWithin.{wait_on};
 
 use crate::turns::answer::Answer;
 use crate::turns::lock_turn::{take_mutex_turn, take_rw_mutex_turn};
@@ -19,7 +20,7 @@ use crate::turns::wait_turn::{take_cond_turn, take_wait_group_turn};
 use script_calls::{Call, Operation};
 use std::alloc::{AllocError, Global};
 use std::mem;
-use sync_types::Number;
+use sync_types::{CondCall, Number};
 
 /// Takes a turn of a worker that stands before a call of this operation, at the call's object and by its
 /// kind, where that object refers to no other.
@@ -109,5 +110,19 @@ pub fn take_turn_at(
     match objects[place].refers_to() {
         None => take_turn_on(alloc, &mut objects[place], &call.operation, taker),
         Some(other) => Ok(take_turn_at_both(objects, place, other, &call.operation, taker)),
+    }
+}
+
+/// Takes a turn of a wait on the cond at a place, by which no memory is wanted.
+pub(crate) fn take_wait_turn(objects: &mut [ObjectState], cond: usize, taker: Taker) -> Answer
+    requires { IsReady taker.workers taker.worker (wait_on cond) objects.old }
+    ensures { turn_at (wait_on cond) taker.worker taker.moment objects.old ≡ (objects.new, result) }
+{
+    match objects[cond].refers_to() {
+        None => Answer::Still,
+        Some(mutex) => {
+            let wait = Operation::Cond(CondCall::Wait);
+            take_turn_at_both(objects, cond, mutex, &wait, taker)
+        }
     }
 }

@@ -1,15 +1,88 @@
-//! The turn of a worker that stands before a call or within it.
-ghost use Rattle.std.specs.Prelude.{◌≡◌, ◌≤◌, IfOk};
+//! The turn of a worker that stands before a call or within it, at the objects of a run. A `waitfor` is made of loads of its
+//! atomic and of turns of `wait`s on its cond: how many waits were begun tells whether the worker stands before it.
+ghost use Rattle.std.specs.Prelude.{◌≡◌, ◌<◌, ◌≤◌, nat_le, IfOk};
+ghost use Rattle.step_runner.specs.Ready.{IsReady};
 ghost use Rattle.step_runner.specs.StandsWithin.{IsReadyWithin};
-ghost use Rattle.step_runner.specs.TurnWithin.{turn_within};
+ghost use Rattle.step_runner.specs.TurnWithin.{wait_on, is_met, tells, begin_wait, unless_last, unless_met, look, wait_for_turn, turn_within};
 
 use crate::turns::answer::Answer;
+use crate::turns::laws::turns_keep_kinds_and_machines;
 use crate::turns::object_state::ObjectState;
 use crate::turns::stages::Taker;
-use crate::turns::turn::take_turn_at;
-use script_calls::Call;
+use crate::turns::turn::{take_turn_at, take_wait_turn};
+use script_calls::{Call, ComposedCall, Operation, Reply};
 use std::alloc::{AllocError, Global};
+use sync_types::{AtomicReply, Number};
 
+/// What a `waitfor` names, and how many waits it may make.
+#[derive(Clone, Copy)]
+struct Awaited {
+    cond: usize,
+    atomic: usize,
+    value: Number,
+    tries: u32,
+}
+
+/// Whether the object at a place is an atomic that holds the number.
+fn is_met(objects: &[ObjectState], atomic: usize, value: Number) -> bool
+    ensures { result ≡ is_met atomic value objects.now }
+{
+    match objects.get(atomic) {
+        Some(ObjectState::Atomic(number)) => *number == value,
+        _ => false,
+    }
+}
+
+/// A `waitfor` is completed: it tells whether its last load found the number.
+fn tells(met: bool) -> Answer
+    ensures { result ≡ tells met }
+{
+    Answer::Completed(Reply::Atomic(AtomicReply::Compared(met)))
+}
+
+/// Begins one more wait: an event, after which the call hasn't returned, unless it is a misuse.
+fn begin_wait(objects: &mut [ObjectState], awaited: Awaited, begun: u32, taker: Taker) -> (u32, Answer)
+    requires ready { IsReady taker.workers taker.worker (wait_on awaited.cond) objects.old }
+    requires fewer { begun < awaited.tries }
+    ensures { unless_last taker.worker taker.moment awaited.cond awaited.atomic awaited.value awaited.tries false begun objects.old ≡ ((objects.new, result.0), result.1) }
+{
+    match take_wait_turn(objects, awaited.cond, taker) {
+        Answer::Misused(misuse) => (begun + 1, Answer::Misused(misuse)),
+        _ => (begun + 1, Answer::Unfinished),
+    }
+}
+
+/// Loads the atomic. Where it doesn't hold the number and fewer waits were begun than the call may make, one more begins in this
+/// turn; else the call is completed.
+fn look(objects: &mut [ObjectState], awaited: Awaited, begun: u32, taker: Taker) -> (u32, Answer)
+    requires { IsReady taker.workers taker.worker (wait_on awaited.cond) objects.old }
+    ensures { look taker.worker taker.moment awaited.cond awaited.atomic awaited.value awaited.tries begun objects.old ≡ ((objects.new, result.0), result.1) }
+{
+    let met = is_met(objects, awaited.atomic, awaited.value);
+    if met || awaited.tries <= begun {
+        return (begun, tells(met));
+    }
+    begin_wait(objects, awaited, begun, taker)
+}
+
+/// Takes a turn before a `waitfor`, or within it, where the turn goes on with the wait that was begun last. A wait that returns is
+/// followed by a load, in the same turn.
+fn take_wait_for_turn(objects: &mut [ObjectState], awaited: Awaited, begun: u32, taker: Taker) -> (u32, Answer)
+    requires { IsReady taker.workers taker.worker (wait_on awaited.cond) objects.old }
+    ensures { wait_for_turn taker.worker taker.moment awaited.cond awaited.atomic awaited.value awaited.tries begun objects.old ≡ ((objects.new, result.0), result.1) }
+{
+    if begun == 0 {
+        return look(objects, awaited, begun, taker);
+    }
+    turns_keep_kinds_and_machines();
+    match take_wait_turn(objects, awaited.cond, taker) {
+        Answer::Completed(_) => look(objects, awaited, begun, taker),
+        answer => (begun, answer),
+    }
+}
+
+/// Takes a turn of a worker that stands before a call or within it, of whose waits it has begun so many. With the answer it tells
+/// how many were begun by then. Only want of memory is an `Err`.
 pub fn take_turn_within(
     alloc: Global,
     objects: &mut [ObjectState],
@@ -21,6 +94,14 @@ pub fn take_turn_within(
     requires few { taker.workers ≤ 64 }
     ensures { IfOk result (λ taken. turn_within call.now taker.worker taker.moment begun objects.old ≡ ((objects.new, taken.0), taken.1)) }
 {
-    let answer = take_turn_at(alloc, objects, call, taker)?;
-    Ok((begun, answer))
+    match call.operation {
+        Operation::Composed(ComposedCall::WaitFor { atomic, value, tries }) => {
+            let awaited = Awaited { cond: call.object, atomic, value, tries };
+            Ok(take_wait_for_turn(objects, awaited, begun, taker))
+        }
+        _ => {
+            let answer = take_turn_at(alloc, objects, call, taker)?;
+            Ok((begun, answer))
+        }
+    }
 }

@@ -20,9 +20,10 @@ ghost use Rattle.step_runner.specs.TurnWithin.{turn_within, items_within};
 ghost use Rattle.step_runner.specs.TurnsLeft.{TakesBy, is_told, TellsOwn};
 
 use crate::turns::laws::{
-    few_turns_are_left_of_a_call, items_lead_from_turn_to_turn, maps_keep_to_the_keys_of_calls,
-    numbers_stay_in_range, pools_have_room, some_calls_take_one_turn,
-    turns_keep_kinds_and_machines, turns_use_something_up, workers_stand_in_their_calls,
+    few_turns_are_left_of_a_call, items_lead_from_turn_to_turn, machines_tell_where_callers_stand,
+    maps_keep_to_the_keys_of_calls, numbers_stay_in_range, pools_have_room,
+    some_calls_take_one_turn, turns_keep_kinds_and_machines, turns_use_something_up,
+    workers_stand_in_their_calls,
 };
 
 /// A turn keeps the kind of each object, and leaves each machine ready.
@@ -43,6 +44,7 @@ pub fn something_is_used_up()
         (turn_within call worker moment begun objects).1 }
     ensures few { (worker moment begun : ℕ) (call : Call) (objects : List ObjectState) → begun ≤ tries_of call.operation → (turn_within call worker moment begun objects).0.1 ≤ tries_of call.operation }
 {
+    machines_tell_where_callers_stand();
     turns_keep_kinds_and_machines();
     turns_use_something_up();
 }
