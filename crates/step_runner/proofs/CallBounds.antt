@@ -1,11 +1,15 @@
 -- A call takes few turns, and a worker goes back to a queue no more often than it was told to go on.
-use Rattle.std.proofs.Common.{◌≡◌, ◌≢◌, ℕ, ◌+◌, ◌<◌, ◌≤◌, Bool, true, false, ◌&&◌, List, [], ◌∷◌, map, length, get_or, Option, Some, None, refl, sym, ap, ◌∙◌, subst, arith}
+use Rattle.std.proofs.Common.{◌≡◌, ◌≢◌, ℕ, zero, suc, ◌+◌, ◌<◌, ◌≤◌, Bool, true, false, ◌&&◌, List, [], ◌∷◌, map, length, get_or, Option, Some, None, refl, sym, ap, ◌∙◌, subst, arith}
 use Rattle.std.specs.Prelude.{◌==◌, nat_lt, not, slice_get, unwrap_or}
 use Rattle.std.specs.Option.{option_map_or}
 use Rattle.std.proofs.lemmas.Bool.{eqb-true, eqb-false, eq-eqb, lt-ltb, ltb-true, ltb-false}
 use Rattle.script_calls.specs.Runs.{left_of}
 use Rattle.script_calls.specs.declared.call.Call.{Call}
+use Rattle.script_calls.specs.declared.call.ComposedCall.TheVariants.{WaitFor}
+use Rattle.script_calls.specs.declared.call.Operation.{Operation}
+use Rattle.script_calls.specs.declared.call.Operation.TheVariants as operations
 use Rattle.script_calls.specs.declared.call.Reply.{Reply}
+use Rattle.workload.specs.Draft.{tries_of}
 use Rattle.workload.specs.declared.object.ObjectKind.{ObjectKind}
 use Rattle.workload.specs.declared.turn.Turn.{Turn}
 use Rattle.workload.specs.declared.turn.Turn.TheVariants as items
@@ -14,34 +18,38 @@ use Rattle.workload.specs.Puts.{puts_at}
 use Rattle.step_runner.specs.declared.turns.answer.Answer.{Answer}
 use Rattle.step_runner.specs.declared.turns.answer.Answer.TheVariants as answers
 use Rattle.step_runner.specs.declared.turns.object_state.ObjectState.{ObjectState}
-use Rattle.step_runner.specs.TurnsLeft.{refers_to, turns_left, TakesBy, told_at, is_told, TellsOwn}
-use Rattle.step_runner.specs.Items.{Item, items_at, goes_back, unlocks}
+use Rattle.step_runner.specs.TurnsLeft.{refers_to, TakesBy, told_at, is_told, TellsOwn}
+use Rattle.step_runner.specs.Items.{Item, goes_back, unlocks}
 use Rattle.step_runner.specs.Objects.{kind_of}
-use Rattle.step_runner.specs.Ready.{IsReady}
 use Rattle.step_runner.specs.Stands.{IsOutAt, IsOutBut}
-use Rattle.step_runner.specs.TurnAtObjects.{turn_at}
+use Rattle.step_runner.specs.StandsWithin.{IsReadyWithin, most_turns, turns_by_operation, turns_within}
+use Rattle.step_runner.specs.TurnWithin.{turn_within, items_within}
 use Rattle.step_runner.specs.declared.step.Step.{Step}
 use Rattle.step_runner.specs.declared.step.Step.TheVariants as steps
-use Rattle.step_runner.specs.CallTurns.{makes_event, stands_before, kinds_in, was_told, advances, requeues, wakes, one_if, behind, count_turns}
+use Rattle.step_runner.specs.CallTurns.{makes_event, stands_before, kinds_in, most_turns_for, calls_met, was_told, advances, requeues, wakes, one_if, behind, count_turns}
 use Rattle.step_runner.specs.RunItems.{made_by}
 use Rattle.step_runner.specs.State.{State, start, with_reply, with_moment, IsStateOf}
-use Rattle.step_runner.specs.Turns.{next_call, turn_of}
+use Rattle.step_runner.specs.Turns.{begun_by, next_call, turn_of, and_then, items_of, after_items}
 use Rattle.step_runner.proofs.FormLemmas.{TurnStands, Standing, own_at, standing_kept, start_stands}
+use Rattle.step_runner.proofs.MadeLemmas.{event_state}
+use Rattle.step_runner.proofs.MetCalls.{met_later, meets_next, four_at_most}
 use Rattle.step_runner.proofs.RunLemmas.{GoesOn, Kept, moment_valid}
+use Rattle.step_runner.proofs.ScriptRuns.{GoesFurther}
 use Rattle.step_runner.proofs.StartLemmas.{each_start}
-use Rattle.step_runner.proofs.TurnLemmas.{Takes, takes_by, turn_cases, moved, replied_more, replied_other, turn_before}
+use Rattle.step_runner.proofs.TurnLemmas.{Takes, takes_by, turn_cases, moved, begun_own, begun_other, few_begun, replied_begun_other, replied_more, replied_other, turn_before}
 
 -- what the laws of turns say
 pub record CallLaws : Type 0 where
-  pub most : (worker : ℕ) (call : Call) (objects : List ObjectState) → turns_left (map kind_of objects) call worker objects ≤ 4
-  pub own : (workers worker moment : ℕ) (call : Call) (objects : List ObjectState) → IsReady workers worker call objects
-      → TakesBy (goes_back (items_at call worker moment objects)) (turns_left (map kind_of objects) call worker objects) (turns_left (map kind_of objects) call worker (turn_at call worker moment objects).0) (turn_at call worker moment objects).1
-  pub others : (workers worker other moment : ℕ) (own call : Call) (objects : List ObjectState) → IsReady workers other call objects → worker ≢ other
-      → turns_left (map kind_of objects) own worker (turn_at call other moment objects).0 ≤ turns_left (map kind_of objects) own worker objects
-  pub told_before : (workers worker moment : ℕ) (call : Call) (objects : List ObjectState) → IsReady workers worker call objects
-      → TellsOwn (goes_back (items_at call worker moment objects)) (is_told (map kind_of objects) call worker objects) (is_told (map kind_of objects) call worker (turn_at call worker moment objects).0)
-  pub told_by : (workers worker other moment : ℕ) (own call : Call) (objects : List ObjectState) → IsReady workers other call objects → worker ≢ other
-      → is_told (map kind_of objects) own worker objects ≡ false → is_told (map kind_of objects) own worker (turn_at call other moment objects).0 ≡ true → unlocks (items_at call other moment objects) ≡ true
+  pub most : (worker begun : ℕ) (call : Call) (objects : List ObjectState) → begun ≤ tries_of call.operation → turns_within (map kind_of objects) call worker objects begun ≤ most_turns call.operation
+  pub own : (workers worker moment begun : ℕ) (call : Call) (objects : List ObjectState) → IsReadyWithin workers worker call objects
+      → TakesBy (goes_back (items_within call worker moment begun objects)) (turns_within (map kind_of objects) call worker objects begun)
+      (turns_within (map kind_of objects) call worker (turn_within call worker moment begun objects).0.0 (turn_within call worker moment begun objects).0.1) (turn_within call worker moment begun objects).1
+  pub others : (workers worker other moment begun later : ℕ) (own call : Call) (objects : List ObjectState) → IsReadyWithin workers other call objects → worker ≢ other
+      → turns_within (map kind_of objects) own worker (turn_within call other moment later objects).0.0 begun ≤ turns_within (map kind_of objects) own worker objects begun
+  pub told_before : (workers worker moment begun : ℕ) (call : Call) (objects : List ObjectState) → IsReadyWithin workers worker call objects
+      → TellsOwn (goes_back (items_within call worker moment begun objects)) (is_told (map kind_of objects) call worker objects) (is_told (map kind_of objects) call worker (turn_within call worker moment begun objects).0.0)
+  pub told_by : (workers worker other moment begun : ℕ) (own call : Call) (objects : List ObjectState) → IsReadyWithin workers other call objects → worker ≢ other
+      → is_told (map kind_of objects) own worker objects ≡ false → is_told (map kind_of objects) own worker (turn_within call other moment begun objects).0.0 ≡ true → unlocks (items_within call other moment begun objects) ≡ true
   pub untold : (worker : ℕ) (object : ObjectState) → IsOutAt worker object → told_at worker object ≡ false
 
 -- a turn without an event changes nothing
@@ -97,27 +105,21 @@ other_told false true u false false apart tells = omega arith
 other_told false true true false true apart tells = omega arith
 other_told false true false false true apart tells = no (tells refl refl)
 
+-- a call that is not completed takes one turn more at least
+one_left : (kinds : List ObjectKind) (call : Call) (worker : ℕ) (objects : List ObjectState) (operation : Operation) (begun : ℕ) → 1 ≤ turns_by_operation kinds call worker objects operation begun
+one_left kinds call worker objects (operations.Composed (WaitFor atomic value tries)) zero = omega arith
+one_left kinds call worker objects (operations.Composed (WaitFor atomic value tries)) (suc begun) = omega arith
+one_left kinds call worker objects operation begun = omega arith
+
 -- ---- one call of one worker
 
 module _ (plan : Plan) (worker number : ℕ) where
-  -- what is left of the call before which the worker stands, and whether it was told to go on, by its replies so far
-  abbrev left_by : List (Reply (List ℕ)) → List ObjectState → ℕ
-  left_by done objects = option_map_or (λ call. turns_left (kinds_in plan) call worker objects) (slice_get (left_of (get_or plan.scripts worker []) done) 0) 0
+  -- what is left of the call before which the worker stands, and whether it was told to go on, by its replies and begun waits so far
+  abbrev left_by : List (Reply (List ℕ)) → ℕ → List ObjectState → ℕ
+  left_by done begun objects = option_map_or (λ call. turns_within (kinds_in plan) call worker objects begun) (slice_get (left_of (get_or plan.scripts worker []) done) 0) 0
 
   abbrev told_by : List (Reply (List ℕ)) → List ObjectState → Bool
   told_by done objects = option_map_or (λ call. is_told (kinds_in plan) call worker objects) (slice_get (left_of (get_or plan.scripts worker []) done) 0) false
-
-  -- the most turns that can be counted: four before the call, what is left of it then, and none behind it
-  abbrev most_of : Bool → Bool → ℕ → ℕ
-  most_of true at n = 4
-  most_of false true n = n
-  most_of false false n = 0
-
-  abbrev most_by : List (Reply (List ℕ)) → List ObjectState → ℕ
-  most_by done objects = most_of (nat_lt (length done) number) (length done == number) (left_by done objects)
-
-  abbrev most : State → ℕ
-  most s = most_by (get_or s.replies worker []) s.objects
 
   abbrev told : State → ℕ
   told s = one_if ((length (get_or s.replies worker []) == number) && told_by (get_or s.replies worker []) s.objects)
@@ -134,104 +136,127 @@ module _ (plan : Plan) (worker number : ℕ) where
     | false ↦ λ f. refl
   ] refl
 
-  most_before : (done : List (Reply (List ℕ))) (objects : List ObjectState) → length done < number → most_by done objects ≡ 4
-  most_before done objects e = ap (λ (b : Bool). most_of b (length done == number) (left_by done objects)) (lt-ltb (length done) number e)
+  -- ---- the most turns that can be counted: as many as the call may take before it, what is left of it then, and none behind it
 
-  most_at : (done : List (Reply (List ℕ))) (objects : List ObjectState) → length done ≡ number → most_by done objects ≡ left_by done objects
-  most_at done objects e =
-      ap (λ (b : Bool). most_of b (length done == number) (left_by done objects)) (not_less (length done) number (omega (arith, e)))
-      ∙ ap (λ (b : Bool). most_of false b (left_by done objects)) (eq-eqb (length done) number e)
+  module _ (limit : ℕ) where
+    abbrev most_of : Bool → Bool → ℕ → ℕ
+    most_of true at n = limit
+    most_of false true n = n
+    most_of false false n = 0
 
-  most_past : (done : List (Reply (List ℕ))) (objects : List ObjectState) → number < length done → most_by done objects ≡ 0
-  most_past done objects e =
-      ap (λ (b : Bool). most_of b (length done == number) (left_by done objects)) (not_less (length done) number (omega (arith, e)))
-      ∙ ap (λ (b : Bool). most_of false b (left_by done objects)) (not_same (length done) number (λ same. omega (arith, e, same)))
+    abbrev most_by : List (Reply (List ℕ)) → ℕ → List ObjectState → ℕ
+    most_by done begun objects = most_of (nat_lt (length done) number) (length done == number) (left_by done begun objects)
 
-  -- no more where no more is left of the call, or where the worker stands before another one
-  most_less : (done : List (Reply (List ℕ))) (old new : List ObjectState) → left_by done new ≤ left_by done old → most_by done new ≤ most_by done old
-  most_less done old new less = by_place (nat_lt (length done) number) (length done == number)
-    where
-      by_place : (a b : Bool) → most_of a b (left_by done new) ≤ most_of a b (left_by done old)
-      by_place true b = omega arith
-      by_place false true = less
-      by_place false false = omega arith
+    abbrev most : State → ℕ
+    most s = most_by (get_or s.replies worker []) (begun_by worker s) s.objects
 
-  most_apart : (done : List (Reply (List ℕ))) (old new : List ObjectState) → (length done == number) ≡ false → most_by done new ≡ most_by done old
-  most_apart done old new apart =
-      ap (λ (b : Bool). most_of (nat_lt (length done) number) b (left_by done new)) apart
-      ∙ by_place (nat_lt (length done) number)
-      ∙ ap (λ (b : Bool). most_of (nat_lt (length done) number) b (left_by done old)) (sym apart)
-    where
-      by_place : (a : Bool) → most_of a false (left_by done new) ≡ most_of a false (left_by done old)
-      by_place true = refl
-      by_place false = refl
+    most_before : (done : List (Reply (List ℕ))) (begun : ℕ) (objects : List ObjectState) → length done < number → most_by done begun objects ≡ limit
+    most_before done begun objects e = ap (λ (b : Bool). most_of b (length done == number) (left_by done begun objects)) (lt-ltb (length done) number e)
 
-  module _ (laws : CallLaws) where
-    most_four : (done : List (Reply (List ℕ))) (objects : List ObjectState) → map kind_of objects ≡ kinds_in plan → most_by done objects ≤ 4
-    most_four done objects kinds = by_place (nat_lt (length done) number) (length done == number)
+    most_at : (done : List (Reply (List ℕ))) (begun : ℕ) (objects : List ObjectState) → length done ≡ number → most_by done begun objects ≡ left_by done begun objects
+    most_at done begun objects e =
+        ap (λ (b : Bool). most_of b (length done == number) (left_by done begun objects)) (not_less (length done) number (omega (arith, e)))
+        ∙ ap (λ (b : Bool). most_of false b (left_by done begun objects)) (eq-eqb (length done) number e)
+
+    most_past : (done : List (Reply (List ℕ))) (begun : ℕ) (objects : List ObjectState) → number < length done → most_by done begun objects ≡ 0
+    most_past done begun objects e =
+        ap (λ (b : Bool). most_of b (length done == number) (left_by done begun objects)) (not_less (length done) number (omega (arith, e)))
+        ∙ ap (λ (b : Bool). most_of false b (left_by done begun objects)) (not_same (length done) number (λ same. omega (arith, e, same)))
+
+    -- no more where no more is left of the call, or where the worker stands before another one
+    most_less : (done : List (Reply (List ℕ))) (begun later : ℕ) (old new : List ObjectState) → left_by done later new ≤ left_by done begun old → most_by done later new ≤ most_by done begun old
+    most_less done begun later old new less = by_place (nat_lt (length done) number) (length done == number)
       where
-        left_few : (o : Option Call) → option_map_or (λ call. turns_left (kinds_in plan) call worker objects) o 0 ≤ 4
-        left_few None = omega arith
-        left_few (Some call) = subst (λ (ks : List ObjectKind). turns_left ks call worker objects ≤ 4) kinds (laws.most worker call objects)
-
-        by_place : (a b : Bool) → most_of a b (left_by done objects) ≤ 4
+        by_place : (a b : Bool) → most_of a b (left_by done later new) ≤ most_of a b (left_by done begun old)
         by_place true b = omega arith
-        by_place false true = left_few (slice_get (left_of (get_or plan.scripts worker []) done) 0)
+        by_place false true = less
         by_place false false = omega arith
 
+    most_apart : (done : List (Reply (List ℕ))) (begun later : ℕ) (old new : List ObjectState) → (length done == number) ≡ false → most_by done later new ≡ most_by done begun old
+    most_apart done begun later old new apart =
+        ap (λ (b : Bool). most_of (nat_lt (length done) number) b (left_by done later new)) apart
+        ∙ by_place (nat_lt (length done) number)
+        ∙ ap (λ (b : Bool). most_of (nat_lt (length done) number) b (left_by done begun old)) (sym apart)
+      where
+        by_place : (a : Bool) → most_of a false (left_by done later new) ≡ most_of a false (left_by done begun old)
+        by_place true = refl
+        by_place false = refl
+
+    -- no more is left of this call than it may take
+    abbrev Fits : State → Type 0
+    Fits s = length (get_or s.replies worker []) ≡ number → left_by (get_or s.replies worker []) (begun_by worker s) s.objects ≤ limit
+
+    most_fits : (s : State) → Fits s → most s ≤ limit
+    most_fits s fits = by_place (nat_lt (length done) number) (length done == number) refl
+      where
+        done : List (Reply (List ℕ))
+        done = get_or s.replies worker []
+
+        by_place : (a b : Bool) → (length done == number) ≡ b → most_of a b (left_by done (begun_by worker s) s.objects) ≤ limit
+        by_place true b e = omega arith
+        by_place false true e = fits (eqb-true (length done) number e)
+        by_place false false e = omega arith
+
+  module _ (laws : CallLaws) where
     -- ---- another's turn
 
     module _ (by : ℕ) (s : State) (of : IsStateOf plan s) (apart : worker ≢ by) where
       abbrev done : List (Reply (List ℕ))
       done = get_or s.replies worker []
 
-      eased : (call : Call) (objects : List ObjectState) (answer : Answer) → Takes plan by s call objects answer → most_by done objects ≤ most_by done s.objects
-      eased call objects answer takes = most_less done s.objects objects (by_own (slice_get (left_of (get_or plan.scripts worker []) done) 0))
+      eased : (limit : ℕ) (call : Call) (objects : List ObjectState) (waits : ℕ) (answer : Answer) → Takes plan by s call objects waits answer → most limit (moved by objects waits s) ≤ most limit s
+      eased limit call objects waits answer takes =
+          most_less limit done (begun_by worker s) (begun_by worker (moved by objects waits s)) s.objects objects
+          (subst (λ (n : ℕ). left_by done n objects ≤ left_by done (begun_by worker s) s.objects) (sym (begun_other by worker waits objects s apart)) (by_own (slice_get (left_of (get_or plan.scripts worker []) done) 0)))
         where
-          by_own : (o : Option Call) → option_map_or (λ call. turns_left (kinds_in plan) call worker objects) o 0 ≤ option_map_or (λ call. turns_left (kinds_in plan) call worker s.objects) o 0
+          by_own : (o : Option Call) → option_map_or (λ call. turns_within (kinds_in plan) call worker objects (begun_by worker s)) o 0 ≤ option_map_or (λ call. turns_within (kinds_in plan) call worker s.objects (begun_by worker s)) o 0
           by_own None = omega arith
-          by_own (Some own) = subst (λ (ks : List ObjectKind). turns_left ks own worker objects ≤ turns_left ks own worker s.objects) of.objects
-              (takes_by (λ y. turns_left (map kind_of s.objects) own worker y.0 ≤ turns_left (map kind_of s.objects) own worker s.objects) plan by s call objects answer of takes
-              (λ r. laws.others plan.workers worker by s.moment own call s.objects r apart))
+          by_own (Some own) = subst (λ (ks : List ObjectKind). turns_within ks own worker objects (begun_by worker s) ≤ turns_within ks own worker s.objects (begun_by worker s)) of.objects
+              (takes_by (λ y. turns_within (map kind_of s.objects) own worker y.0.0 (begun_by worker s) ≤ turns_within (map kind_of s.objects) own worker s.objects (begun_by worker s)) plan by s call objects waits answer of takes
+              (λ r. laws.others plan.workers worker by s.moment (begun_by worker s) (begun_by by s) own call s.objects r apart))
 
-      other_few : behind (turn_of plan by s) most ≤ most s
-      other_few = turn_cases (λ x. behind x most ≤ most s) plan by s of (record {
+      -- another's reply changes nothing of it
+      same_most : (limit : ℕ) (reply : Reply (List ℕ)) (t : State) → most limit (with_reply by reply t) ≡ most limit t
+      same_most limit reply t = λ i. most_by limit (replied_other by worker reply t apart i) (replied_begun_other by worker reply t apart i) t.objects
+
+      other_few : (limit : ℕ) → behind (turn_of plan by s) (most limit) ≤ most limit s
+      other_few limit = turn_cases (λ x. behind x (most limit) ≤ most limit s) plan by s of (record {
         ended = λ is. omega arith;
-        still = λ call objects takes. eased call objects answers.Still takes;
-        unfinished = λ call objects takes. eased call objects answers.Unfinished takes;
-        completed = λ call objects reply takes. subst (λ (replies : List (Reply (List ℕ))). most_by replies objects ≤ most s) (sym (replied_other by worker reply (moved objects s) apart)) (eased call objects (answers.Completed reply) takes);
-        misused = λ call objects misuse takes. omega arith;
+        still = λ call objects waits takes. eased limit call objects waits answers.Still takes;
+        unfinished = λ call objects waits takes. eased limit call objects waits answers.Unfinished takes;
+        completed = λ call objects waits reply takes. omega (arith, same_most limit reply (moved by objects waits s), eased limit call objects waits (answers.Completed reply) takes);
+        misused = λ call objects waits misuse takes. omega arith;
       })
 
-      tells : (call : Call) (objects : List ObjectState) (answer : Answer) → Takes plan by s call objects answer → told_by done s.objects ≡ false → told_by done objects ≡ true → unlocks (made_by plan by s) ≡ true
-      tells call objects answer takes = by_own (slice_get (left_of (get_or plan.scripts worker []) done) 0)
+      tells : (call : Call) (objects : List ObjectState) (waits : ℕ) (answer : Answer) → Takes plan by s call objects waits answer → told_by done s.objects ≡ false → told_by done objects ≡ true → unlocks (made_by plan by s) ≡ true
+      tells call objects waits answer takes = by_own (slice_get (left_of (get_or plan.scripts worker []) done) 0)
         where
-          made : made_by plan by s ≡ items_at call by s.moment s.objects
-          made = ap (λ (o : Option Call). option_map_or (λ call. items_at call by s.moment s.objects) o []) takes.next
+          made : made_by plan by s ≡ items_within call by s.moment (begun_by by s) s.objects
+          made = ap (λ (o : Option Call). option_map_or (λ call. items_within call by s.moment (begun_by by s) s.objects) o []) takes.next
 
           by_own : (o : Option Call) → option_map_or (λ call. is_told (kinds_in plan) call worker s.objects) o false ≡ false → option_map_or (λ call. is_told (kinds_in plan) call worker objects) o false ≡ true → unlocks (made_by plan by s) ≡ true
           by_own None = λ was now. no now
           by_own (Some own) = subst (λ (ks : List ObjectKind). is_told ks own worker s.objects ≡ false → is_told ks own worker objects ≡ true → unlocks (made_by plan by s) ≡ true) of.objects
-              (takes_by (λ y. is_told (map kind_of s.objects) own worker s.objects ≡ false → is_told (map kind_of s.objects) own worker y.0 ≡ true → unlocks (made_by plan by s) ≡ true) plan by s call objects answer of takes
-              (λ r was now. ap unlocks made ∙ laws.told_by plan.workers worker by s.moment own call s.objects r apart was now))
+              (takes_by (λ y. is_told (map kind_of s.objects) own worker s.objects ≡ false → is_told (map kind_of s.objects) own worker y.0.0 ≡ true → unlocks (made_by plan by s) ≡ true) plan by s call objects waits answer of takes
+              (λ r was now. ap unlocks made ∙ laws.told_by plan.workers worker by s.moment (begun_by by s) own call s.objects r apart was now))
 
       abbrev Wakes : State → Type 0
       Wakes t = told t ≤ one_if (not (by == worker) && (stands_before worker number s && (unlocks (made_by plan by s) && (not (was_told plan worker s) && was_told plan worker t)))) + told s
 
-      woken : (call : Call) (objects : List ObjectState) (answer : Answer) → Takes plan by s call objects answer → Wakes (moved objects s)
-      woken call objects answer takes =
-          other_told (by == worker) (length done == number) (unlocks (made_by plan by s)) (told_by done s.objects) (told_by done objects) (not_same by worker (λ same. apart (sym same))) (tells call objects answer takes)
+      woken : (call : Call) (objects : List ObjectState) (waits : ℕ) (answer : Answer) → Takes plan by s call objects waits answer → Wakes (moved by objects waits s)
+      woken call objects waits answer takes =
+          other_told (by == worker) (length done == number) (unlocks (made_by plan by s)) (told_by done s.objects) (told_by done objects) (not_same by worker (λ same. apart (sym same))) (tells call objects waits answer takes)
 
       other_woken : behind (turn_of plan by s) told ≤ one_if (wakes plan worker number by s) + told s
       other_woken = turn_cases (λ x. behind x told ≤ one_if (not (by == worker) && (stands_before worker number s && (unlocks (made_by plan by s) && (not (was_told plan worker s) && was_told plan worker x.0)))) + told s) plan by s of (record {
         ended = λ is. omega arith;
-        still = λ call objects takes. woken call objects answers.Still takes;
-        unfinished = λ call objects takes. woken call objects answers.Unfinished takes;
-        completed = λ call objects reply takes.
+        still = λ call objects waits takes. woken call objects waits answers.Still takes;
+        unfinished = λ call objects waits takes. woken call objects waits answers.Unfinished takes;
+        completed = λ call objects waits reply takes.
             subst (λ (replies : List (Reply (List ℕ))). one_if ((length replies == number) && told_by replies objects)
             ≤ one_if (not (by == worker) && (stands_before worker number s && (unlocks (made_by plan by s) && (not (was_told plan worker s) && told_by replies objects)))) + told s)
-            (sym (replied_other by worker reply (moved objects s) apart)) (woken call objects (answers.Completed reply) takes);
-        misused = λ call objects misuse takes. omega arith;
+            (sym (replied_other by worker reply (moved by objects waits s) apart)) (woken call objects waits (answers.Completed reply) takes);
+        misused = λ call objects waits misuse takes. omega arith;
       })
 
     -- ---- the worker's own turn
@@ -240,113 +265,127 @@ module _ (plan : Plan) (worker number : ℕ) where
       abbrev own_done : List (Reply (List ℕ))
       own_done = get_or s.replies worker []
 
-      own_made : (call : Call) → next_call plan worker s ≡ Some call → made_by plan worker s ≡ items_at call worker s.moment s.objects
-      own_made call next = ap (λ (o : Option Call). option_map_or (λ call. items_at call worker s.moment s.objects) o []) next
+      own_made : (call : Call) → next_call plan worker s ≡ Some call → made_by plan worker s ≡ items_within call worker s.moment (begun_by worker s) s.objects
+      own_made call next = ap (λ (o : Option Call). option_map_or (λ call. items_within call worker s.moment (begun_by worker s) s.objects) o []) next
 
-      own_left : (call : Call) (objects : List ObjectState) → next_call plan worker s ≡ Some call → left_by own_done objects ≡ turns_left (kinds_in plan) call worker objects
-      own_left call objects next = ap (λ (o : Option Call). option_map_or (λ call. turns_left (kinds_in plan) call worker objects) o 0) next
+      own_left : (call : Call) (begun : ℕ) (objects : List ObjectState) → next_call plan worker s ≡ Some call → left_by own_done begun objects ≡ turns_within (kinds_in plan) call worker objects begun
+      own_left call begun objects next = ap (λ (o : Option Call). option_map_or (λ call. turns_within (kinds_in plan) call worker objects begun) o 0) next
 
-      own_takes : (call : Call) (objects : List ObjectState) (answer : Answer) → Takes plan worker s call objects answer → TakesBy (goes_back (made_by plan worker s)) (left_by own_done s.objects) (left_by own_done objects) answer
-      own_takes call objects answer takes =
-          subst (λ (made : List Item). TakesBy (goes_back made) (left_by own_done s.objects) (left_by own_done objects) answer) (sym (own_made call takes.next))
-          (subst (λ (n : ℕ). TakesBy (goes_back (items_at call worker s.moment s.objects)) n (left_by own_done objects) answer) (sym (own_left call s.objects takes.next))
-          (subst (λ (n : ℕ). TakesBy (goes_back (items_at call worker s.moment s.objects)) (turns_left (kinds_in plan) call worker s.objects) n answer) (sym (own_left call objects takes.next))
-          (subst (λ (ks : List ObjectKind). TakesBy (goes_back (items_at call worker s.moment s.objects)) (turns_left ks call worker s.objects) (turns_left ks call worker objects) answer) of.objects
-          (takes_by (λ y. TakesBy (goes_back (items_at call worker s.moment s.objects)) (turns_left (map kind_of s.objects) call worker s.objects) (turns_left (map kind_of s.objects) call worker y.0) y.1) plan worker s call objects answer of takes
-          (λ r. laws.own plan.workers worker s.moment call s.objects r)))))
+      own_takes : (call : Call) (objects : List ObjectState) (waits : ℕ) (answer : Answer) → Takes plan worker s call objects waits answer
+          → TakesBy (goes_back (made_by plan worker s)) (left_by own_done (begun_by worker s) s.objects) (left_by own_done (begun_by worker (moved worker objects waits s)) objects) answer
+      own_takes call objects waits answer takes =
+          let begun = begun_by worker s in
+          let back = goes_back (items_within call worker s.moment begun s.objects) in
+          subst (λ (n : ℕ). TakesBy (goes_back (made_by plan worker s)) (left_by own_done (begun_by worker s) s.objects) (left_by own_done n objects) answer) (sym (begun_own worker waits objects s (omega (arith, takes.below, of.waits))))
+          (subst (λ (made : List Item). TakesBy (goes_back made) (left_by own_done (begun_by worker s) s.objects) (left_by own_done waits objects) answer) (sym (own_made call takes.next))
+          (subst (λ (n : ℕ). TakesBy back n (left_by own_done waits objects) answer) (sym (own_left call begun s.objects takes.next))
+          (subst (λ (n : ℕ). TakesBy back (turns_within (kinds_in plan) call worker s.objects begun) n answer) (sym (own_left call waits objects takes.next))
+          (subst (λ (ks : List ObjectKind). TakesBy back (turns_within ks call worker s.objects begun) (turns_within ks call worker objects waits) answer) of.objects
+          (takes_by (λ y. TakesBy (goes_back (items_within call worker s.moment (begun_by worker s) s.objects)) (turns_within (map kind_of s.objects) call worker s.objects (begun_by worker s)) (turns_within (map kind_of s.objects) call worker y.0.0 y.0.1) y.1)
+          plan worker s call objects waits answer of takes
+          (λ r. laws.own plan.workers worker s.moment (begun_by worker s) call s.objects r))))))
 
-      some_left : (call : Call) → next_call plan worker s ≡ Some call → 1 ≤ left_by own_done s.objects
-      some_left call next = omega (arith, own_left call s.objects next)
+      some_left : (call : Call) → next_call plan worker s ≡ Some call → 1 ≤ left_by own_done (begun_by worker s) s.objects
+      some_left call next = omega (arith, own_left call (begun_by worker s) s.objects next, one_left (kinds_in plan) call worker s.objects call.operation (begun_by worker s))
 
       abbrev advance : Step → ℕ
       advance step = one_if ((worker == worker) && (stands_before worker number s && (makes_event step && not (goes_back (made_by plan worker s)))))
 
-      -- before another call of the worker
-      elsewhere : GoesOn plan → (length own_done == number) ≡ false → behind (turn_of plan worker s) most ≤ most s
-      elsewhere goes apart = turn_cases (λ x. IsStateOf plan x.0 → behind x most ≤ most s) plan worker s of (record {
-        ended = λ is valid. omega arith;
-        still = λ call objects takes valid. omega (arith, most_apart own_done s.objects objects apart);
-        unfinished = λ call objects takes valid. omega (arith, most_apart own_done s.objects objects apart);
-        completed = λ call objects reply takes valid. replied reply objects takes.below valid;
-        misused = λ call objects misuse takes valid. omega arith;
-      }) (goes worker s of)
-        where
-          replied : (reply : Reply (List ℕ)) (objects : List ObjectState) → worker < plan.workers → IsStateOf plan (with_reply worker reply (moved objects s)) → most (with_reply worker reply (moved objects s)) ≤ most s
-          replied reply objects below valid =
-              let after = get_or (with_reply worker reply (moved objects s)).replies worker [] in
-              let more = replied_more worker reply (moved objects s) (omega (arith, of.workers, below)) in
-              elim (nat_lt (length own_done) number) as (λ b. nat_lt (length own_done) number ≡ b → most_by after objects ≤ most s) [
-                | true ↦ λ e. omega (arith, most_before own_done s.objects (ltb-true (length own_done) number e), most_four after objects valid.objects)
-                | false ↦ λ e. omega (arith, most_past after objects (omega (arith, more, past e)))
-              ] refl
-            where
-              past : nat_lt (length own_done) number ≡ false → number < length own_done
-              past e = elim (nat_lt number (length own_done)) as (λ b. nat_lt number (length own_done) ≡ b → number < length own_done) [
-                | true ↦ λ f. ltb-true number (length own_done) f
-                | false ↦ λ f. absurd (eqb-false (length own_done) number apart (omega (arith, ltb-false (length own_done) number e, ltb-false number (length own_done) f)))
-              ] refl
+      -- behind a call more
+      replied_count : (objects : List ObjectState) (waits : ℕ) (reply : Reply (List ℕ)) → worker < plan.workers → length (get_or (with_reply worker reply (moved worker objects waits s)).replies worker []) ≡ length own_done + 1
+      replied_count objects waits reply below = replied_more worker reply (moved worker objects waits s) (omega (arith, of.workers, below))
 
-      -- before this call
-      here : (length own_done == number) ≡ true → advance (turn_of plan worker s).1 + behind (turn_of plan worker s) most ≤ most s
-      here is = turn_cases (λ x. advance x.1 + behind x most ≤ most s) plan worker s of (record {
-        ended = λ none. omega (arith, none_still (worker == worker) (stands_before worker number s) (not (goes_back (made_by plan worker s))));
-        still = λ call objects takes. omega (
-          arith,
-          none_still (worker == worker) (stands_before worker number s) (not (goes_back (made_by plan worker s))),
-          ap most (same plan worker s (moved objects s) of (turn_before plan worker s call objects answers.Still takes.next takes.turn)),
-        );
-        unfinished = λ call objects takes. unfinished (goes_back (made_by plan worker s)) objects refl (own_takes call objects answers.Unfinished takes);
-        completed = λ call objects reply takes. omega (
-          arith,
-          at,
-          most_at own_done s.objects at,
-          some_left call takes.next,
-          one_most ((worker == worker) && (stands_before worker number s && (true && not (goes_back (made_by plan worker s))))),
-          most_past (get_or (with_reply worker reply (moved objects s)).replies worker []) objects (omega (arith, at, replied_more worker reply (moved objects s) (omega (arith, of.workers, takes.below)))),
-        );
-        misused = λ call objects misuse takes. omega (
-          arith,
-          most_at own_done s.objects at,
-          some_left call takes.next,
-          one_most ((worker == worker) && (stands_before worker number s && (true && not (goes_back (made_by plan worker s))))),
-        );
-      })
-        where
-          at : length own_done ≡ number
-          at = eqb-true (length own_done) number is
+      module _ (limit : ℕ) where
+        -- before another call of the worker
+        elsewhere : Fits limit (turn_of plan worker s).0 → (length own_done == number) ≡ false → behind (turn_of plan worker s) (most limit) ≤ most limit s
+        elsewhere fits apart = turn_cases (λ x. Fits limit x.0 → behind x (most limit) ≤ most limit s) plan worker s of (record {
+          ended = λ is fits. omega arith;
+          still = λ call objects waits takes fits. omega (arith, most_apart limit own_done (begun_by worker s) (begun_by worker (moved worker objects waits s)) s.objects objects apart);
+          unfinished = λ call objects waits takes fits. omega (arith, most_apart limit own_done (begun_by worker s) (begun_by worker (moved worker objects waits s)) s.objects objects apart);
+          completed = λ call objects waits reply takes fits. replied reply objects waits takes.below fits;
+          misused = λ call objects waits misuse takes fits. omega arith;
+        }) fits
+          where
+            replied : (reply : Reply (List ℕ)) (objects : List ObjectState) (waits : ℕ) → worker < plan.workers → Fits limit (with_reply worker reply (moved worker objects waits s)) → most limit (with_reply worker reply (moved worker objects waits s)) ≤ most limit s
+            replied reply objects waits below fits =
+                let t = with_reply worker reply (moved worker objects waits s) in
+                elim (nat_lt (length own_done) number) as (λ b. nat_lt (length own_done) number ≡ b → most limit (with_reply worker reply (moved worker objects waits s)) ≤ most limit s) [
+                  | true ↦ λ e. omega (arith, most_before limit own_done (begun_by worker s) s.objects (ltb-true (length own_done) number e), most_fits limit t fits)
+                  | false ↦ λ e. omega (arith, most_past limit (get_or t.replies worker []) (begun_by worker t) objects (omega (arith, replied_count objects waits reply below, past e)))
+                ] refl
+              where
+                past : nat_lt (length own_done) number ≡ false → number < length own_done
+                past e = elim (nat_lt number (length own_done)) as (λ b. nat_lt number (length own_done) ≡ b → number < length own_done) [
+                  | true ↦ λ f. ltb-true number (length own_done) f
+                  | false ↦ λ f. absurd (eqb-false (length own_done) number apart (omega (arith, ltb-false (length own_done) number e, ltb-false number (length own_done) f)))
+                ] refl
 
-          unfinished : (back : Bool) (objects : List ObjectState) → goes_back (made_by plan worker s) ≡ back → TakesBy (goes_back (made_by plan worker s)) (left_by own_done s.objects) (left_by own_done objects) answers.Unfinished
-              → advance steps.Made + most_by own_done objects ≤ most s
-          unfinished true objects e takes =
-              let less : left_by own_done objects ≤ left_by own_done s.objects = subst (λ (b : Bool). TakesBy b (left_by own_done s.objects) (left_by own_done objects) answers.Unfinished) e takes in
-              omega (arith, less, most_at own_done s.objects at, most_at own_done objects at, none_back (worker == worker) (stands_before worker number s) true (goes_back (made_by plan worker s)) e)
-          unfinished false objects e takes =
-              let less : left_by own_done objects < left_by own_done s.objects = subst (λ (b : Bool). TakesBy b (left_by own_done s.objects) (left_by own_done objects) answers.Unfinished) e takes in
-              omega (arith, less, most_at own_done s.objects at, most_at own_done objects at, one_most ((worker == worker) && (stands_before worker number s && (true && not (goes_back (made_by plan worker s))))))
+        -- before this call
+        here : (length own_done == number) ≡ true → advance (turn_of plan worker s).1 + behind (turn_of plan worker s) (most limit) ≤ most limit s
+        here is = turn_cases (λ x. advance x.1 + behind x (most limit) ≤ most limit s) plan worker s of (record {
+          ended = λ none. omega (arith, none_still (worker == worker) (stands_before worker number s) (not (goes_back (made_by plan worker s))));
+          still = λ call objects waits takes. omega (
+            arith,
+            none_still (worker == worker) (stands_before worker number s) (not (goes_back (made_by plan worker s))),
+            ap (most limit) (same plan worker s (moved worker objects waits s) of (turn_before plan worker s call objects waits answers.Still takes.next takes.turn)),
+          );
+          unfinished = λ call objects waits takes. unfinished (goes_back (made_by plan worker s)) objects waits refl (own_takes call objects waits answers.Unfinished takes);
+          completed = λ call objects waits reply takes.
+              let t = with_reply worker reply (moved worker objects waits s) in
+              omega (
+                arith,
+                at,
+                most_at limit own_done (begun_by worker s) s.objects at,
+                some_left call takes.next,
+                one_most ((worker == worker) && (stands_before worker number s && (true && not (goes_back (made_by plan worker s))))),
+                most_past limit (get_or t.replies worker []) (begun_by worker t) objects (omega (arith, at, replied_count objects waits reply takes.below)),
+              );
+          misused = λ call objects waits misuse takes. omega (
+            arith,
+            most_at limit own_done (begun_by worker s) s.objects at,
+            some_left call takes.next,
+            one_most ((worker == worker) && (stands_before worker number s && (true && not (goes_back (made_by plan worker s))))),
+          );
+        })
+          where
+            at : length own_done ≡ number
+            at = eqb-true (length own_done) number is
 
-      own_few : GoesOn plan → advance (turn_of plan worker s).1 + behind (turn_of plan worker s) most ≤ most s
-      own_few goes = elim (length own_done == number) as (λ b. (length own_done == number) ≡ b → advance (turn_of plan worker s).1 + behind (turn_of plan worker s) most ≤ most s) [
-        | true ↦ λ e. here e
-        | false ↦ λ e. omega (
-          arith,
-          none_second (worker == worker) (stands_before worker number s) (makes_event (turn_of plan worker s).1 && not (goes_back (made_by plan worker s))) e,
-          elsewhere goes e,
-        )
-      ] refl
+            unfinished : (back : Bool) (objects : List ObjectState) (waits : ℕ) → goes_back (made_by plan worker s) ≡ back
+                → TakesBy (goes_back (made_by plan worker s)) (left_by own_done (begun_by worker s) s.objects) (left_by own_done (begun_by worker (moved worker objects waits s)) objects) answers.Unfinished
+                → advance steps.Made + most limit (moved worker objects waits s) ≤ most limit s
+            unfinished true objects waits e takes =
+                let later = begun_by worker (moved worker objects waits s) in
+                let less : left_by own_done later objects ≤ left_by own_done (begun_by worker s) s.objects = subst (λ (b : Bool). TakesBy b (left_by own_done (begun_by worker s) s.objects) (left_by own_done later objects) answers.Unfinished) e takes in
+                omega (arith, less, most_at limit own_done (begun_by worker s) s.objects at, most_at limit own_done later objects at, none_back (worker == worker) (stands_before worker number s) true (goes_back (made_by plan worker s)) e)
+            unfinished false objects waits e takes =
+                let later = begun_by worker (moved worker objects waits s) in
+                let less : left_by own_done later objects < left_by own_done (begun_by worker s) s.objects = subst (λ (b : Bool). TakesBy b (left_by own_done (begun_by worker s) s.objects) (left_by own_done later objects) answers.Unfinished) e takes in
+                omega (arith, less, most_at limit own_done (begun_by worker s) s.objects at, most_at limit own_done later objects at, one_most ((worker == worker) && (stands_before worker number s && (true && not (goes_back (made_by plan worker s))))))
+
+        own_few : Fits limit (turn_of plan worker s).0 → advance (turn_of plan worker s).1 + behind (turn_of plan worker s) (most limit) ≤ most limit s
+        own_few fits = elim (length own_done == number) as (λ b. (length own_done == number) ≡ b → advance (turn_of plan worker s).1 + behind (turn_of plan worker s) (most limit) ≤ most limit s) [
+          | true ↦ λ e. here e
+          | false ↦ λ e. omega (
+            arith,
+            none_second (worker == worker) (stands_before worker number s) (makes_event (turn_of plan worker s).1 && not (goes_back (made_by plan worker s))) e,
+            elsewhere fits e,
+          )
+        ] refl
 
       -- whether it was told, by its own turn
-      own_tells : (call : Call) (objects : List ObjectState) (answer : Answer) → Takes plan worker s call objects answer → TellsOwn (goes_back (made_by plan worker s)) (told_by own_done s.objects) (told_by own_done objects)
-      own_tells call objects answer takes =
-          subst (λ (o : Option Call). TellsOwn (goes_back (option_map_or (λ call. items_at call worker s.moment s.objects) o [])) (option_map_or (λ call. is_told (kinds_in plan) call worker s.objects) o false) (option_map_or (λ call. is_told (kinds_in plan) call worker objects) o false)) (sym takes.next)
-          (subst (λ (ks : List ObjectKind). TellsOwn (goes_back (items_at call worker s.moment s.objects)) (is_told ks call worker s.objects) (is_told ks call worker objects)) of.objects
-          (takes_by (λ y. TellsOwn (goes_back (items_at call worker s.moment s.objects)) (is_told (map kind_of s.objects) call worker s.objects) (is_told (map kind_of s.objects) call worker y.0)) plan worker s call objects answer of takes
-          (λ r. laws.told_before plan.workers worker s.moment call s.objects r)))
+      own_tells : (call : Call) (objects : List ObjectState) (waits : ℕ) (answer : Answer) → Takes plan worker s call objects waits answer → TellsOwn (goes_back (made_by plan worker s)) (told_by own_done s.objects) (told_by own_done objects)
+      own_tells call objects waits answer takes =
+          subst (λ (o : Option Call). TellsOwn (goes_back (option_map_or (λ call. items_within call worker s.moment (begun_by worker s) s.objects) o [])) (option_map_or (λ call. is_told (kinds_in plan) call worker s.objects) o false) (option_map_or (λ call. is_told (kinds_in plan) call worker objects) o false)) (sym takes.next)
+          (subst (λ (ks : List ObjectKind). TellsOwn (goes_back (items_within call worker s.moment (begun_by worker s) s.objects)) (is_told ks call worker s.objects) (is_told ks call worker objects)) of.objects
+          (takes_by (λ y. TellsOwn (goes_back (items_within call worker s.moment (begun_by worker s) s.objects)) (is_told (map kind_of s.objects) call worker s.objects) (is_told (map kind_of s.objects) call worker y.0.0)) plan worker s call objects waits answer of takes
+          (λ r. laws.told_before plan.workers worker s.moment (begun_by worker s) call s.objects r)))
 
       abbrev returned : ℕ
       returned = one_if ((worker == worker) && (stands_before worker number s && goes_back (made_by plan worker s)))
 
-      kept : (call : Call) (objects : List ObjectState) (answer : Answer) → Takes plan worker s call objects answer → returned + told (moved objects s) ≤ told s
-      kept call objects answer takes = own_told (worker == worker) (length own_done == number) (goes_back (made_by plan worker s)) (told_by own_done s.objects) (told_by own_done objects) (own_tells call objects answer takes)
+      kept : (call : Call) (objects : List ObjectState) (waits : ℕ) (answer : Answer) → Takes plan worker s call objects waits answer → returned + told (moved worker objects waits s) ≤ told s
+      kept call objects waits answer takes = own_told (worker == worker) (length own_done == number) (goes_back (made_by plan worker s)) (told_by own_done s.objects) (told_by own_done objects) (own_tells call objects waits answer takes)
 
       -- at objects at which it is out
       out_everywhere : (objects : List ObjectState) → IsOutBut None worker objects → (done : List (Reply (List ℕ))) → told_by done objects ≡ false
@@ -360,23 +399,23 @@ module _ (plan : Plan) (worker number : ℕ) where
           by_call None = refl
           by_call (Some call) = let k = unwrap_or (refers_to (kinds_in plan) call) call.object in by_object k (slice_get objects k) refl
 
-      own_woken : ((call : Call) (objects : List ObjectState) (reply : Reply (List ℕ)) → Takes plan worker s call objects (answers.Completed reply) → IsOutBut None worker objects) → returned + behind (turn_of plan worker s) told ≤ told s
+      own_woken : ((call : Call) (objects : List ObjectState) (waits : ℕ) (reply : Reply (List ℕ)) → Takes plan worker s call objects waits (answers.Completed reply) → IsOutBut None worker objects) → returned + behind (turn_of plan worker s) told ≤ told s
       own_woken outs = turn_cases (λ x. returned + behind x told ≤ told s) plan worker s of (record {
         ended = λ none. own_told (worker == worker) (length own_done == number) (goes_back (made_by plan worker s)) (told_by own_done s.objects) (told_by own_done s.objects) (nothing none);
-        still = λ call objects takes. kept call objects answers.Still takes;
-        unfinished = λ call objects takes. kept call objects answers.Unfinished takes;
-        completed = λ call objects reply takes.
-            let after = get_or (with_reply worker reply (moved objects s)).replies worker [] in
+        still = λ call objects waits takes. kept call objects waits answers.Still takes;
+        unfinished = λ call objects waits takes. kept call objects waits answers.Unfinished takes;
+        completed = λ call objects waits reply takes.
+            let after = get_or (with_reply worker reply (moved worker objects waits s)).replies worker [] in
             omega (
               arith,
-              kept call objects (answers.Completed reply) takes,
-              told_none (length after == number) (told_by after objects) (out_everywhere objects (outs call objects reply takes) after),
+              kept call objects waits (answers.Completed reply) takes,
+              told_none (length after == number) (told_by after objects) (out_everywhere objects (outs call objects waits reply takes) after),
             );
-        misused = λ call objects misuse takes. omega (arith, kept call objects (answers.Misused misuse) takes);
+        misused = λ call objects waits misuse takes. omega (arith, kept call objects waits (answers.Misused misuse) takes);
       })
         where
           nothing : next_call plan worker s ≡ None → TellsOwn (goes_back (made_by plan worker s)) (told_by own_done s.objects) (told_by own_done s.objects)
-          nothing none = subst (λ (o : Option Call). TellsOwn (goes_back (option_map_or (λ call. items_at call worker s.moment s.objects) o [])) (told_by own_done s.objects) (told_by own_done s.objects)) (sym none) (λ was. was)
+          nothing none = subst (λ (o : Option Call). TellsOwn (goes_back (option_map_or (λ call. items_within call worker s.moment (begun_by worker s) s.objects) o [])) (told_by own_done s.objects) (told_by own_done s.objects)) (sym none) (λ was. was)
 
           told_none : (a b : Bool) → b ≡ false → one_if (a && b) ≡ 0
           told_none true b e = ap one_if e
@@ -384,14 +423,14 @@ module _ (plan : Plan) (worker number : ℕ) where
 
     -- ---- any turn
 
-    turn_few : StillSame → GoesOn plan → (by : ℕ) (s : State) → IsStateOf plan s → one_if (advances plan worker number by s) + behind (turn_of plan by s) most ≤ most s
-    turn_few same goes by s of = elim (by == worker) as (λ b. (by == worker) ≡ b → one_if (advances plan worker number by s) + behind (turn_of plan by s) most ≤ most s) [
+    turn_few : StillSame → (limit by : ℕ) (s : State) → IsStateOf plan s → Fits limit (turn_of plan by s).0 → one_if (advances plan worker number by s) + behind (turn_of plan by s) (most limit) ≤ most limit s
+    turn_few same limit by s of fits = elim (by == worker) as (λ b. (by == worker) ≡ b → one_if (advances plan worker number by s) + behind (turn_of plan by s) (most limit) ≤ most limit s) [
       | true ↦ λ e. let same_worker : worker ≡ by = sym (eqb-true by worker e) in
-          subst (λ (w : ℕ). one_if (advances plan worker number w s) + behind (turn_of plan w s) most ≤ most s) same_worker (own_few same s of goes)
+          subst (λ (w : ℕ). Fits limit (turn_of plan w s).0 → one_if (advances plan worker number w s) + behind (turn_of plan w s) (most limit) ≤ most limit s) same_worker (own_few same s of limit) fits
       | false ↦ λ e. omega (
         arith,
         none_by (by == worker) (stands_before worker number s && (makes_event (turn_of plan by s).1 && not (goes_back (made_by plan by s)))) e,
-        other_few by s of (λ one. eqb-false by worker e (sym one)),
+        other_few by s of (λ one. eqb-false by worker e (sym one)) limit,
       )
     ] refl
 
@@ -399,7 +438,7 @@ module _ (plan : Plan) (worker number : ℕ) where
     turn_woken stands same by s h = elim (by == worker) as (λ b. (by == worker) ≡ b → one_if (requeues plan worker number by s) + behind (turn_of plan by s) told ≤ one_if (wakes plan worker number by s) + told s) [
       | true ↦ λ e. let same_worker : worker ≡ by = sym (eqb-true by worker e) in
           subst (λ (w : ℕ). one_if (requeues plan worker number w s) + behind (turn_of plan w s) told ≤ one_if (wakes plan worker number w s) + told s) same_worker
-          (omega (arith, own_woken same s h.of (λ call objects reply takes. own_at stands plan worker s h call objects (answers.Completed reply) takes)))
+          (omega (arith, own_woken same s h.of (λ call objects waits reply takes. own_at stands plan worker s h call objects waits (answers.Completed reply) takes)))
       | false ↦ λ e. omega (
         arith,
         none_by (by == worker) (stands_before worker number s && goes_back (made_by plan by s)) e,
@@ -409,24 +448,49 @@ module _ (plan : Plan) (worker number : ℕ) where
 
     -- ---- turns in order
 
-    behind_less : (x : State × Step) (f g : State → ℕ) → f x.0 ≤ g x.0 → behind x f ≤ behind x g
-    behind_less (s, steps.Still) f g less = less
-    behind_less (s, steps.Made) f g less = less
-    behind_less (s, steps.Misused misuse) f g less = omega arith
-
     behind_sum : (x : State × Step) (f g h : State → ℕ) → f x.0 ≤ g x.0 + h x.0 → behind x f ≤ behind x g + behind x h
     behind_sum (s, steps.Still) f g h less = less
     behind_sum (s, steps.Made) f g h less = less
     behind_sum (s, steps.Misused misuse) f g h less = omega arith
 
-    few_turns : StillSame → GoesOn plan → (list : List Turn) (s : State) → IsStateOf plan s → count_turns plan (advances plan worker number) list s ≤ most s
-    few_turns same goes [] s of = omega arith
-    few_turns same goes (items.Worker by ∷ rest) s of = omega (
-      arith,
-      turn_few same goes by s of,
-      behind_less (turn_of plan by s) (count_turns plan (advances plan worker number) rest) most (few_turns same goes rest (turn_of plan by s).0 (goes by s of)),
-    )
-    few_turns same goes (items.Moment moment ∷ rest) s of = few_turns same goes rest (with_moment moment s) (moment_valid plan moment s of)
+    -- no more is left of the call than it may take, by what the worker has met at last
+    abbrev limit_at : State → ℕ
+    limit_at s = most_turns_for plan worker number s
+
+    fits_later : GoesFurther → GoesOn plan → (list : List Turn) (s : State) → IsStateOf plan s → Fits (limit_at (after_items plan list s)) s
+    fits_later further goes list s of at = by_next (next_call plan worker s) refl
+      where
+        by_next : (o : Option Call) → next_call plan worker s ≡ o → left_by (get_or s.replies worker []) (begun_by worker s) s.objects ≤ limit_at (after_items plan list s)
+        by_next None none = omega (arith, ap (λ (o : Option Call). option_map_or (λ call. turns_within (kinds_in plan) call worker s.objects (begun_by worker s)) o 0) none)
+        by_next (Some call) some =
+            let most_left : turns_within (kinds_in plan) call worker s.objects (begun_by worker s) ≤ most_turns call.operation =
+            subst (λ (ks : List ObjectKind). turns_within ks call worker s.objects (begun_by worker s) ≤ most_turns call.operation) of.objects (laws.most worker (begun_by worker s) call s.objects (few_begun plan worker s call of some)) in
+            omega (
+              arith,
+              most_left,
+              ap (λ (o : Option Call). option_map_or (λ call. turns_within (kinds_in plan) call worker s.objects (begun_by worker s)) o 0) some,
+              met_later further plan worker number call goes list s of (meets_next plan worker number s call of at some),
+            )
+
+    -- what follows a turn, unless that was a misuse
+    fits_behind : GoesFurther → GoesOn plan → (rest : List Turn) (x : State × Step) → IsStateOf plan x.0 → Fits (limit_at (and_then x (items_of plan rest)).0) x.0
+    fits_behind further goes rest (t, steps.Still) of = fits_later further goes rest t of
+    fits_behind further goes rest (t, steps.Made) of = subst (λ (u : State). Fits (limit_at u) t) (sym (event_state (items_of plan rest t))) (fits_later further goes rest t of)
+    fits_behind further goes rest (t, steps.Misused misuse) of = fits_later further goes [] t of
+
+    few_behind : (rest : List Turn) (x : State × Step) → ((t : State) → IsStateOf plan t → count_turns plan (advances plan worker number) rest t ≤ most (limit_at (after_items plan rest t)) t) → IsStateOf plan x.0
+        → behind x (count_turns plan (advances plan worker number) rest) ≤ behind x (most (limit_at (and_then x (items_of plan rest)).0))
+    few_behind rest (t, steps.Still) later of = later t of
+    few_behind rest (t, steps.Made) later of = subst (λ (u : State). count_turns plan (advances plan worker number) rest t ≤ most (limit_at u) t) (sym (event_state (items_of plan rest t))) (later t of)
+    few_behind rest (t, steps.Misused misuse) later of = omega arith
+
+    few_turns : GoesFurther → StillSame → GoesOn plan → (list : List Turn) (s : State) → IsStateOf plan s → count_turns plan (advances plan worker number) list s ≤ most (limit_at (after_items plan list s)) s
+    few_turns further same goes [] s of = omega arith
+    few_turns further same goes (items.Worker by ∷ rest) s of =
+        let x = turn_of plan by s in
+        let limit = limit_at (and_then x (items_of plan rest)).0 in
+        omega (arith, turn_few same limit by s of (fits_behind further goes rest x (goes by s of)), few_behind rest x (few_turns further same goes rest) (goes by s of))
+    few_turns further same goes (items.Moment moment ∷ rest) s of = few_turns further same goes rest (with_moment moment s) (moment_valid plan moment s of)
 
     woken_turns : TurnStands → StillSame → Kept plan (Standing plan) → (list : List Turn) (s : State) → Standing plan s → count_turns plan (requeues plan worker number) list s ≤ count_turns plan (wakes plan worker number) list s + told s
     woken_turns stands same keeps [] s h = omega arith
@@ -439,8 +503,19 @@ module _ (plan : Plan) (worker number : ℕ) where
 
     -- ---- from the start on
 
-    pub few_from_start : StillSame → GoesOn plan → IsStateOf plan (start plan) → (list : List Turn) → count_turns plan (advances plan worker number) list (start plan) ≤ 4
-    few_from_start same goes of list = omega (arith, few_turns same goes list (start plan) of, most_four (get_or (start plan).replies worker []) (start plan).objects of.objects)
+    pub few_from_start : GoesFurther → StillSame → GoesOn plan → IsStateOf plan (start plan) → (list : List Turn) → count_turns plan (advances plan worker number) list (start plan) ≤ most_turns_for plan worker number (after_items plan list (start plan))
+    few_from_start further same goes of list =
+        let limit = limit_at (after_items plan list (start plan)) in
+        omega (arith, few_turns further same goes list (start plan) of, most_fits limit (start plan) (fits_later further goes list (start plan) of))
+
+    pub plain_from_start : GoesFurther → StillSame → GoesOn plan → IsStateOf plan (start plan) → (list : List Turn) (call : Call) → slice_get (calls_met plan worker (after_items plan list (start plan))) number ≡ Some call → tries_of call.operation ≡ 0
+        → count_turns plan (advances plan worker number) list (start plan) ≤ 4
+    plain_from_start further same goes of list call met none = omega (
+      arith,
+      few_from_start further same goes of list,
+      ap (λ (o : Option Call). option_map_or (λ (call : Call). most_turns call.operation) o 0) met,
+      four_at_most call.operation none,
+    )
 
     pub woken_from_start : TurnStands → StillSame → GoesOn plan → IsStateOf plan (start plan) → (list : List Turn) → count_turns plan (requeues plan worker number) list (start plan) ≤ count_turns plan (wakes plan worker number) list (start plan)
     woken_from_start stands same goes of list =

@@ -21,28 +21,28 @@ use Rattle.step_runner.specs.declared.turns.answer.Answer.{Answer}
 use Rattle.step_runner.specs.declared.turns.answer.Answer.TheVariants as answers
 use Rattle.step_runner.specs.declared.turns.object_state.ObjectState.{ObjectState}
 use Rattle.step_runner.specs.Objects.{new_object, kind_of}
-use Rattle.step_runner.specs.Ready.{IsReady}
 use Rattle.step_runner.specs.ReplyForm.{HasForm}
-use Rattle.step_runner.specs.Stands.{waits_at, IsOutAt, IsOutBut, waits_behind}
-use Rattle.step_runner.specs.TurnAtObjects.{turn_at}
+use Rattle.step_runner.specs.Stands.{IsOutAt, IsOutBut, waits_behind}
+use Rattle.step_runner.specs.StandsWithin.{IsReadyWithin, waits_within}
+use Rattle.step_runner.specs.TurnWithin.{turn_within}
 use Rattle.step_runner.specs.Computed.{whole_run, outcome_of, turns}
 use Rattle.workload.specs.Forms.{have_forms, all_have_forms, has_forms}
 use Rattle.step_runner.specs.State.{State, start, with_reply, IsStateOf}
-use Rattle.step_runner.specs.Turns.{next_call, turn_of, after_items}
+use Rattle.step_runner.specs.Turns.{begun_by, next_call, turn_of, after_items}
 use Rattle.step_runner.proofs.Numbered.{NamesAside}
 use Rattle.step_runner.proofs.StartLemmas.{each_start}
-use Rattle.step_runner.proofs.TurnLemmas.{both, both_true, Takes, takes_by, turn_cases, moved, replied_other, valid_scripts}
+use Rattle.step_runner.proofs.TurnLemmas.{both, both_true, Takes, takes_by, turn_cases, moved, begun_own, begun_other, replied_begun_other, replied_other, valid_scripts}
 use Rattle.step_runner.proofs.RunLemmas.{GoesOn, moment_valid, Kept, items_keep, run_keeps}
 
 -- what the law of turns says
 pub record TurnStands : Type 0 where
   pub begins : (worker workers room : ℕ) (kind : ObjectKind) → IsOutAt worker (new_object workers room kind)
-  pub forms : (workers worker moment : ℕ) (call : Call) (objects : List ObjectState) → IsReady workers worker call objects → IsOutBut (waits_at (map kind_of objects) call) worker objects
-      → HasForm call.operation (turn_at call worker moment objects).1
-  pub own : (workers worker moment : ℕ) (call : Call) (objects : List ObjectState) → IsReady workers worker call objects → IsOutBut (waits_at (map kind_of objects) call) worker objects
-      → IsOutBut (waits_behind (turn_at call worker moment objects).1 (waits_at (map kind_of objects) call)) worker (turn_at call worker moment objects).0
-  pub others : (workers worker other moment : ℕ) (call : Call) (but : Option ℕ) (objects : List ObjectState) → IsReady workers other call objects → worker ≢ other → IsOutBut but worker objects
-      → IsOutBut but worker (turn_at call other moment objects).0
+  pub forms : (workers worker moment begun : ℕ) (call : Call) (objects : List ObjectState) → IsReadyWithin workers worker call objects → IsOutBut (waits_within (map kind_of objects) call begun) worker objects
+      → HasForm call.operation (turn_within call worker moment begun objects).1
+  pub own : (workers worker moment begun : ℕ) (call : Call) (objects : List ObjectState) → IsReadyWithin workers worker call objects → IsOutBut (waits_within (map kind_of objects) call begun) worker objects
+      → IsOutBut (waits_behind (turn_within call worker moment begun objects).1 (waits_within (map kind_of objects) call (turn_within call worker moment begun objects).0.1)) worker (turn_within call worker moment begun objects).0.0
+  pub others : (workers worker other moment begun : ℕ) (call : Call) (but : Option ℕ) (objects : List ObjectState) → IsReadyWithin workers other call objects → worker ≢ other → IsOutBut but worker objects
+      → IsOutBut but worker (turn_within call other moment begun objects).0.0
 
 -- ---- replies in a list
 
@@ -102,7 +102,7 @@ kinds_in plan = map (λ (line : ObjectLine). line.kind) plan.objects
 
 -- the place at which a worker's call waits, if there is one
 abbrev awaited : Plan → ℕ → State → Option ℕ
-awaited plan worker s = option_map_or (λ call. waits_at (kinds_in plan) call) (next_call plan worker s) None
+awaited plan worker s = option_map_or (λ call. waits_within (kinds_in plan) call (begun_by worker s)) (next_call plan worker s) None
 
 pub record Standing (plan : Plan) (s : State) : Type 0 where
   pub of : IsStateOf plan s
@@ -114,71 +114,77 @@ out_anywhere : (but : Option ℕ) (worker : ℕ) (objects : List ObjectState) �
 out_anywhere but worker objects out place object at ne = out place object at (λ e. cc)
 
 module _ (laws : TurnStands) (plan : Plan) (by : ℕ) (s : State) (h : Standing plan s) where
-  -- the worker that took the turn
-  pub own_at : (call : Call) (objects : List ObjectState) (answer : Answer) → Takes plan by s call objects answer → IsOutBut (waits_behind answer (waits_at (kinds_in plan) call)) by objects
-  own_at call objects answer takes =
-      takes_by (λ x. IsOutBut (waits_behind x.1 (waits_at (kinds_in plan) call)) by x.0) plan by s call objects answer h.of takes
-      (λ r. subst (λ (ks : List ObjectKind). IsOutBut (waits_at ks call) by s.objects → IsOutBut (waits_behind (turn_at call by s.moment s.objects).1 (waits_at ks call)) by (turn_at call by s.moment s.objects).0) h.of.objects
-      (laws.own plan.workers by s.moment call s.objects r) (stands call takes))
-    where
-      stands : (call : Call) → {objects : List ObjectState} {answer : Answer} → Takes plan by s call objects answer → IsOutBut (waits_at (kinds_in plan) call) by s.objects
-      stands call takes = subst (λ (o : Option Call). IsOutBut (option_map_or (λ c. waits_at (kinds_in plan) c) o None) by s.objects) takes.next (h.out by)
+  -- the worker that takes the turn, before it
+  pub own_out : (call : Call) → next_call plan by s ≡ Some call → IsOutBut (waits_within (map kind_of s.objects) call (begun_by by s)) by s.objects
+  own_out call next =
+      subst (λ (ks : List ObjectKind). IsOutBut (waits_within ks call (begun_by by s)) by s.objects) (sym h.of.objects)
+      (subst (λ (o : Option Call). IsOutBut (option_map_or (λ c. waits_within (kinds_in plan) c (begun_by by s)) o None) by s.objects) next (h.out by))
 
-  form_at : (call : Call) (objects : List ObjectState) (answer : Answer) → Takes plan by s call objects answer → HasForm call.operation answer
-  form_at call objects answer takes =
-      takes_by (λ x. HasForm call.operation x.1) plan by s call objects answer h.of takes
-      (λ r. laws.forms plan.workers by s.moment call s.objects r
-      (subst (λ (ks : List ObjectKind). IsOutBut (waits_at ks call) by s.objects) (sym h.of.objects)
-      (subst (λ (o : Option Call). IsOutBut (option_map_or (λ c. waits_at (kinds_in plan) c) o None) by s.objects) takes.next (h.out by))))
+  -- and behind it
+  pub own_at : (call : Call) (objects : List ObjectState) (waits : ℕ) (answer : Answer) → Takes plan by s call objects waits answer → IsOutBut (waits_behind answer (waits_within (kinds_in plan) call waits)) by objects
+  own_at call objects waits answer takes =
+      subst (λ (ks : List ObjectKind). IsOutBut (waits_behind answer (waits_within ks call waits)) by objects) h.of.objects
+      (takes_by (λ x. IsOutBut (waits_behind x.1 (waits_within (map kind_of s.objects) call x.0.1)) by x.0.0) plan by s call objects waits answer h.of takes
+      (λ r. laws.own plan.workers by s.moment (begun_by by s) call s.objects r (own_out call takes.next)))
 
-  -- another worker
-  other_at : (worker : ℕ) (call : Call) (objects : List ObjectState) (answer : Answer) → worker ≢ by → Takes plan by s call objects answer → IsOutBut (awaited plan worker s) worker objects
-  other_at worker call objects answer apart takes =
-      takes_by (λ x. IsOutBut (awaited plan worker s) worker x.0) plan by s call objects answer h.of takes
-      (λ r. laws.others plan.workers worker by s.moment call (awaited plan worker s) s.objects r apart (h.out worker))
+  form_at : (call : Call) (objects : List ObjectState) (waits : ℕ) (answer : Answer) → Takes plan by s call objects waits answer → HasForm call.operation answer
+  form_at call objects waits answer takes =
+      takes_by (λ x. HasForm call.operation x.1) plan by s call objects waits answer h.of takes (λ r. laws.forms plan.workers by s.moment (begun_by by s) call s.objects r (own_out call takes.next))
+
+  -- another worker, which has begun as many waits as before
+  other_at : (worker : ℕ) (call : Call) (objects : List ObjectState) (waits : ℕ) (answer : Answer) → worker ≢ by → Takes plan by s call objects waits answer → IsOutBut (awaited plan worker (moved by objects waits s)) worker objects
+  other_at worker call objects waits answer apart takes =
+      subst (λ (n : ℕ). IsOutBut (option_map_or (λ c. waits_within (kinds_in plan) c n) (next_call plan worker s) None) worker objects) (sym (begun_other by worker waits objects s apart))
+      (takes_by (λ x. IsOutBut (awaited plan worker s) worker x.0.0) plan by s call objects waits answer h.of takes
+      (λ r. laws.others plan.workers worker by s.moment (begun_by by s) call (awaited plan worker s) s.objects r apart (h.out worker)))
 
   -- behind a turn that completes no call
-  unchanged : (worker : ℕ) (call : Call) (objects : List ObjectState) (answer : Answer) → waits_behind answer (waits_at (kinds_in plan) call) ≡ waits_at (kinds_in plan) call → Takes plan by s call objects answer
-      → IsOutBut (awaited plan worker s) worker objects
-  unchanged worker call objects answer same takes = elim (eqb worker by) as (λ b. eqb worker by ≡ b → IsOutBut (awaited plan worker s) worker objects) [
+  unchanged : (worker : ℕ) (call : Call) (objects : List ObjectState) (waits : ℕ) (answer : Answer) → waits_behind answer (waits_within (kinds_in plan) call waits) ≡ waits_within (kinds_in plan) call waits
+      → Takes plan by s call objects waits answer → IsOutBut (awaited plan worker (moved by objects waits s)) worker objects
+  unchanged worker call objects waits answer same takes = elim (eqb worker by) as (λ b. eqb worker by ≡ b → IsOutBut (awaited plan worker (moved by objects waits s)) worker objects) [
     | true ↦ λ e.
         let here : by ≡ worker = sym (eqb-true worker by e) in
-        subst (λ (w : ℕ). IsOutBut (awaited plan w s) w objects) here
-        (subst (λ (o : Option Call). IsOutBut (option_map_or (λ c. waits_at (kinds_in plan) c) o None) by objects) (sym takes.next)
-        (subst (λ (w : Option ℕ). IsOutBut w by objects) same (own_at call objects answer takes)))
-    | false ↦ λ e. other_at worker call objects answer (eqb-false worker by e) takes
+        subst (λ (w : ℕ). IsOutBut (awaited plan w (moved by objects waits s)) w objects) here
+        (subst (λ (n : ℕ). IsOutBut (option_map_or (λ c. waits_within (kinds_in plan) c n) (next_call plan by s) None) by objects) (sym (begun_own by waits objects s (omega (arith, takes.below, h.of.waits))))
+        (subst (λ (o : Option Call). IsOutBut (option_map_or (λ c. waits_within (kinds_in plan) c waits) o None) by objects) (sym takes.next)
+        (subst (λ (w : Option ℕ). IsOutBut w by objects) same (own_at call objects waits answer takes))))
+    | false ↦ λ e. other_at worker call objects waits answer (eqb-false worker by e) takes
   ] refl
 
   -- behind one that completes its call
-  replied : (worker : ℕ) (call : Call) (objects : List ObjectState) (reply : Reply (List ℕ)) → Takes plan by s call objects (answers.Completed reply)
-      → IsOutBut (awaited plan worker (with_reply by reply (moved objects s))) worker objects
-  replied worker call objects reply takes = elim (eqb worker by) as (λ b. eqb worker by ≡ b → IsOutBut (awaited plan worker (with_reply by reply (moved objects s))) worker objects) [
-    | true ↦ λ e.
-        let here : by ≡ worker = sym (eqb-true worker by e) in
-        subst (λ (w : ℕ). IsOutBut (awaited plan w (with_reply by reply (moved objects s))) w objects) here
-        (out_anywhere (awaited plan by (with_reply by reply (moved objects s))) by objects (own_at call objects (answers.Completed reply) takes))
-    | false ↦ λ e.
-        let apart : worker ≢ by = eqb-false worker by e in
-        subst (λ (done : List (Reply (List ℕ))). IsOutBut (option_map_or (λ c. waits_at (kinds_in plan) c) (slice_get (left_of (get_or plan.scripts worker []) done) 0) None) worker objects)
-        (sym (replied_other by worker reply (moved objects s) apart)) (other_at worker call objects (answers.Completed reply) apart takes)
-  ] refl
+  replied : (worker : ℕ) (call : Call) (objects : List ObjectState) (waits : ℕ) (reply : Reply (List ℕ)) → Takes plan by s call objects waits (answers.Completed reply)
+      → IsOutBut (awaited plan worker (with_reply by reply (moved by objects waits s))) worker objects
+  replied worker call objects waits reply takes =
+      let t = moved by objects waits s in
+      elim (eqb worker by) as (λ b. eqb worker by ≡ b → IsOutBut (awaited plan worker (with_reply by reply (moved by objects waits s))) worker objects) [
+        | true ↦ λ e.
+            let here : by ≡ worker = sym (eqb-true worker by e) in
+            subst (λ (w : ℕ). IsOutBut (awaited plan w (with_reply by reply t)) w objects) here
+            (out_anywhere (awaited plan by (with_reply by reply t)) by objects (own_at call objects waits (answers.Completed reply) takes))
+        | false ↦ λ e.
+            let apart : worker ≢ by = eqb-false worker by e in
+            subst (λ (done : List (Reply (List ℕ))). IsOutBut (option_map_or (λ c. waits_within (kinds_in plan) c (begun_by worker (with_reply by reply t))) (slice_get (left_of (get_or plan.scripts worker []) done) 0) None) worker objects)
+            (sym (replied_other by worker reply t apart))
+            (subst (λ (n : ℕ). IsOutBut (option_map_or (λ c. waits_within (kinds_in plan) c n) (next_call plan worker s) None) worker objects) (sym (replied_begun_other by worker reply t apart))
+            (other_at worker call objects waits (answers.Completed reply) apart takes))
+      ] refl
 
   pub turn_out : (worker : ℕ) → IsOutBut (awaited plan worker (turn_of plan by s).0) worker (turn_of plan by s).0.objects
   turn_out worker = turn_cases (λ step. IsOutBut (awaited plan worker step.0) worker step.0.objects) plan by s h.of (record {
     ended = λ is. h.out worker;
-    still = λ call objects takes. unchanged worker call objects answers.Still refl takes;
-    unfinished = λ call objects takes. unchanged worker call objects answers.Unfinished refl takes;
-    completed = λ call objects reply takes. replied worker call objects reply takes;
-    misused = λ call objects misuse takes. unchanged worker call objects (answers.Misused misuse) refl takes;
+    still = λ call objects waits takes. unchanged worker call objects waits answers.Still refl takes;
+    unfinished = λ call objects waits takes. unchanged worker call objects waits answers.Unfinished refl takes;
+    completed = λ call objects waits reply takes. replied worker call objects waits reply takes;
+    misused = λ call objects waits misuse takes. unchanged worker call objects waits (answers.Misused misuse) refl takes;
   })
 
   pub turn_forms : all_have_forms plan.scripts (turn_of plan by s).0.replies ≡ true
   turn_forms = turn_cases (λ step. all_have_forms plan.scripts step.0.replies ≡ true) plan by s h.of (record {
     ended = λ is. h.forms;
-    still = λ call objects takes. h.forms;
-    unfinished = λ call objects takes. h.forms;
-    completed = λ call objects reply takes. forms_set plan.scripts s.replies by call reply h.forms takes.next (form_at call objects (answers.Completed reply) takes);
-    misused = λ call objects misuse takes. h.forms;
+    still = λ call objects waits takes. h.forms;
+    unfinished = λ call objects waits takes. h.forms;
+    completed = λ call objects waits reply takes. forms_set plan.scripts s.replies by call reply h.forms takes.next (form_at call objects waits (answers.Completed reply) takes);
+    misused = λ call objects waits misuse takes. h.forms;
   })
 
 pub standing_kept : TurnStands → (plan : Plan) → GoesOn plan → Kept plan (Standing plan)

@@ -1,6 +1,7 @@
 mod CallBounds
 mod EndLemmas
 mod MadeLemmas
+mod MetCalls
 mod OneTurnCalls
 mod Numbered
 mod PlacedRun

@@ -34,16 +34,16 @@ record Completes (plan : Plan) (worker : ℕ) (s t : State) : Type 0 where
 turn_replies : (plan : Plan) (worker : ℕ) (s : State) → IsStateOf plan s → ((turn_of plan worker s).0.replies ≡ s.replies) ⊎ Completes plan worker s (turn_of plan worker s).0
 turn_replies plan worker s of = turn_cases (λ step. (step.0.replies ≡ s.replies) ⊎ Completes plan worker s step.0) plan worker s of (record {
   ended = λ is. inl refl;
-  still = λ call objects takes. inl refl;
-  unfinished = λ call objects takes. inl refl;
-  completed = λ call objects reply takes. inr (record {
+  still = λ call objects waits takes. inl refl;
+  unfinished = λ call objects waits takes. inl refl;
+  completed = λ call objects waits reply takes. inr (record {
     call = call;
     reply = reply;
     next = takes.next;
     own = get_or-set_same s.replies worker (get_or s.replies worker [] ++ reply ∷ []) [] (omega (arith, of.workers, takes.below));
-    others = λ k apart. replied_other worker k reply (moved objects s) apart;
+    others = λ k apart. replied_other worker k reply (moved worker objects waits s) apart;
   });
-  misused = λ call objects misuse takes. inl refl;
+  misused = λ call objects waits misuse takes. inl refl;
 })
 
 -- ---- the calls of a script that a worker has completed

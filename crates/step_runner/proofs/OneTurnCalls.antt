@@ -10,8 +10,8 @@ use Rattle.workload.specs.Plan.{Plan}
 use Rattle.step_runner.specs.declared.turns.answer.Answer.{Answer}
 use Rattle.step_runner.specs.declared.turns.answer.Answer.TheVariants as answers
 use Rattle.step_runner.specs.Completes.{takes_one_turn, IsCompleted}
-use Rattle.step_runner.specs.Ready.{IsReady}
-use Rattle.step_runner.specs.TurnAtObjects.{turn_at}
+use Rattle.step_runner.specs.StandsWithin.{IsReadyWithin}
+use Rattle.step_runner.specs.TurnWithin.{turn_within}
 use Rattle.step_runner.specs.declared.step.Step.{Step}
 use Rattle.step_runner.specs.declared.step.Step.TheVariants as steps
 use Rattle.script_calls.specs.declared.outcome.Report.{Report}
@@ -20,7 +20,7 @@ use Rattle.script_calls.specs.declared.outcome.Outcome.TheVariants as outcomes
 use Rattle.step_runner.specs.declared.turns.object_state.ObjectState.{ObjectState}
 use Rattle.step_runner.specs.Outcomes.{rounds, is_misused, StepsTo}
 use Rattle.step_runner.specs.State.{State, start, IsStateOf}
-use Rattle.step_runner.specs.Turns.{next_call, turn_of, item_of, with_event, and_then, items_of}
+use Rattle.step_runner.specs.Turns.{begun_by, next_call, turn_of, item_of, with_event, and_then, items_of}
 use Rattle.step_runner.specs.Computed.{turns}
 use Rattle.step_runner.proofs.ScriptRuns.{in_script}
 use Rattle.step_runner.proofs.TurnLemmas.{true_false, both_true, all_get, all_at, Takes, takes_by, turn_cases, StepUses}
@@ -32,7 +32,7 @@ use Rattle.step_runner.proofs.EndLemmas.{done_replied, is_done, is_misused_by, i
 
 -- what the law of turns says
 abbrev pub Completing : Type 0
-Completing = (workers worker moment : ℕ) (call : Call) (objects : List ObjectState) → takes_one_turn call.operation ≡ true → IsReady workers worker call objects → IsCompleted (turn_at call worker moment objects).1
+Completing = (workers worker moment begun : ℕ) (call : Call) (objects : List ObjectState) → takes_one_turn call.operation ≡ true → IsReadyWithin workers worker call objects → IsCompleted (turn_within call worker moment begun objects).1
 
 -- a turn is no misuse, and it makes an event unless the script has ended
 abbrev Goes : Plan → ℕ → State → Step → Type 0
@@ -52,15 +52,15 @@ next_takes_one_turn plan worker s call all is =
 turn_goes : Completing → (plan : Plan) (worker : ℕ) (s : State) → AllTakeOneTurn plan → IsStateOf plan s → Goes plan worker s (turn_of plan worker s).1
 turn_goes completes plan worker s all of = turn_cases (λ step. Goes plan worker s step.1) plan worker s of (record {
   ended = λ is. is;
-  still = λ call objects takes. absurd (completed call objects answers.Still takes);
-  unfinished = λ call objects takes. tt;
-  completed = λ call objects reply takes. tt;
-  misused = λ call objects misuse takes. completed call objects (answers.Misused misuse) takes;
+  still = λ call objects waits takes. absurd (completed call objects waits answers.Still takes);
+  unfinished = λ call objects waits takes. tt;
+  completed = λ call objects waits reply takes. tt;
+  misused = λ call objects waits misuse takes. completed call objects waits (answers.Misused misuse) takes;
 })
   where
-    completed : (call : Call) (objects : List ObjectState) (answer : Answer) → Takes plan worker s call objects answer → IsCompleted answer
-    completed call objects answer takes =
-        takes_by (λ x. IsCompleted x.1) plan worker s call objects answer of takes (completes plan.workers worker s.moment call s.objects (next_takes_one_turn plan worker s call all takes.next))
+    completed : (call : Call) (objects : List ObjectState) (waits : ℕ) (answer : Answer) → Takes plan worker s call objects waits answer → IsCompleted answer
+    completed call objects waits answer takes =
+        takes_by (λ x. IsCompleted x.1) plan worker s call objects waits answer of takes (completes plan.workers worker s.moment (begun_by worker s) call s.objects (next_takes_one_turn plan worker s call all takes.next))
 
 -- ---- turns in order
 

@@ -1,5 +1,5 @@
 -- The places that the code keeps lead to what is left of the scripts.
-use Rattle.std.proofs.Common.{◌≡◌, ◌≢◌, ℕ, zero, suc, ◌+◌, ◌<◌, true, false, eqb, List, [], ◌∷◌, ◌++◌, drop, length, get_or, set, replicate, Some, refl, sym, ap, ◌∙◌, subst, arith}
+use Rattle.std.proofs.Common.{◌≡◌, ◌≢◌, ℕ, ◌+◌, ◌<◌, true, false, eqb, List, [], ◌∷◌, ◌++◌, drop, length, get_or, set, replicate, Some, refl, sym, ap, ◌∙◌, subst, arith}
 use Rattle.std.specs.Prelude.{◌^◌, slice_get}
 use Rattle.std.proofs.lemmas.Bool.{eqb-true, eqb-false}
 use Rattle.std.proofs.lemmas.List.{length-set, length-replicate, get_or-set_same, get_or-set_other, drop-drop}
@@ -18,7 +18,7 @@ use Rattle.step_runner.specs.Places.{Kept, IsKeptFor, places_behind}
 use Rattle.step_runner.specs.State.{State, IsStateOf, start, with_reply}
 use Rattle.step_runner.specs.Turns.{left_for, next_call, settled}
 use Rattle.step_runner.proofs.ScriptRuns.{GoesFurther, split_first, get_at}
-use Rattle.step_runner.proofs.StartLemmas.{none_replied}
+use Rattle.step_runner.proofs.StartLemmas.{none_begun, none_replied}
 use Rattle.step_runner.proofs.TurnLemmas.{moved, replied_other, valid_scripts}
 
 -- the call at its place is the worker's next one
@@ -32,23 +32,18 @@ place_small plan worker place call readable below at =
     let there : worker < length plan.scripts = omega (arith, below, valid_scripts plan readable.valid) in
     omega (arith, within, get_or-le-sum_by length plan.scripts worker [] there, readable.call_room)
 
-none_yet : (n k : ℕ) → get_or (replicate {A = ℕ} n 0) k 0 ≡ 0
-none_yet zero k = refl
-none_yet (suc n) zero = refl
-none_yet (suc n) (suc k) = none_yet n k
-
 pub start_kept : (plan : Plan) → IsStateOf plan (start plan) → IsKeptFor plan (record { state = start plan; places = replicate plan.workers 0 })
 start_kept plan of = record {
   of = of;
   count = length-replicate plan.workers 0;
   left = λ worker.
       let script = get_or plan.scripts worker [] in
-      ap (λ (n : ℕ). drop n script) (none_yet plan.workers worker) ∙ ap (λ (given : List (Reply (List ℕ))). left_of script given) (sym (none_replied plan.workers worker));
+      ap (λ (n : ℕ). drop n script) (none_begun plan.workers worker) ∙ ap (λ (given : List (Reply (List ℕ))). left_of script given) (sym (none_replied plan.workers worker));
 }
 
 -- ---- behind a turn
 
-module _ (further : GoesFurther) (plan : Plan) (worker : ℕ) (kept : Kept) (is : IsKeptFor plan kept) (below : worker < plan.workers) (call : Call) (next : next_call plan worker kept.state ≡ Some call) (objects : List ObjectState) where
+module _ (further : GoesFurther) (plan : Plan) (worker : ℕ) (kept : Kept) (is : IsKeptFor plan kept) (below : worker < plan.workers) (call : Call) (next : next_call plan worker kept.state ≡ Some call) (objects : List ObjectState) (waits : ℕ) where
   abbrev own_script : List Call
   own_script = get_or plan.scripts worker []
 
@@ -64,7 +59,7 @@ module _ (further : GoesFurther) (plan : Plan) (worker : ℕ) (kept : Kept) (is 
       let rest : drop (place + 1) own_script ≡ left.0 = sym (drop-drop 1 place own_script) ∙ ap (drop 1) (is.left worker ∙ left.1) in
       sym (drop-drop (passed_over call reply) (place + 1) own_script) ∙ ap (drop (passed_over call reply)) rest ∙ sym (further.left own_script given call left.0 reply left.1)
 
-  left_at : (answer : Answer) (k : ℕ) → drop (get_or (places_behind worker call answer kept.places) k 0) (get_or plan.scripts k []) ≡ left_for plan k (settled worker answer (moved objects kept.state)).0
+  left_at : (answer : Answer) (k : ℕ) → drop (get_or (places_behind worker call answer kept.places) k 0) (get_or plan.scripts k []) ≡ left_for plan k (settled worker answer (moved worker objects waits kept.state)).0
   left_at answers.Still k = is.left k
   left_at answers.Unfinished k = is.left k
   left_at (answers.Misused misuse) k = is.left k
@@ -74,14 +69,14 @@ module _ (further : GoesFurther) (plan : Plan) (worker : ℕ) (kept : Kept) (is 
         let apart : k ≢ worker = eqb-false k worker e in
         ap (λ (n : ℕ). drop n (get_or plan.scripts k [])) (get_or-set_other kept.places worker k moved_to 0 apart)
         ∙ is.left k
-        ∙ ap (λ (replies : List (Reply (List ℕ))). left_of (get_or plan.scripts k []) replies) (sym (replied_other worker k reply (moved objects kept.state) apart))
+        ∙ ap (λ (replies : List (Reply (List ℕ))). left_of (get_or plan.scripts k []) replies) (sym (replied_other worker k reply (moved worker objects waits kept.state) apart))
   ] refl
     where
       moved_to : ℕ
       moved_to = place + 1 + passed_over call reply
 
       Left : ℕ → Type 0
-      Left k = drop (get_or (set kept.places worker (place + 1 + passed_over call reply)) k 0) (get_or plan.scripts k []) ≡ left_for plan k (with_reply worker reply (moved objects kept.state))
+      Left k = drop (get_or (set kept.places worker (place + 1 + passed_over call reply)) k 0) (get_or plan.scripts k []) ≡ left_for plan k (with_reply worker reply (moved worker objects waits kept.state))
 
       own : Left worker
       own =
@@ -95,7 +90,7 @@ module _ (further : GoesFurther) (plan : Plan) (worker : ℕ) (kept : Kept) (is 
   same_count (answers.Completed reply) = length-set kept.places worker (place + 1 + passed_over call reply) ∙ is.count
   same_count (answers.Misused misuse) = is.count
 
-  pub kept_behind : (answer : Answer) (s : State) (step : Step) (places : List ℕ) → settled worker answer (moved objects kept.state) ≡ (s, step) → places ≡ places_behind worker call answer kept.places → IsStateOf plan s
+  pub kept_behind : (answer : Answer) (s : State) (step : Step) (places : List ℕ) → settled worker answer (moved worker objects waits kept.state) ≡ (s, step) → places ≡ places_behind worker call answer kept.places → IsStateOf plan s
       → IsKeptFor plan (record { state = s; places = places })
   kept_behind answer s step places settles moves of = record {
     of = of;

@@ -21,20 +21,20 @@ use Rattle.step_runner.specs.declared.turns.object_state.ObjectState.{ObjectStat
 use Rattle.step_runner.specs.declared.turns.object_state.ObjectState.TheVariants as states
 use Rattle.step_runner.specs.Objects.{new_object, EachAt}
 use Rattle.step_runner.specs.PoolRoom.{put_of, HasRoomFor, left_behind}
-use Rattle.step_runner.specs.TurnAtObjects.{turn_at}
+use Rattle.step_runner.specs.TurnWithin.{turn_within}
 use Rattle.workload.specs.Puts.{is_put_at, puts_at}
 use Rattle.step_runner.specs.State.{State, start, with_reply, IsStateOf}
-use Rattle.step_runner.specs.Turns.{next_call, turn_of, after_items}
+use Rattle.step_runner.specs.Turns.{begun_by, next_call, turn_of, after_items}
 use Rattle.step_runner.proofs.ScriptRuns.{GoesFurther, split_first, none_left, count_behind}
 use Rattle.step_runner.proofs.StartLemmas.{each_start}
-use Rattle.step_runner.proofs.TurnLemmas.{Takes, moved, ready, takes_by, turn_cases}
+use Rattle.step_runner.proofs.TurnLemmas.{Takes, is_there, moved, takes_by, turn_cases}
 use Rattle.step_runner.proofs.RunLemmas.{GoesOn, Kept, items_keep, moment_valid}
 
 -- what the law of turns says
 pub record Rooms : Type 0 where
   pub begins : (workers room : ℕ) (kind : ObjectKind) → HasRoomFor room (new_object workers room kind)
-  pub goes_on : (worker moment : ℕ) (left : ℕ → ℕ) (call : Call) (objects : List ObjectState) → put_of call.object call ≤ left call.object → EachAt (λ place. HasRoomFor (left place)) objects
-      → EachAt (λ place. HasRoomFor (left_behind (turn_at call worker moment objects).1 (put_of place call) (left place))) (turn_at call worker moment objects).0
+  pub goes_on : (worker moment begun : ℕ) (left : ℕ → ℕ) (call : Call) (objects : List ObjectState) → put_of call.object call ≤ left call.object → EachAt (λ place. HasRoomFor (left place)) objects
+      → EachAt (λ place. HasRoomFor (left_behind (turn_within call worker moment begun objects).1 (put_of place call) (left place))) (turn_within call worker moment begun objects).0.0
   pub further : GoesFurther
   pub kept : (worker item left : ℕ) (p : pool.PoolState ℕ) → worker < pool.callers_of p → 1 ≤ left → HasRoomFor left (states.Pool p) → (pool.next p worker (event.Put item)).1 ≡ pool_reply.Kept
 
@@ -103,26 +103,26 @@ some_left : GoesFurther → (plan : Plan) (worker : ℕ) (s : State) (call : Cal
 some_left further plan worker s call place of below is =
     omega (arith, one_put_fewer further place plan.scripts s.replies worker call replies.Returned (omega (arith, of.workers, below)) is)
 
-takes_fits : Rooms → (plan : Plan) (worker : ℕ) (s : State) (call : Call) (objects : List ObjectState) (answer : Answer) → HasRoom plan s → Takes plan worker s call objects answer
+takes_fits : Rooms → (plan : Plan) (worker : ℕ) (s : State) (call : Call) (objects : List ObjectState) (waits : ℕ) (answer : Answer) → HasRoom plan s → Takes plan worker s call objects waits answer
     → AllFit (λ place. left_behind answer (put_of place call) (left_at plan s place)) objects
-takes_fits rooms plan worker s call objects answer has takes =
-    takes_by (λ x. AllFit (λ place. left_behind x.1 (put_of place call) (left_at plan s place)) x.0) plan worker s call objects answer has.of takes
-    (λ r. rooms.goes_on worker s.moment (left_at plan s) call s.objects (some_left rooms.further plan worker s call call.object has.of takes.below takes.next) has.fits)
+takes_fits rooms plan worker s call objects waits answer has takes =
+    takes_by (λ x. AllFit (λ place. left_behind x.1 (put_of place call) (left_at plan s place)) x.0.0) plan worker s call objects waits answer has.of takes
+    (λ r. rooms.goes_on worker s.moment (begun_by worker s) (left_at plan s) call s.objects (some_left rooms.further plan worker s call call.object has.of takes.below takes.next) has.fits)
 
-completed_fits : Rooms → (plan : Plan) (worker : ℕ) (s : State) (call : Call) (objects : List ObjectState) (reply : Reply (List ℕ)) → HasRoom plan s → Takes plan worker s call objects (answers.Completed reply)
-    → AllFit (left_at plan (with_reply worker reply (moved objects s))) objects
-completed_fits rooms plan worker s call objects reply has takes place object at =
+completed_fits : Rooms → (plan : Plan) (worker : ℕ) (s : State) (call : Call) (objects : List ObjectState) (waits : ℕ) (reply : Reply (List ℕ)) → HasRoom plan s → Takes plan worker s call objects waits (answers.Completed reply)
+    → AllFit (left_at plan (with_reply worker reply (moved worker objects waits s))) objects
+completed_fits rooms plan worker s call objects waits reply has takes place object at =
     let fewer = one_put_fewer rooms.further place plan.scripts s.replies worker call reply (omega (arith, has.of.workers, takes.below)) takes.next in
-    fewer_fit (left_at plan s place - put_of place call) (left_at plan (with_reply worker reply (moved objects s)) place) object (omega (arith, fewer))
-    (takes_fits rooms plan worker s call objects (answers.Completed reply) has takes place object at)
+    fewer_fit (left_at plan s place - put_of place call) (left_at plan (with_reply worker reply (moved worker objects waits s)) place) object (omega (arith, fewer))
+    (takes_fits rooms plan worker s call objects waits (answers.Completed reply) has takes place object at)
 
 turn_fits : Rooms → (plan : Plan) (worker : ℕ) (s : State) → HasRoom plan s → AllFit (left_at plan (turn_of plan worker s).0) (turn_of plan worker s).0.objects
 turn_fits rooms plan worker s has = turn_cases (λ step. AllFit (left_at plan step.0) step.0.objects) plan worker s has.of (record {
   ended = λ is. has.fits;
-  still = λ call objects takes. takes_fits rooms plan worker s call objects answers.Still has takes;
-  unfinished = λ call objects takes. takes_fits rooms plan worker s call objects answers.Unfinished has takes;
-  completed = λ call objects reply takes. completed_fits rooms plan worker s call objects reply has takes;
-  misused = λ call objects misuse takes. takes_fits rooms plan worker s call objects (answers.Misused misuse) has takes;
+  still = λ call objects waits takes. takes_fits rooms plan worker s call objects waits answers.Still has takes;
+  unfinished = λ call objects waits takes. takes_fits rooms plan worker s call objects waits answers.Unfinished has takes;
+  completed = λ call objects waits reply takes. completed_fits rooms plan worker s call objects waits reply has takes;
+  misused = λ call objects waits misuse takes. takes_fits rooms plan worker s call objects waits (answers.Misused misuse) has takes;
 })
 
 room_kept : Rooms → (plan : Plan) → GoesOn plan → Kept plan (HasRoom plan)
@@ -146,7 +146,7 @@ pub put_is_kept : Rooms → (plan : Plan) (worker : ℕ) (s : State) (place item
     → slice_get s.objects place ≡ Some (states.Pool p) → (pool.next p worker (event.Put item)).1 ≡ pool_reply.Kept
 put_is_kept rooms plan worker s place item p has is there =
     let call : Call = record { object = place; operation = operations.Pool (pool_calls.Put item) } in
-    let below : worker < plan.workers = (ready plan worker s call has.of is).below in
+    let below : worker < plan.workers = is_there plan worker s call has.of.valid is in
     let parts : length p.primary ≡ plan.workers = (has.of.machines place (states.Pool p) there).0 in
     let one : put_of place call ≡ 1 = ap (λ b. cond (b && true) 1 0) (eq-eqb place place refl) in
     rooms.kept worker item (left_at plan s place) p (omega (arith, below, parts)) (omega (arith, some_left rooms.further plan worker s call place has.of below is, one)) (has.fits place (states.Pool p) there)

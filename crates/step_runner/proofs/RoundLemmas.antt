@@ -16,8 +16,8 @@ use Rattle.script_calls.specs.declared.outcome.Ending.{Ending}
 use Rattle.script_calls.specs.declared.outcome.Ending.TheVariants as endings
 use Rattle.step_runner.specs.LeftToDo.{left_to_do}
 use Rattle.step_runner.specs.State.{State, with_moment, IsStateOf}
-use Rattle.step_runner.specs.TurnAtObjects.{turn_at}
-use Rattle.step_runner.specs.Turns.{left_for, next_call, settled_with, turn_of, and_then, items_of, round, has_ended}
+use Rattle.step_runner.specs.TurnWithin.{turn_within}
+use Rattle.step_runner.specs.Turns.{begun_by, left_for, next_call, settled_with, turn_of, and_then, items_of, round, has_ended}
 use Rattle.step_runner.specs.Computed.{behind_round, rounds_of, all_rounds}
 use Rattle.step_runner.proofs.ScriptRuns.{none_first, none_left, no_test}
 use Rattle.step_runner.proofs.TurnLemmas.{both, both_true, true_false, valid_scripts}
@@ -74,7 +74,7 @@ not_ended plan s worker of some = elim (has_ended plan s) as (λ b. has_ended pl
 
 -- a worker whose script has ended makes no event
 pub no_turn : (plan : Plan) (worker : ℕ) (s : State) → next_call plan worker s ≡ None → turn_of plan worker s ≡ (s, steps.Still)
-no_turn plan worker s none = ap (λ o. option_map_or (λ call. settled_with worker (turn_at call worker s.moment s.objects) s) o (s, steps.Still)) none
+no_turn plan worker s none = ap (λ o. option_map_or (λ call. settled_with worker (turn_within call worker s.moment (begun_by worker s) s.objects) s) o (s, steps.Still)) none
 
 -- nothing follows the end, but that the clock may be set
 pub nothing_follows : (plan : Plan) (s : State) → ((k : ℕ) → next_call plan k s ≡ None) → (list : List Turn) → (moment : ℕ) × (items_of plan list s ≡ (with_moment moment s, steps.Still))

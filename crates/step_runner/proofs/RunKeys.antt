@@ -21,26 +21,26 @@ use Rattle.step_runner.specs.Objects.{new_object, EachAt}
 use Rattle.script_calls.specs.Outcome.{has_pairs_to, shows_to}
 use Rattle.workload.specs.Keys.{keys_in, key_number}
 use Rattle.step_runner.specs.Pairs.{ShowsTo}
-use Rattle.step_runner.specs.TurnAtObjects.{turn_at}
+use Rattle.step_runner.specs.TurnWithin.{turn_within}
 use Rattle.step_runner.specs.declared.step.Step.TheVariants as steps
 use Rattle.script_calls.specs.declared.outcome.Ending.{Ending}
 use Rattle.script_calls.specs.declared.outcome.Ending.TheVariants as endings
 use Rattle.workload.specs.Puts.{puts_at}
 use Rattle.step_runner.specs.State.{State, start}
 use Rattle.step_runner.specs.Ends.{numbered}
-use Rattle.step_runner.specs.Turns.{next_call, settled, settled_with, after_items}
+use Rattle.step_runner.specs.Turns.{begun_by, next_call, settled, settled_with, after_items}
 use Rattle.step_runner.specs.Computed.{whole_run, outcome_of, turns}
 use Rattle.step_runner.proofs.ScriptRuns.{in_script}
 use Rattle.step_runner.proofs.StartLemmas.{each_start}
-use Rattle.step_runner.proofs.TurnLemmas.{both, both_true}
+use Rattle.step_runner.proofs.TurnLemmas.{both, both_true, moved}
 use Rattle.step_runner.proofs.Numbered.{same_few}
 use Rattle.step_runner.proofs.RunLemmas.{Kept, items_keep, run_keeps}
 
 -- what the law of turns says
 pub record Keys : Type 0 where
   pub begins : (names : List (List ℕ)) (workers room : ℕ) (kind : ObjectKind) → HasObjectKeysIn names (new_object workers room kind)
-  pub goes_on : (names : List (List ℕ)) (most worker moment : ℕ) (call : Call) (objects : List ObjectState) → AreAmong names (keys_of call) → distinct_count names ≤ most
-      → EachAt (λ place. HasObjectKeysIn names) objects → EachAt (λ place. HasObjectKeysIn names) (turn_at call worker moment objects).0 × ShowsTo most (turn_at call worker moment objects).1
+  pub goes_on : (names : List (List ℕ)) (most worker moment begun : ℕ) (call : Call) (objects : List ObjectState) → AreAmong names (keys_of call) → distinct_count names ≤ most
+      → EachAt (λ place. HasObjectKeysIn names) objects → EachAt (λ place. HasObjectKeysIn names) (turn_within call worker moment begun objects).0.0 × ShowsTo most (turn_within call worker moment begun objects).1
 
 -- ---- the keys of a call are among those of all calls
 
@@ -102,12 +102,12 @@ settled_keys names most worker (answers.Completed reply) s few has = record { ma
 settled_keys names most worker (answers.Misused misuse) s few has = has
 
 turn_keys : Keys → (plan : Plan) (most worker : ℕ) (s : State) (o : Option Call) → next_call plan worker s ≡ o → distinct_count (all_keys plan.scripts) ≤ most
-    → HasKeys (all_keys plan.scripts) most s → HasKeys (all_keys plan.scripts) most (option_map_or (λ call. settled_with worker (turn_at call worker s.moment s.objects) s) o (s, steps.Still)).0
+    → HasKeys (all_keys plan.scripts) most s → HasKeys (all_keys plan.scripts) most (option_map_or (λ call. settled_with worker (turn_within call worker s.moment (begun_by worker s) s.objects) s) o (s, steps.Still)).0
 turn_keys keys plan most worker s None is room has = has
 turn_keys keys plan most worker s (Some call) is room has =
-    let x = turn_at call worker s.moment s.objects in
-    let keep = keys.goes_on (all_keys plan.scripts) most worker s.moment call s.objects (next_among plan worker s call is) room has.maps in
-    settled_keys (all_keys plan.scripts) most worker x.1 (record s { objects = x.0 }) keep.1 (record { maps = keep.0; few = has.few })
+    let x = turn_within call worker s.moment (begun_by worker s) s.objects in
+    let keep = keys.goes_on (all_keys plan.scripts) most worker s.moment (begun_by worker s) call s.objects (next_among plan worker s call is) room has.maps in
+    settled_keys (all_keys plan.scripts) most worker x.1 (moved worker x.0.0 x.0.1 s) keep.1 (record { maps = keep.0; few = has.few })
 
 pub keys_kept : Keys → (plan : Plan) (most : ℕ) → distinct_count (all_keys plan.scripts) ≤ most → Kept plan (HasKeys (all_keys plan.scripts) most)
 keys_kept keys plan most room = record {

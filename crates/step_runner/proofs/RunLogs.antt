@@ -14,25 +14,25 @@ use Rattle.step_runner.specs.declared.turns.answer.Answer.{Answer}
 use Rattle.step_runner.specs.declared.turns.answer.Answer.TheVariants as answers
 use Rattle.step_runner.specs.declared.turns.object_state.ObjectState.{ObjectState}
 use Rattle.step_runner.specs.LeadsTo.{on_object, LeadsTo}
-use Rattle.step_runner.specs.Items.{Item, items_at}
+use Rattle.step_runner.specs.Items.{Item}
 use Rattle.step_runner.specs.Objects.{new_object, kind_of}
-use Rattle.step_runner.specs.Ready.{IsReady}
-use Rattle.step_runner.specs.TurnAtObjects.{turn_at}
+use Rattle.step_runner.specs.StandsWithin.{IsReadyWithin}
+use Rattle.step_runner.specs.TurnWithin.{turn_within, items_within}
 use Rattle.step_runner.specs.declared.step.Step.{Step}
 use Rattle.step_runner.specs.declared.step.Step.TheVariants as steps
 use Rattle.step_runner.specs.Ends.{scheduled_ends}
 use Rattle.step_runner.specs.Outcomes.{rounds, IsDone}
 use Rattle.step_runner.specs.RunItems.{made_by, unless_ended, all_made, LeadTo}
 use Rattle.step_runner.specs.State.{State, start, new_objects, with_moment, IsStateOf}
-use Rattle.step_runner.specs.Turns.{turn_of, and_then, items_of, after_items}
+use Rattle.step_runner.specs.Turns.{begun_by, turn_of, and_then, items_of, after_items}
 use Rattle.step_runner.proofs.MadeLemmas.{event_state}
 use Rattle.step_runner.proofs.RunLemmas.{GoesOn, moment_valid}
 use Rattle.step_runner.proofs.TurnLemmas.{Takes, takes_by, turn_cases, kind_there}
 
 -- what the law of turns says
 pub record Leads : Type 0 where
-  pub turn : (workers worker moment place : ℕ) (call : Call) (objects : List ObjectState) (old new : ObjectState) → IsReady workers worker call objects → slice_get objects place ≡ Some old
-      → slice_get (turn_at call worker moment objects).0 place ≡ Some new → LeadsTo old (on_object place (items_at call worker moment objects)) new
+  pub turn : (workers worker moment place begun : ℕ) (call : Call) (objects : List ObjectState) (old new : ObjectState) → IsReadyWithin workers worker call objects → slice_get objects place ≡ Some old
+      → slice_get (turn_within call worker moment begun objects).0.0 place ≡ Some new → LeadsTo old (on_object place (items_within call worker moment begun objects)) new
   pub nowhere : (object : ObjectState) → LeadsTo object [] object
   pub on : (first middle last : ObjectState) (earlier later : List Item) → LeadsTo first earlier middle → LeadsTo middle later last → LeadsTo first (earlier ++ later) last
 
@@ -67,19 +67,19 @@ module _ (laws : Leads) (plan : Plan) (k : ℕ) where
   -- one turn
   turn_comes : (worker : ℕ) (s : State) → IsStateOf plan s → Comes s (made_by plan worker s) (turn_of plan worker s).0
   turn_comes worker s of = turn_cases (λ x. Comes s (made_by plan worker s) x.0) plan worker s of (record {
-    ended = λ none. subst (λ (o : Option Call). Comes s (option_map_or (λ call. items_at call worker s.moment s.objects) o []) s) (sym none) (stays s);
-    still = λ call objects takes. at_objects call objects answers.Still takes;
-    unfinished = λ call objects takes. at_objects call objects answers.Unfinished takes;
-    completed = λ call objects reply takes. at_objects call objects (answers.Completed reply) takes;
-    misused = λ call objects misuse takes. at_objects call objects (answers.Misused misuse) takes;
+    ended = λ none. subst (λ (o : Option Call). Comes s (option_map_or (λ call. items_within call worker s.moment (begun_by worker s) s.objects) o []) s) (sym none) (stays s);
+    still = λ call objects waits takes. at_objects call objects waits answers.Still takes;
+    unfinished = λ call objects waits takes. at_objects call objects waits answers.Unfinished takes;
+    completed = λ call objects waits reply takes. at_objects call objects waits (answers.Completed reply) takes;
+    misused = λ call objects waits misuse takes. at_objects call objects waits (answers.Misused misuse) takes;
   })
     where
-      at_objects : (call : Call) (objects : List ObjectState) (answer : Answer) → Takes plan worker s call objects answer → (old new : ObjectState) → slice_get s.objects k ≡ Some old → slice_get objects k ≡ Some new
+      at_objects : (call : Call) (objects : List ObjectState) (waits : ℕ) (answer : Answer) → Takes plan worker s call objects waits answer → (old new : ObjectState) → slice_get s.objects k ≡ Some old → slice_get objects k ≡ Some new
           → LeadsTo old (on_object k (made_by plan worker s)) new
-      at_objects call objects answer takes old new at there =
-          subst (λ (o : Option Call). LeadsTo old (on_object k (option_map_or (λ call. items_at call worker s.moment s.objects) o [])) new) (sym takes.next)
-          (takes_by (λ y. slice_get y.0 k ≡ Some new → LeadsTo old (on_object k (items_at call worker s.moment s.objects)) new) plan worker s call objects answer of takes
-          (λ r there. laws.turn plan.workers worker s.moment k call s.objects old new r at there) there)
+      at_objects call objects waits answer takes old new at there =
+          subst (λ (o : Option Call). LeadsTo old (on_object k (option_map_or (λ call. items_within call worker s.moment (begun_by worker s) s.objects) o [])) new) (sym takes.next)
+          (takes_by (λ y. slice_get y.0.0 k ≡ Some new → LeadsTo old (on_object k (items_within call worker s.moment (begun_by worker s) s.objects)) new) plan worker s call objects waits answer of takes
+          (λ r there. laws.turn plan.workers worker s.moment k (begun_by worker s) call s.objects old new r at there) there)
 
   -- what follows, unless the turn was a misuse
   later_comes : (rest : List Turn) (x : State × Step) → ((t : State) → IsStateOf plan t → Comes t (all_made plan rest t) (after_items plan rest t)) → IsStateOf plan x.0 → Comes x.0 (unless_ended x (all_made plan rest)) (and_then x (items_of plan rest)).0

@@ -9,11 +9,11 @@ use Rattle.step_runner.specs.declared.turns.answer.Answer.TheVariants as answers
 use Rattle.step_runner.specs.declared.turns.object_state.ObjectState.{ObjectState}
 use Rattle.step_runner.specs.AtomicRange.{IsInRange}
 use Rattle.step_runner.specs.Objects.{new_object, EachAt}
-use Rattle.step_runner.specs.Ready.{IsReady}
-use Rattle.step_runner.specs.TurnAtObjects.{turn_at}
+use Rattle.step_runner.specs.StandsWithin.{IsReadyWithin}
+use Rattle.step_runner.specs.TurnWithin.{turn_within}
 use Rattle.workload.specs.Puts.{puts_at}
 use Rattle.step_runner.specs.State.{State, start, IsStateOf}
-use Rattle.step_runner.specs.Turns.{turn_of, after_items}
+use Rattle.step_runner.specs.Turns.{begun_by, turn_of, after_items}
 use Rattle.step_runner.proofs.StartLemmas.{each_start}
 use Rattle.step_runner.proofs.TurnLemmas.{Takes, takes_by, turn_cases}
 use Rattle.step_runner.proofs.RunLemmas.{GoesOn, moment_valid, Kept, items_keep}
@@ -21,23 +21,23 @@ use Rattle.step_runner.proofs.RunLemmas.{GoesOn, moment_valid, Kept, items_keep}
 -- what the law of turns says
 pub record Ranges : Type 0 where
   pub begins : (workers room : ℕ) (kind : ObjectKind) → IsInRange (new_object workers room kind)
-  pub goes_on : (workers worker moment : ℕ) (call : Call) (objects : List ObjectState) → IsReady workers worker call objects → EachAt (λ place. IsInRange) objects
-      → EachAt (λ place. IsInRange) (turn_at call worker moment objects).0
+  pub goes_on : (workers worker moment begun : ℕ) (call : Call) (objects : List ObjectState) → IsReadyWithin workers worker call objects → EachAt (λ place. IsInRange) objects
+      → EachAt (λ place. IsInRange) (turn_within call worker moment begun objects).0.0
 
 abbrev AllInRange : List ObjectState → Type 0
 AllInRange objects = EachAt (λ place. IsInRange) objects
 
-takes_stays : Ranges → (plan : Plan) (worker : ℕ) (s : State) (call : Call) (objects : List ObjectState) (answer : Answer) → IsStateOf plan s → AllInRange s.objects → Takes plan worker s call objects answer → AllInRange objects
-takes_stays ranges plan worker s call objects answer of are takes =
-    takes_by (λ x. AllInRange x.0) plan worker s call objects answer of takes (λ r. ranges.goes_on plan.workers worker s.moment call s.objects r are)
+takes_stays : Ranges → (plan : Plan) (worker : ℕ) (s : State) (call : Call) (objects : List ObjectState) (waits : ℕ) (answer : Answer) → IsStateOf plan s → AllInRange s.objects → Takes plan worker s call objects waits answer → AllInRange objects
+takes_stays ranges plan worker s call objects waits answer of are takes =
+    takes_by (λ x. AllInRange x.0.0) plan worker s call objects waits answer of takes (λ r. ranges.goes_on plan.workers worker s.moment (begun_by worker s) call s.objects r are)
 
 turn_stays : Ranges → (plan : Plan) (worker : ℕ) (s : State) → IsStateOf plan s → AllInRange s.objects → AllInRange (turn_of plan worker s).0.objects
 turn_stays ranges plan worker s of are = turn_cases (λ step. AllInRange step.0.objects) plan worker s of (record {
   ended = λ is. are;
-  still = λ call objects takes. takes_stays ranges plan worker s call objects answers.Still of are takes;
-  unfinished = λ call objects takes. takes_stays ranges plan worker s call objects answers.Unfinished of are takes;
-  completed = λ call objects reply takes. takes_stays ranges plan worker s call objects (answers.Completed reply) of are takes;
-  misused = λ call objects misuse takes. takes_stays ranges plan worker s call objects (answers.Misused misuse) of are takes;
+  still = λ call objects waits takes. takes_stays ranges plan worker s call objects waits answers.Still of are takes;
+  unfinished = λ call objects waits takes. takes_stays ranges plan worker s call objects waits answers.Unfinished of are takes;
+  completed = λ call objects waits reply takes. takes_stays ranges plan worker s call objects waits (answers.Completed reply) of are takes;
+  misused = λ call objects waits misuse takes. takes_stays ranges plan worker s call objects waits (answers.Misused misuse) of are takes;
 })
 
 -- a state of the plan in which the atomics are in range

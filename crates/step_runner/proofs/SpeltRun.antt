@@ -3,7 +3,7 @@ use Rattle.std.proofs.Common.{◌≡◌, ◌≢◌, ℕ, ◌+◌, ◌<◌, Bool,
 use Rattle.std.specs.Prelude.{◌==◌, Ok, Err, slice_get, sum_by, All, if◌then◌else◌}
 use Rattle.std.specs.Option.{option_map_or}
 use Rattle.std.proofs.lemmas.Bool.{eq-eqb, eqb-true, eqb-false}
-use Rattle.std.proofs.lemmas.List.{length-map, get_or-set_same}
+use Rattle.std.proofs.lemmas.List.{length-map, length-set, get_or-set_same}
 use Rattle.std.proofs.lemmas.List.Elements.{filter-append}
 use Rattle.sync_model.specs.declared.answer.Answer.TheVariants.{Done}
 use Rattle.script_calls.specs.Runs.{passed_over, left_of, made_of, RunsAlong}
@@ -26,25 +26,23 @@ use Rattle.run_record.specs.declared.made.Made.{Made}
 use Rattle.step_runner.specs.declared.turns.answer.Answer.{Answer}
 use Rattle.step_runner.specs.declared.turns.answer.Answer.TheVariants as answers
 use Rattle.step_runner.specs.declared.turns.object_state.ObjectState.{ObjectState}
-use Rattle.step_runner.specs.Items.{Item, items_at}
+use Rattle.step_runner.specs.Items.{Item}
 use Rattle.step_runner.specs.MapKeys.{HasObjectKeysIn}
-use Rattle.step_runner.specs.ObjectLeft.{object_left, UsesBy}
 use Rattle.step_runner.specs.Objects.{new_object, kind_of, EachAt}
-use Rattle.step_runner.specs.Ready.{IsReady}
-use Rattle.step_runner.specs.Stands.{IsOutAt, IsOutBut, waits_at}
-use Rattle.step_runner.specs.TurnAtObjects.{turn_at}
-use Rattle.step_runner.specs.Left.{left_at}
+use Rattle.step_runner.specs.Stands.{IsOutAt, IsOutBut}
+use Rattle.step_runner.specs.StandsWithin.{IsReadyWithin, waits_within, IsWithinCall, StandsAfter, left_within}
+use Rattle.step_runner.specs.TurnWithin.{Taken, turn_within, items_within}
 use Rattle.step_runner.specs.Recorded.{recorded_reply, recorded}
 use Rattle.step_runner.specs.Tells.{Tells}
-use Rattle.step_runner.specs.Within.{IsIdle, IsWithin, StandsBehind}
+use Rattle.step_runner.specs.Within.{IsIdle}
 use Rattle.step_runner.specs.declared.step.Step.{Step}
 use Rattle.step_runner.specs.declared.step.Step.TheVariants as steps
 use Rattle.step_runner.specs.RunItems.{made_by, unless_ended, all_made}
 use Rattle.step_runner.specs.CallTurns.{stands_before}
 use Rattle.step_runner.specs.Spelt.{by_worker, list_of, part_by, made_for, misuse_by, misuse_of, ending_by, Falls}
 use Rattle.step_runner.specs.State.{State, start, with_reply, with_moment, IsStateOf}
-use Rattle.step_runner.specs.Turns.{left_for, next_call, settled, turn_of, and_then, items_of as after_all, after_items}
-use Rattle.step_runner.proofs.FormLemmas.{TurnStands, Standing, own_at, kinds_in}
+use Rattle.step_runner.specs.Turns.{begun_by, left_for, next_call, settled, turn_of, and_then, items_of as after_all, after_items}
+use Rattle.step_runner.proofs.FormLemmas.{TurnStands, Standing, own_out, own_at}
 use Rattle.step_runner.proofs.MadeLemmas.{event_state}
 use Rattle.step_runner.proofs.Numbered.{NamesAside}
 use Rattle.step_runner.proofs.RunKeys.{HasKeys}
@@ -52,8 +50,8 @@ use Rattle.step_runner.proofs.RunLemmas.{GoesOn, Kept}
 use Rattle.step_runner.proofs.SpeltLines.{count-append, recorded-append, flat-push, spelt-push, map-push}
 use Rattle.step_runner.proofs.SpeltTurns.{items_in, count_in, ByTurns, same_parts, more_last, more_spelt, part_of_other, part_of_own, part_elsewhere}
 use Rattle.step_runner.proofs.ScriptRuns.{split_first, none_first}
-use Rattle.step_runner.proofs.StartLemmas.{each_start, none_replied}
-use Rattle.step_runner.proofs.TurnLemmas.{TurnsUse, Takes, takes_by, turn_cases, moved, ready, replied_other, turn_before}
+use Rattle.step_runner.proofs.StartLemmas.{each_start, none_begun, none_replied}
+use Rattle.step_runner.proofs.TurnLemmas.{TurnsUse, Takes, takes_by, takes_use, turn_cases, moved, begun_own, begun_other, replied_begun, replied_begun_other, ready, replied_other, still_same, turn_before}
 
 -- what the laws of runs say
 pub record RunsTold : Type 0 where
@@ -65,24 +63,26 @@ pub record RunsTold : Type 0 where
 
 -- what the laws of turns say
 pub record Spells : Type 0 where
-  pub own : (plan : Plan) (worker before moment : ℕ) (call : Call) (objects : List ObjectState) → IsReady plan.workers worker call objects
-      → EachAt (λ place. HasObjectKeysIn (all_keys plan.scripts)) objects → IsOutBut (waits_at (map kind_of objects) call) worker objects → IsWithin worker call objects
-      → Tells plan (left_at plan worker before call objects) (left_at plan worker (before + length (shared_in (recorded plan before (items_at call worker moment objects)))) call (turn_at call worker moment objects).0)
-      (recorded plan before (items_at call worker moment objects)) (turn_at call worker moment objects).1
-      × StandsBehind worker call (turn_at call worker moment objects).1 (turn_at call worker moment objects).0
-  pub others : (plan : Plan) (worker other before moment : ℕ) (own call : Call) (objects : List ObjectState) → IsReady plan.workers worker own objects → IsReady plan.workers other call objects → worker ≢ other
-      → (IsWithin worker own objects → IsWithin worker own (turn_at call other moment objects).0)
-      × ((later : List Made) (answer : CallAnswer (Reply ℕ)) → left_at plan worker before own (turn_at call other moment objects).0 later answer → left_at plan worker before own objects later answer)
-  pub idle : (workers worker other moment : ℕ) (call : Call) (objects : List ObjectState) → IsReady workers other call objects → worker ≢ other
-      → EachAt (λ place. IsIdle worker) objects → EachAt (λ place. IsIdle worker) (turn_at call other moment objects).0
+  pub own : (plan : Plan) (worker before moment begun : ℕ) (call : Call) (objects : List ObjectState) → IsReadyWithin plan.workers worker call objects
+      → EachAt (λ place. HasObjectKeysIn (all_keys plan.scripts)) objects → IsOutBut (waits_within (map kind_of objects) call begun) worker objects → IsWithinCall worker call begun objects
+      → Tells plan (left_within plan worker before call objects begun)
+      (left_within plan worker (before + length (shared_in (recorded plan before (items_within call worker moment begun objects)))) call (turn_within call worker moment begun objects).0.0 (turn_within call worker moment begun objects).0.1)
+      (recorded plan before (items_within call worker moment begun objects)) (turn_within call worker moment begun objects).1
+      × StandsAfter worker call (turn_within call worker moment begun objects).1 (turn_within call worker moment begun objects).0.1 (turn_within call worker moment begun objects).0.0
+  pub others : (plan : Plan) (worker other before moment begun later : ℕ) (own call : Call) (objects : List ObjectState) → IsReadyWithin plan.workers worker own objects → IsReadyWithin plan.workers other call objects → worker ≢ other
+      → (IsWithinCall worker own begun objects → IsWithinCall worker own begun (turn_within call other moment later objects).0.0)
+      × ((items : List Made) (answer : CallAnswer (Reply ℕ)) → left_within plan worker before own (turn_within call other moment later objects).0.0 begun items answer → left_within plan worker before own objects begun items answer)
+  pub idle : (workers worker other moment begun : ℕ) (call : Call) (objects : List ObjectState) → IsReadyWithin workers other call objects → worker ≢ other
+      → EachAt (λ place. IsIdle worker) objects → EachAt (λ place. IsIdle worker) (turn_within call other moment begun objects).0.0
   pub begins : (worker workers room : ℕ) (kind : ObjectKind) → IsIdle worker (new_object workers room kind)
-  pub enters : (plan : Plan) (worker before : ℕ) (call : Call) (objects : List ObjectState) → IsReady plan.workers worker call objects → map kind_of objects ≡ map (λ (line : ObjectLine). line.kind) plan.objects
+  pub enters : (plan : Plan) (worker before : ℕ) (call : Call) (objects : List ObjectState) → IsReadyWithin plan.workers worker call objects → map kind_of objects ≡ map (λ (line : ObjectLine). line.kind) plan.objects
       → EachAt (λ place. IsIdle worker) objects → IsOutBut None worker objects
-      → IsWithin worker call objects × ((items : List Made) (answer : CallAnswer (Reply ℕ)) → left_at plan worker before call objects items answer → SpellsCall plan worker before call items answer)
-  pub goes_on : (plan : Plan) (worker before : ℕ) (call : Call) (objects : List ObjectState) → IsReady plan.workers worker call objects → (later : List Made) × (answer : CallAnswer (Reply ℕ)) × left_at plan worker before call objects later answer
-  pub by_itself : (worker moment : ℕ) (call : Call) (objects : List ObjectState) → filter (λ item. item.caller == worker) (items_at call worker moment objects) ≡ items_at call worker moment objects
+      → IsWithinCall worker call 0 objects × ((items : List Made) (answer : CallAnswer (Reply ℕ)) → left_within plan worker before call objects 0 items answer → SpellsCall plan worker before call items answer)
+  pub goes_on : (plan : Plan) (worker before begun : ℕ) (call : Call) (objects : List ObjectState) → IsReadyWithin plan.workers worker call objects
+      → (later : List Made) × (answer : CallAnswer (Reply ℕ)) × left_within plan worker before call objects begun later answer
+  pub by_itself : (worker moment begun : ℕ) (call : Call) (objects : List ObjectState) → filter (λ item. item.caller == worker) (items_within call worker moment begun objects) ≡ items_within call worker moment begun objects
   pub runs : RunsTold
-  pub by_no_other : (worker other moment : ℕ) (call : Call) (objects : List ObjectState) → worker ≢ other → filter (λ item. item.caller == other) (items_at call worker moment objects) ≡ []
+  pub by_no_other : (worker other moment begun : ℕ) (call : Call) (objects : List ObjectState) → worker ≢ other → filter (λ item. item.caller == other) (items_within call worker moment begun objects) ≡ []
 
 -- ---- what is so of a worker's items so far
 
@@ -99,10 +99,10 @@ abbrev FallsAs : Plan → ℕ → Trace → List (Reply (List ℕ)) → Option M
 FallsAs plan worker made given met = Falls plan worker made.all (made.parts worker) given met
 
 -- within its next call, if there is one: with whatever items spell what is left, the last ones spell the call. Else it stands nowhere
-abbrev Stands : Plan → ℕ → ℕ → List Made → Option Call → List ObjectState → Type 0
-Stands plan worker before last None objects = (last ≡ []) × EachAt (λ place. IsIdle worker) objects
-Stands plan worker before last (Some call) objects =
-    IsWithin worker call objects × ((later : List Made) (answer : CallAnswer (Reply ℕ)) → left_at plan worker (before + count_in last) call objects later answer → SpellsCall plan worker before call (last ++ later) answer)
+abbrev Stands : Plan → ℕ → ℕ → List Made → Option Call → ℕ → List ObjectState → Type 0
+Stands plan worker before last None begun objects = (last ≡ []) × EachAt (λ place. IsIdle worker) objects
+Stands plan worker before last (Some call) begun objects =
+    IsWithinCall worker call begun objects × ((later : List Made) (answer : CallAnswer (Reply ℕ)) → left_within plan worker (before + count_in last) call objects begun later answer → SpellsCall plan worker before call (last ++ later) answer)
 
 -- the completed calls with their replies, as a line has them
 abbrev calls_in : List SpeltCall → List (Call × Reply ℕ)
@@ -117,7 +117,7 @@ pub record SoFar (plan : Plan) (worker : ℕ) (made : Trace) (s : State) : Type 
   items : items_in spelt ++ last ≡ list_of plan made.all worker
   turns : ByTurns plan spelt last (made.parts worker)
   are : AreSpelt plan worker 0 spelt
-  stands : Stands plan worker (count_in (items_in spelt)) last (next_call plan worker s) s.objects
+  stands : Stands plan worker (count_in (items_in spelt)) last (next_call plan worker s) (begun_by worker s) s.objects
 
 -- the rest is what the worker's replies leave of its script
 rest_left : Spells → (plan : Plan) (worker : ℕ) (made : Trace) (s : State) (h : SoFar plan worker made s) → h.rest ≡ left_for plan worker s
@@ -149,7 +149,7 @@ ends_line laws plan worker made s of h = by_next (next_call plan worker s) refl
   where
     by_next : (o : Option Call) → next_call plan worker s ≡ o → FallsAs plan worker made (get_or s.replies worker []) None
     by_next None none =
-        let stands = subst (λ (o : Option Call). Stands plan worker (count_in (items_in h.spelt)) h.last o s.objects) none h.stands in
+        let stands = subst (λ (o : Option Call). Stands plan worker (count_in (items_in h.spelt)) h.last o (begun_by worker s) s.objects) none h.stands in
         record {
           line = record { spelt = h.spelt; last = h.last; halts = []; rest = h.rest; ending = whole };
           runs = h.runs;
@@ -162,9 +162,9 @@ ends_line laws plan worker made s of h = by_next (next_call plan worker s) refl
           halts = refl;
         }
     by_next (Some call) some =
-        let stands = subst (λ (o : Option Call). Stands plan worker (count_in (items_in h.spelt)) h.last o s.objects) some h.stands in
+        let stands = subst (λ (o : Option Call). Stands plan worker (count_in (items_in h.spelt)) h.last o (begun_by worker s) s.objects) some h.stands in
         let split = split_first h.rest call (sym (next_left laws plan worker made s h) ∙ some) in
-        let can = laws.goes_on plan worker (count_in (items_in h.spelt) + count_in h.last) call s.objects (ready plan worker s call of some) in
+        let can = laws.goes_on plan worker (count_in (items_in h.spelt) + count_in h.last) (begun_by worker s) call s.objects (ready plan worker s call of some) in
         record {
           line = record { spelt = h.spelt; last = h.last; halts = []; rest = call ∷ split.0; ending = unfinished };
           runs = subst (RunsAlong (get_or plan.scripts worker []) (calls_in h.spelt)) split.1 h.runs;
@@ -198,16 +198,16 @@ module _ (laws : Spells) (stand_laws : TurnStands) (uses : TurnsUse) (plan : Pla
   of = run.standing.of
 
   -- the state behind the turn
-  state_of : (call : Call) (objects : List ObjectState) (answer : Answer) → Takes plan by s call objects answer → IsStateOf plan (settled by answer (moved objects s)).0
-  state_of call objects answer takes = subst (λ (x : State × Step). IsStateOf plan x.0) (turn_before plan by s call objects answer takes.next takes.turn) (goes by s of)
+  state_of : (call : Call) (objects : List ObjectState) (waits : ℕ) (answer : Answer) → Takes plan by s call objects waits answer → IsStateOf plan (settled by answer (moved by objects waits s)).0
+  state_of call objects waits answer takes = subst (λ (x : State × Step). IsStateOf plan x.0) (turn_before plan by s call objects waits answer takes.next takes.turn) (goes by s of)
 
   -- the turn's items are in the list of its worker, and in no other
   own_list : (made : List Item) (call : Call) → next_call plan by s ≡ Some call
-      → list_of plan (made ++ made_by plan by s) by ≡ list_of plan made by ++ recorded plan (count_in (list_of plan made by)) (items_at call by s.moment s.objects)
+      → list_of plan (made ++ made_by plan by s) by ≡ list_of plan made by ++ recorded plan (count_in (list_of plan made by)) (items_within call by s.moment (begun_by by s) s.objects)
   own_list made call is =
-      let turn = items_at call by s.moment s.objects in
-      let is_turn : made_by plan by s ≡ turn = ap (λ (o : Option Call). option_map_or (λ call. items_at call by s.moment s.objects) o []) is in
-      let own = ap (λ (l : List Item). by_worker by (made ++ l)) is_turn ∙ filter-append (λ (item : Item). item.caller == by) made turn ∙ ap (λ (l : List Item). by_worker by made ++ l) (laws.by_itself by s.moment call s.objects) in
+      let turn = items_within call by s.moment (begun_by by s) s.objects in
+      let is_turn : made_by plan by s ≡ turn = ap (λ (o : Option Call). option_map_or (λ call. items_within call by s.moment (begun_by by s) s.objects) o []) is in
+      let own = ap (λ (l : List Item). by_worker by (made ++ l)) is_turn ∙ filter-append (λ (item : Item). item.caller == by) made turn ∙ ap (λ (l : List Item). by_worker by made ++ l) (laws.by_itself by s.moment (begun_by by s) call s.objects) in
       let zero_first : 0 + count_in (list_of plan made by) ≡ count_in (list_of plan made by) = omega arith in
       ap (recorded plan 0) own ∙ recorded-append plan 0 (by_worker by made) turn ∙ ap (λ (n : ℕ). list_of plan made by ++ recorded plan n turn) zero_first
 
@@ -215,30 +215,32 @@ module _ (laws : Spells) (stand_laws : TurnStands) (uses : TurnsUse) (plan : Pla
   other_list made worker apart =
       ap (recorded plan 0) (filter-append (λ (item : Item). item.caller == worker) made (made_by plan by s) ∙ ap (λ (l : List Item). by_worker worker made ++ l) (none (next_call plan by s)) ∙ append-nil (by_worker worker made))
     where
-      none : (o : Option Call) → by_worker worker (option_map_or (λ call. items_at call by s.moment s.objects) o []) ≡ []
+      none : (o : Option Call) → by_worker worker (option_map_or (λ call. items_within call by s.moment (begun_by by s) s.objects) o []) ≡ []
       none None = refl
-      none (Some call) = laws.by_no_other by worker s.moment call s.objects (λ same. apart (sym same))
+      none (Some call) = laws.by_no_other by worker s.moment (begun_by by s) call s.objects (λ same. apart (sym same))
 
   -- ---- another worker
 
   module _ (worker : ℕ) (made : Trace) (apart : worker ≢ by) (h : SoFar plan worker made s) where
     -- its objects behind the turn
-    other_stands : (call : Call) (objects : List ObjectState) (answer : Answer) → Takes plan by s call objects answer → Stands plan worker (count_in (items_in h.spelt)) h.last (next_call plan worker s) objects
-    other_stands call objects answer takes = by_next (next_call plan worker s) refl
+    other_stands : (call : Call) (objects : List ObjectState) (waits : ℕ) (answer : Answer) → Takes plan by s call objects waits answer
+        → Stands plan worker (count_in (items_in h.spelt)) h.last (next_call plan worker s) (begun_by worker s) objects
+    other_stands call objects waits answer takes = by_next (next_call plan worker s) refl
       where
-        by_next : (o : Option Call) → next_call plan worker s ≡ o → Stands plan worker (count_in (items_in h.spelt)) h.last o objects
+        by_next : (o : Option Call) → next_call plan worker s ≡ o → Stands plan worker (count_in (items_in h.spelt)) h.last o (begun_by worker s) objects
         by_next None none =
-            let stands = subst (λ (o : Option Call). Stands plan worker (count_in (items_in h.spelt)) h.last o s.objects) none h.stands in
-            (stands.0, takes_by (λ x. EachAt (λ place. IsIdle worker) x.0) plan by s call objects answer of takes (λ r. laws.idle plan.workers worker by s.moment call s.objects r apart stands.1))
+            let stands = subst (λ (o : Option Call). Stands plan worker (count_in (items_in h.spelt)) h.last o (begun_by worker s) s.objects) none h.stands in
+            (stands.0, takes_by (λ x. EachAt (λ place. IsIdle worker) x.0.0) plan by s call objects waits answer of takes (λ r. laws.idle plan.workers worker by s.moment (begun_by by s) call s.objects r apart stands.1))
         by_next (Some own) some =
-            let stands = subst (λ (o : Option Call). Stands plan worker (count_in (items_in h.spelt)) h.last o s.objects) some h.stands in
-            takes_by (λ x. Stands plan worker (count_in (items_in h.spelt)) h.last (Some own) x.0) plan by s call objects answer of takes
+            let stands = subst (λ (o : Option Call). Stands plan worker (count_in (items_in h.spelt)) h.last o (begun_by worker s) s.objects) some h.stands in
+            takes_by (λ x. Stands plan worker (count_in (items_in h.spelt)) h.last (Some own) (begun_by worker s) x.0.0) plan by s call objects waits answer of takes
             (λ r.
-            let kept = laws.others plan worker by (count_in (items_in h.spelt) + count_in h.last) s.moment own call s.objects (ready plan worker s own of some) r apart in
+            let kept = laws.others plan worker by (count_in (items_in h.spelt) + count_in h.last) s.moment (begun_by worker s) (begun_by by s) own call s.objects (ready plan worker s own of some) r apart in
             (kept.0 stands.0, λ later answer l. stands.1 later answer (kept.1 later answer l)))
 
-    other_so_far : (t : State) → get_or t.replies worker [] ≡ get_or s.replies worker [] → Stands plan worker (count_in (items_in h.spelt)) h.last (next_call plan worker s) t.objects → SoFar plan worker (more plan made by s) t
-    other_so_far t same stands = record {
+    other_so_far : (t : State) → get_or t.replies worker [] ≡ get_or s.replies worker [] → begun_by worker t ≡ begun_by worker s
+        → Stands plan worker (count_in (items_in h.spelt)) h.last (next_call plan worker s) (begun_by worker s) t.objects → SoFar plan worker (more plan made by s) t
+    other_so_far t same same_begun stands = record {
       spelt = h.spelt;
       last = h.last;
       rest = h.rest;
@@ -247,27 +249,34 @@ module _ (laws : Spells) (stand_laws : TurnStands) (uses : TurnsUse) (plan : Pla
       items = h.items ∙ sym (other_list made.all worker apart);
       turns = same_parts plan h.spelt h.last (made.parts worker) ((more plan made by s).parts worker) (λ k. ap (λ (l : List Item). made.parts worker k ++ l) (part_of_other plan worker k by s apart) ∙ append-nil (made.parts worker k)) h.turns;
       are = h.are;
-      stands = subst (λ (done : List (Reply (List ℕ))). Stands plan worker (count_in (items_in h.spelt)) h.last (slice_get (left_of (get_or plan.scripts worker []) done) 0) t.objects) (sym same) stands;
+      stands = subst (λ (done : List (Reply (List ℕ))). Stands plan worker (count_in (items_in h.spelt)) h.last (slice_get (left_of (get_or plan.scripts worker []) done) 0) (begun_by worker t) t.objects) (sym same)
+          (subst (λ (n : ℕ). Stands plan worker (count_in (items_in h.spelt)) h.last (next_call plan worker s) n t.objects) (sym same_begun) stands);
     }
+
+    other_moved : (call : Call) (objects : List ObjectState) (waits : ℕ) (answer : Answer) → Takes plan by s call objects waits answer → SoFar plan worker (more plan made by s) (moved by objects waits s)
+    other_moved call objects waits answer takes = other_so_far (moved by objects waits s) refl (begun_other by worker waits objects s apart) (other_stands call objects waits answer takes)
 
     other_behind : Behind plan worker by (more plan made by s) (turn_of plan by s)
     other_behind = turn_cases (Behind plan worker by (more plan made by s)) plan by s of (record {
-      ended = λ none. other_so_far s refl h.stands;
-      still = λ call objects takes. other_so_far (moved objects s) refl (other_stands call objects answers.Still takes);
-      unfinished = λ call objects takes. other_so_far (moved objects s) refl (other_stands call objects answers.Unfinished takes);
-      completed = λ call objects reply takes. other_so_far (with_reply by reply (moved objects s)) (replied_other by worker reply (moved objects s) apart) (other_stands call objects (answers.Completed reply) takes);
-      misused = λ call objects misuse takes. misused_line call objects misuse takes;
+      ended = λ none. other_so_far s refl refl h.stands;
+      still = λ call objects waits takes. other_moved call objects waits answers.Still takes;
+      unfinished = λ call objects waits takes. other_moved call objects waits answers.Unfinished takes;
+      completed = λ call objects waits reply takes.
+          let t = moved by objects waits s in
+          other_so_far (with_reply by reply t) (replied_other by worker reply t apart) (replied_begun_other by worker reply t apart ∙ begun_other by worker waits objects s apart)
+          (other_stands call objects waits (answers.Completed reply) takes);
+      misused = λ call objects waits misuse takes. misused_line call objects waits misuse takes;
     })
       where
         not_by : (b : Bool) → (by == worker) ≡ b → b ≡ false
         not_by true is = absurd (apart (sym (eqb-true by worker is)))
         not_by false is = refl
 
-        misused_line : (call : Call) (objects : List ObjectState) (misuse : Misuse) → Takes plan by s call objects (answers.Misused misuse)
+        misused_line : (call : Call) (objects : List ObjectState) (waits : ℕ) (misuse : Misuse) → Takes plan by s call objects waits (answers.Misused misuse)
             → FallsAs plan worker (more plan made by s) (get_or s.replies worker []) (if by == worker then Some misuse else None)
-        misused_line call objects misuse takes =
+        misused_line call objects waits misuse takes =
             subst (λ (b : Bool). FallsAs plan worker (more plan made by s) (get_or s.replies worker []) (if b then Some misuse else None)) (sym (not_by (by == worker) refl))
-            (ends_line laws plan worker (more plan made by s) (moved objects s) (state_of call objects (answers.Misused misuse) takes) (other_so_far (moved objects s) refl (other_stands call objects (answers.Misused misuse) takes)))
+            (ends_line laws plan worker (more plan made by s) (moved by objects waits s) (state_of call objects waits (answers.Misused misuse) takes) (other_moved call objects waits (answers.Misused misuse) takes))
 
   -- ---- the worker itself
 
@@ -283,12 +292,12 @@ module _ (laws : Spells) (stand_laws : TurnStands) (uses : TurnsUse) (plan : Pla
 
     module _ (call : Call) (some : next_call plan by s ≡ Some call) where
       abbrev turn_made : List Made
-      turn_made = recorded plan so_many (items_at call by s.moment s.objects)
+      turn_made = recorded plan so_many (items_within call by s.moment (begun_by by s) s.objects)
 
-      own_stands : IsWithin by call s.objects × ((later : List Made) (answer : CallAnswer (Reply ℕ)) → left_at plan by so_many call s.objects later answer → SpellsCall plan by before call (h.last ++ later) answer)
+      own_stands : IsWithinCall by call (begun_by by s) s.objects × ((later : List Made) (answer : CallAnswer (Reply ℕ)) → left_within plan by so_many call s.objects (begun_by by s) later answer → SpellsCall plan by before call (h.last ++ later) answer)
       own_stands =
-          let stands = subst (λ (o : Option Call). Stands plan by before h.last o s.objects) some h.stands in
-          (stands.0, λ later answer l. stands.1 later answer (subst (λ (n : ℕ). left_at plan by n call s.objects later answer) (sym count_is) l))
+          let stands = subst (λ (o : Option Call). Stands plan by before h.last o (begun_by by s) s.objects) some h.stands in
+          (stands.0, λ later answer l. stands.1 later answer (subst (λ (n : ℕ). left_within plan by n call s.objects (begun_by by s) later answer) (sym count_is) l))
 
       rest_is : (rest : List Call) × (h.rest ≡ call ∷ rest)
       rest_is = split_first h.rest call (sym (next_left laws plan by made s h) ∙ some)
@@ -299,46 +308,43 @@ module _ (laws : Spells) (stand_laws : TurnStands) (uses : TurnsUse) (plan : Pla
       -- they are the turn's, before this call
       own_turns : ByTurns plan h.spelt (h.last ++ turn_made) ((more plan made by s).parts by)
       own_turns =
-          let turn = items_at call by s.moment s.objects in
-          let is_turn : made_by plan by s ≡ turn = ap (λ (o : Option Call). option_map_or (λ call. items_at call by s.moment s.objects) o []) some in
+          let turn = items_within call by s.moment (begun_by by s) s.objects in
+          let is_turn : made_by plan by s ≡ turn = ap (λ (o : Option Call). option_map_or (λ call. items_within call by s.moment (begun_by by s) s.objects) o []) some in
           let count = count_spelt plan by made s h in
           subst (λ (n : ℕ). ByTurns plan h.spelt (h.last ++ recorded plan n turn) ((more plan made by s).parts by)) count_is
           (more_last plan h.spelt h.last (made.parts by) ((more plan made by s).parts by) turn
           (ap (λ (l : List Item). made.parts by (length h.spelt) ++ l) (ap (λ (n : ℕ). part_by plan by n by s) (sym count) ∙ part_of_own plan by s ∙ is_turn))
           (λ k far. ap (λ (l : List Item). made.parts by k ++ l) (part_elsewhere plan by k s (λ same. far (same ∙ count))) ∙ append-nil (made.parts by k)) h.turns)
 
-      abbrev Told : List ObjectState × Answer → Type 0
-      Told x = Tells plan (left_at plan by so_many call s.objects) (left_at plan by (so_many + count_in turn_made) call x.0) turn_made x.1 × StandsBehind by call x.1 x.0
+      abbrev Told : Taken → Type 0
+      Told x = Tells plan (left_within plan by so_many call s.objects (begun_by by s)) (left_within plan by (so_many + count_in turn_made) call x.0.0 x.0.1) turn_made x.1 × StandsAfter by call x.1 x.0.1 x.0.0
 
-      out_is : IsOutBut (waits_at (map kind_of s.objects) call) by s.objects
-      out_is =
-          subst (λ (ks : List ObjectKind). IsOutBut (waits_at ks call) by s.objects) (sym of.objects)
-          (subst (λ (o : Option Call). IsOutBut (option_map_or (λ c. waits_at (kinds_in plan) c) o None) by s.objects) some (run.standing.out by))
-
-      told : (objects : List ObjectState) (answer : Answer) → Takes plan by s call objects answer → Told (objects, answer)
-      told objects answer takes = takes_by Told plan by s call objects answer of takes (λ r. laws.own plan by so_many s.moment call s.objects r run.keys.maps out_is own_stands.0)
+      told : (objects : List ObjectState) (waits : ℕ) (answer : Answer) → Takes plan by s call objects waits answer → Told ((objects, waits), answer)
+      told objects waits answer takes =
+          takes_by Told plan by s call objects waits answer of takes (λ r. laws.own plan by so_many s.moment (begun_by by s) call s.objects r run.keys.maps (own_out stand_laws plan by s run.standing call some) own_stands.0)
 
       -- a turn without an event
-      own_still : (objects : List ObjectState) → Takes plan by s call objects answers.Still → SoFar plan by (more plan made by s) (moved objects s)
-      own_still objects takes =
-          let t = told objects answers.Still takes in
-          let same : objects ≡ s.objects = takes_by (λ x. UsesBy (sum_by object_left s.objects) (sum_by object_left x.0) (x.0 ≡ s.objects) x.1) plan by s call objects answers.Still of takes (λ r. uses plan.workers by s.moment call s.objects r) in
-          record {
+      own_still : (objects : List ObjectState) (waits : ℕ) → Takes plan by s call objects waits answers.Still → SoFar plan by (more plan made by s) (moved by objects waits s)
+      own_still objects waits takes =
+          let t = told objects waits answers.Still takes in
+          let nothing : turn_made ≡ [] = t.0 in
+          let same : moved by objects waits s ≡ s = still_same by s objects waits (takes_use uses plan by s call objects waits answers.Still of takes) in
+          subst (SoFar plan by (more plan made by s)) (sym same) (record {
             spelt = h.spelt;
             last = h.last;
             rest = h.rest;
             runs = h.runs;
             replies = h.replies;
-            items = sym (list_is ∙ ap (λ (l : List Made). items_in h.spelt ++ (h.last ++ l)) t.0 ∙ ap (λ (l : List Made). items_in h.spelt ++ l) (append-nil h.last));
-            turns = subst (λ (l : List Made). ByTurns plan h.spelt l ((more plan made by s).parts by)) (ap (λ (l : List Made). h.last ++ l) t.0 ∙ append-nil h.last) own_turns;
+            items = sym (list_is ∙ ap (λ (l : List Made). items_in h.spelt ++ (h.last ++ l)) nothing ∙ ap (λ (l : List Made). items_in h.spelt ++ l) (append-nil h.last));
+            turns = subst (λ (l : List Made). ByTurns plan h.spelt l ((more plan made by s).parts by)) (ap (λ (l : List Made). h.last ++ l) nothing ∙ append-nil h.last) own_turns;
             are = h.are;
-            stands = subst (λ (os : List ObjectState). Stands plan by before h.last (next_call plan by s) os) (sym same) h.stands;
-          }
+            stands = h.stands;
+          })
 
       -- an event after which the call has not returned
-      own_unfinished : (objects : List ObjectState) → Takes plan by s call objects answers.Unfinished → SoFar plan by (more plan made by s) (moved objects s)
-      own_unfinished objects takes =
-          let t = told objects answers.Unfinished takes in
+      own_unfinished : (objects : List ObjectState) (waits : ℕ) → Takes plan by s call objects waits answers.Unfinished → SoFar plan by (more plan made by s) (moved by objects waits s)
+      own_unfinished objects waits takes =
+          let t = told objects waits answers.Unfinished takes in
           let count : before + count_in (h.last ++ turn_made) ≡ so_many + count_in turn_made = omega (arith, count-append h.last turn_made, count_is) in
           record {
             spelt = h.spelt;
@@ -349,37 +355,39 @@ module _ (laws : Spells) (stand_laws : TurnStands) (uses : TurnsUse) (plan : Pla
             items = sym list_is;
             turns = own_turns;
             are = h.are;
-            stands = subst (λ (o : Option Call). Stands plan by before (h.last ++ turn_made) o objects) (sym some) (
-              t.1,
-              λ later answer l.
-                  subst (λ (items : List Made). SpellsCall plan by before call items answer) (sym (append_assoc h.last turn_made later))
-                  (own_stands.1 (turn_made ++ later) answer (t.0 later answer (subst (λ (n : ℕ). left_at plan by n call objects later answer) count l))),
-            );
+            stands = subst (λ (o : Option Call). Stands plan by before (h.last ++ turn_made) o (begun_by by (moved by objects waits s)) objects) (sym some)
+                (subst (λ (n : ℕ). Stands plan by before (h.last ++ turn_made) (Some call) n objects) (sym (begun_own by waits objects s (omega (arith, takes.below, of.waits)))) (
+                  t.1,
+                  λ later answer l.
+                      subst (λ (items : List Made). SpellsCall plan by before call items answer) (sym (append_assoc h.last turn_made later))
+                      (own_stands.1 (turn_made ++ later) answer (t.0 later answer (subst (λ (n : ℕ). left_within plan by n call objects waits later answer) count l))),
+                ));
           }
 
       -- one that completes the call
       abbrev one_more : Reply (List ℕ) → SpeltCall
       one_more reply = record { call = call; items = h.last ++ turn_made; reply = recorded_reply plan reply }
 
-      completed_stands : (objects : List ObjectState) (reply : Reply (List ℕ)) → Takes plan by s call objects (answers.Completed reply) → (o : Option Call) → next_call plan by (with_reply by reply (moved objects s)) ≡ o
-          → Stands plan by (count_in (items_in (h.spelt ++ one_more reply ∷ []))) [] o objects
-      completed_stands objects reply takes None is = (refl, (told objects (answers.Completed reply) takes).1)
-      completed_stands objects reply takes (Some next) is =
-          let t = with_reply by reply (moved objects s) in
-          let valid = state_of call objects (answers.Completed reply) takes in
+      completed_stands : (objects : List ObjectState) (waits : ℕ) (reply : Reply (List ℕ)) → Takes plan by s call objects waits (answers.Completed reply) → (o : Option Call) → next_call plan by (with_reply by reply (moved by objects waits s)) ≡ o
+          → Stands plan by (count_in (items_in (h.spelt ++ one_more reply ∷ []))) [] o (begun_by by (with_reply by reply (moved by objects waits s))) objects
+      completed_stands objects waits reply takes None is = (refl, (told objects waits (answers.Completed reply) takes).1)
+      completed_stands objects waits reply takes (Some next) is =
+          let t = with_reply by reply (moved by objects waits s) in
+          let valid = state_of call objects waits (answers.Completed reply) takes in
           let first = count_in (items_in (h.spelt ++ one_more reply ∷ [])) in
-          let entered = laws.enters plan by first next objects (ready plan by t next valid is) valid.objects (told objects (answers.Completed reply) takes).1 (own_at stand_laws plan by s run.standing call objects (answers.Completed reply) takes) in
+          let entered = laws.enters plan by first next objects (ready plan by t next valid is) valid.objects (told objects waits (answers.Completed reply) takes).1 (own_at stand_laws plan by s run.standing call objects waits (answers.Completed reply) takes) in
           let none : first + 0 ≡ first = omega arith in
-          (entered.0, λ later answer l. entered.1 later answer (subst (λ (n : ℕ). left_at plan by n next objects later answer) none l))
+          let none_begun : begun_by by t ≡ 0 = replied_begun by reply (moved by objects waits s) (omega (arith, takes.below, of.waits, length-set s.begun by waits)) in
+          subst (λ (n : ℕ). Stands plan by first [] (Some next) n objects) (sym none_begun) (entered.0, λ later answer l. entered.1 later answer (subst (λ (n : ℕ). left_within plan by n next objects 0 later answer) none l))
 
-      own_completed : (objects : List ObjectState) (reply : Reply (List ℕ)) → Takes plan by s call objects (answers.Completed reply) → SoFar plan by (more plan made by s) (with_reply by reply (moved objects s))
-      own_completed objects reply takes =
-          let t = with_reply by reply (moved objects s) in
+      own_completed : (objects : List ObjectState) (waits : ℕ) (reply : Reply (List ℕ)) → Takes plan by s call objects waits (answers.Completed reply) → SoFar plan by (more plan made by s) (with_reply by reply (moved by objects waits s))
+      own_completed objects waits reply takes =
+          let t = with_reply by reply (moved by objects waits s) in
           let one = one_more reply in
           let script = get_or plan.scripts by [] in
           let here : by < length s.replies = omega (arith, takes.below, of.workers) in
           let now : get_or t.replies by [] ≡ get_or s.replies by [] ++ reply ∷ [] = get_or-set_same s.replies by (get_or s.replies by [] ++ reply ∷ []) [] here in
-          let spells = own_stands.1 turn_made (Done (Ok (recorded_reply plan reply))) (told objects (answers.Completed reply) takes).0 in
+          let spells = own_stands.1 turn_made (Done (Ok (recorded_reply plan reply))) (told objects waits (answers.Completed reply) takes).0 in
           let none : before ≡ 0 + before = omega arith in
           record {
             spelt = h.spelt ++ one ∷ [];
@@ -392,13 +400,13 @@ module _ (laws : Spells) (stand_laws : TurnStands) (uses : TurnsUse) (plan : Pla
             items = append-nil (items_in (h.spelt ++ one ∷ [])) ∙ flat-push h.spelt one ∙ sym list_is;
             turns = more_spelt plan h.spelt one ((more plan made by s).parts by) own_turns;
             are = spelt-push plan by 0 h.spelt one h.are (subst (λ (n : ℕ). SpellsCall plan by n call one.items (Done (Ok one.reply))) none spells);
-            stands = completed_stands objects reply takes (next_call plan by t) refl;
+            stands = completed_stands objects waits reply takes (next_call plan by t) refl;
           }
 
-      own_misused : (objects : List ObjectState) (misuse : Misuse) → Takes plan by s call objects (answers.Misused misuse)
+      own_misused : (objects : List ObjectState) (waits : ℕ) (misuse : Misuse) → Takes plan by s call objects waits (answers.Misused misuse)
           → FallsAs plan by (more plan made by s) (get_or s.replies by []) (Some misuse)
-      own_misused objects misuse takes =
-          let spells = own_stands.1 turn_made (Done (Err misuse)) (told objects (answers.Misused misuse) takes).0 in
+      own_misused objects waits misuse takes =
+          let spells = own_stands.1 turn_made (Done (Err misuse)) (told objects waits (answers.Misused misuse) takes).0 in
           record {
             line = record { spelt = h.spelt; last = h.last ++ turn_made; halts = []; rest = call ∷ rest_is.0; ending = misused misuse };
             runs = subst (RunsAlong (get_or plan.scripts by []) (calls_in h.spelt)) rest_is.1 h.runs;
@@ -414,7 +422,7 @@ module _ (laws : Spells) (stand_laws : TurnStands) (uses : TurnsUse) (plan : Pla
     -- one whose script has ended makes nothing
     own_ended : next_call plan by s ≡ None → SoFar plan by (more plan made by s) s
     own_ended none =
-        let nothing : made_by plan by s ≡ [] = ap (λ (o : Option Call). option_map_or (λ call. items_at call by s.moment s.objects) o []) none in
+        let nothing : made_by plan by s ≡ [] = ap (λ (o : Option Call). option_map_or (λ call. items_within call by s.moment (begun_by by s) s.objects) o []) none in
         record {
           spelt = h.spelt;
           last = h.last;
@@ -435,11 +443,11 @@ module _ (laws : Spells) (stand_laws : TurnStands) (uses : TurnsUse) (plan : Pla
     own_behind : Behind plan by by (more plan made by s) (turn_of plan by s)
     own_behind = turn_cases (Behind plan by by (more plan made by s)) plan by s of (record {
       ended = own_ended;
-      still = λ call objects takes. own_still call takes.next objects takes;
-      unfinished = λ call objects takes. own_unfinished call takes.next objects takes;
-      completed = λ call objects reply takes. own_completed call takes.next objects reply takes;
-      misused = λ call objects misuse takes.
-          subst (λ (b : Bool). FallsAs plan by (more plan made by s) (get_or s.replies by []) (if b then Some misuse else None)) (sym (eq-eqb by by refl)) (own_misused call takes.next objects misuse takes);
+      still = λ call objects waits takes. own_still call takes.next objects waits takes;
+      unfinished = λ call objects waits takes. own_unfinished call takes.next objects waits takes;
+      completed = λ call objects waits reply takes. own_completed call takes.next objects waits reply takes;
+      misused = λ call objects waits misuse takes.
+          subst (λ (b : Bool). FallsAs plan by (more plan made by s) (get_or s.replies by []) (if b then Some misuse else None)) (sym (eq-eqb by by refl)) (own_misused call takes.next objects waits misuse takes);
     })
 
   pub turn_behind : (made : Trace) → ((worker : ℕ) → SoFar plan worker made s) → (worker : ℕ) → Behind plan worker by (more plan made by s) (turn_of plan by s)
@@ -526,9 +534,9 @@ begun laws stand_laws plan of run worker = record {
     idle : EachAt (λ place. IsIdle worker) (start plan).objects
     idle = each_start (λ place. IsIdle worker) plan (λ place kind. laws.begins worker plan.workers (puts_at place plan.scripts) kind)
 
-    by_next : (o : Option Call) → next_call plan worker (start plan) ≡ o → Stands plan worker 0 [] o (start plan).objects
+    by_next : (o : Option Call) → next_call plan worker (start plan) ≡ o → Stands plan worker 0 [] o (begun_by worker (start plan)) (start plan).objects
     by_next None is = (refl, idle)
     by_next (Some call) is =
         let entered = laws.enters plan worker 0 call (start plan).objects (ready plan worker (start plan) call of is) of.objects idle
         (each_start (λ place object. (None ≡ Some place → ⊥) → IsOutAt worker object) plan (λ place kind far. stand_laws.begins worker plan.workers (puts_at place plan.scripts) kind)) in
-        (entered.0, λ later answer l. entered.1 later answer l)
+        subst (λ (n : ℕ). Stands plan worker 0 [] (Some call) n (start plan).objects) (sym (none_begun plan.workers worker)) (entered.0, λ later answer l. entered.1 later answer l)

@@ -41,6 +41,11 @@ none_replied zero k = refl
 none_replied (suc n) zero = refl
 none_replied (suc n) (suc k) = none_replied n k
 
+pub none_begun : (n k : ℕ) → get_or (replicate {A = ℕ} n 0) k 0 ≡ 0
+none_begun zero k = refl
+none_begun (suc n) zero = refl
+none_begun (suc n) (suc k) = none_begun n k
+
 pub start_is : Begins → (plan : Plan) → is_valid plan ≡ true → IsStateOf plan (start plan)
 start_is begins plan valid = record {
   valid = valid;
@@ -48,5 +53,7 @@ start_is begins plan valid = record {
   machines = each_start (λ place. IsMachineOf plan.workers) plan (λ place kind. (begins plan.workers (puts_at place plan.scripts) kind).1);
   workers = length-replicate plan.workers [];
   within = λ k. subst (λ (replies : List (Reply (List ℕ))). length replies ≤ length (get_or plan.scripts k [])) (sym (none_replied plan.workers k)) (omega arith);
+  waits = length-replicate plan.workers 0;
+  few = λ k. omega (arith, none_begun plan.workers k);
   made = λ k. subst (λ (replies : List (Reply (List ℕ))). length (made_of (get_or plan.scripts k []) replies) ≡ length replies) (sym (none_replied plan.workers k)) refl;
 }

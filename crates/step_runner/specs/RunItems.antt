@@ -1,5 +1,5 @@
 -- The items that a run makes: what was done on which object, by whom and with which answer, in order.
-use Rattle.std.specs.Prelude.{◌≡◌, ℕ, List, [], ◌∷◌, ◌++◌, get_or, slice_get, Some}
+use Rattle.std.specs.Prelude.{◌≡◌, ℕ, true, List, [], ◌∷◌, ◌++◌, get_or, slice_get, Some}
 use Rattle.std.specs.Option.{option_map_or}
 use Rattle.sync_types.specs.SequentialAtomic.{is_same}
 use Rattle.sync_types.specs.declared.atomic_object.AtomicCall.TheVariants.{Load}
@@ -59,3 +59,10 @@ IsTested plan worker call value s =
     (found : Number) × (slice_get s.objects call.object ≡ Some (states.Atomic found))
     × (made_by plan worker s ≡ record { object = call.object; caller = worker; deed = placed (operations.Atomic Load) (replies.Atomic (Held found)) } ∷ [])
     × (get_or (turn_of plan worker s).0.replies worker [] ≡ get_or s.replies worker [] ++ replies.Atomic (Compared (is_same found value)) ∷ [])
+
+-- the worker's next turn makes one load of the atomic at this place, which finds this number, completes the call by true, and changes no object
+abbrev pub IsMet : Plan → ℕ → ℕ → Number → State → Type 0
+IsMet plan worker atomic found s =
+    (made_by plan worker s ≡ record { object = atomic; caller = worker; deed = placed (operations.Atomic Load) (replies.Atomic (Held found)) } ∷ [])
+    × (get_or (turn_of plan worker s).0.replies worker [] ≡ get_or s.replies worker [] ++ replies.Atomic (Compared true) ∷ [])
+    × ((turn_of plan worker s).0.objects ≡ s.objects)

@@ -12,13 +12,13 @@ ghost use Rattle.script_calls.specs.declared.call.Operation.TheVariants as opera
 ghost use Rattle.sync_types.specs.declared.misuse.Misuse.{Misuse};
 ghost use Rattle.sync_types.specs.declared.pool_call.PoolCall.{PoolCall};
 ghost use Rattle.sync_types.specs.SequentialAtomic as atomics;
-ghost use Rattle.sync_types.specs.SequentialAtomic.{is_of};
+ghost use Rattle.sync_types.specs.SequentialAtomic.{is_of, is_same};
 ghost use Rattle.mutex_core.specs.MutexMachine as mutex;
 ghost use Rattle.rw_core.specs.RwMachine as rw;
 ghost use Rattle.pool_core.specs.PoolMachine as pool;
 ghost use Rattle.pool_core.specs.declared.pool_event.PoolEvent.{PoolEvent};
 ghost use Rattle.pool_core.specs.declared.pool_event.PoolReply.{PoolReply};
-ghost use Rattle.workload.specs.Draft.{all_keys, distinct_count};
+ghost use Rattle.workload.specs.Draft.{all_keys, distinct_count, tries_of};
 ghost use Rattle.workload.specs.declared.turn.Turn.{Turn};
 ghost use Rattle.workload.specs.Keys.{keys_in, key_number, key_name};
 ghost use Rattle.workload.specs.Plan.{Plan, is_valid};
@@ -36,26 +36,31 @@ ghost use Rattle.step_runner.specs.declared.step.Step.TheVariants as steps;
 ghost use Rattle.script_calls.specs.declared.outcome.Report.{Report};
 ghost use Rattle.script_calls.specs.declared.outcome.Outcome.{Outcome};
 ghost use Rattle.script_calls.specs.declared.outcome.Outcome.TheVariants as outcomes;
-ghost use Rattle.step_runner.specs.CallTurns.{advances, requeues, wakes, count_turns};
+ghost use Rattle.step_runner.specs.CallTurns.{calls_met, most_turns_for, advances, requeues, wakes, count_turns};
 ghost use Rattle.step_runner.specs.Ends.{scheduled_ends};
 ghost use Rattle.step_runner.specs.LeftToDo.{left_to_do};
 ghost use Rattle.step_runner.specs.MadeCalls.{made_calls, calls_of};
 ghost use Rattle.step_runner.specs.Outcomes.{rounds, is_misused, StepsTo};
-ghost use Rattle.step_runner.specs.RunItems.{all_made, IsAnswered, IsTested, LeadTo};
+ghost use Rattle.step_runner.specs.RunItems.{all_made, IsAnswered, IsTested, IsMet, LeadTo};
 ghost use Rattle.step_runner.specs.Spelt.{lists_of, made_for, misuse_of, EndAs, Falls};
 ghost use Rattle.step_runner.specs.State.{State, IsStateOf, start, with_moment};
-ghost use Rattle.step_runner.specs.Turns.{next_call, turn_of, items_of, after_items, has_ended};
+ghost use Rattle.step_runner.specs.Turns.{begun_by, next_call, turn_of, items_of, after_items, has_ended};
 ghost use Rattle.workload.specs.Forms.{all_have_forms, has_forms};
 ghost use Rattle.step_runner.specs.Computed.{rounds_of, all_rounds, turns};
 
-use crate::turns::laws::spelling::{
-    calls_are_entered_whole, items_are_their_workers, turns_spell_their_calls,
+use crate::turns::laws::spelling::calls_are_entered_whole;
+use crate::turns::laws::spelling_within::{
+    calls_begin_whole, items_are_of_their_workers, turns_spell_what_was_left,
+};
+use crate::turns::laws::within::{
+    few_turns_are_left, items_lead_on, keys_are_kept, kinds_and_machines_are_kept,
+    one_turn_completes_some_calls, ranges_are_kept, room_is_kept, something_is_used_up,
+    workers_wait_where_their_calls_do,
 };
 use crate::turns::laws::{
     a_placed_call_is_one_item, an_ifeq_is_one_load, few_turns_are_left_of_a_call,
     items_lead_from_turn_to_turn, maps_keep_to_the_keys_of_calls, numbers_stay_in_range,
-    pools_have_room, some_calls_take_one_turn, turns_keep_kinds_and_machines,
-    turns_use_something_up, workers_stand_in_their_calls,
+    pools_have_room, turns_keep_kinds_and_machines, workers_stand_in_their_calls,
 };
 use script_calls::laws as scripts;
 use sync_types::Name;
@@ -64,13 +69,15 @@ use workload::laws::keys_are_numbered_by_first_appearance;
 /// What is true of the state in which a run begins stays true with each turn, and so at every moment:
 /// each object is of the kind that the workload says, the state of each mutex and of each reader/writer
 /// mutex is valid, the workers are the callers of each machine, and each reply of a worker is to a call
-/// that it made of its script.
+/// that it made of its script. A worker has begun no more waits than its next call may make.
 pub fn validity()
     ensures begins { (plan : Plan) → is_valid plan ≡ true → IsStateOf plan (start plan) }
     ensures goes_on { (plan : Plan) (worker : ℕ) (state : State) → IsStateOf plan state → IsStateOf plan (turn_of plan worker state).0 }
     ensures always { (plan : Plan) (items : List Turn) → is_valid plan ≡ true → IsStateOf plan (after_items plan items (start plan)) }
 {
     turns_keep_kinds_and_machines();
+    kinds_and_machines_are_kept();
+    something_is_used_up();
     scripts::runs_go_on::<Name>();
 }
 
@@ -81,21 +88,26 @@ pub fn events_use_something_up()
     ensures made { (plan : Plan) (worker : ℕ) (old new : State) → IsStateOf plan old → turn_of plan worker old ≡ (new, steps.Made) → left_to_do plan new < left_to_do plan old }
     ensures misused { (plan : Plan) (worker : ℕ) (old new : State) (misuse : Misuse) → IsStateOf plan old → turn_of plan worker old ≡ (new, steps.Misused misuse) → new.replies ≡ old.replies }
 {
-    turns_use_something_up();
+    something_is_used_up();
     scripts::runs_go_on::<Name>();
 }
 
 /// A call takes at most four turns that make an event, and a `waitfor` four for each of its waits and one more, but those with which its
 /// worker goes back to the queue of a mutex. For each of these another worker took a turn that unlocked, and told the worker to go on. The
-/// number of the call counts from 0 among the calls that its worker makes.
+/// number of the call counts from 0 among the calls that its worker makes. One that it hasn't met by then has taken none.
 pub fn a_call_takes_few_turns()
     ensures few { (plan : Plan) (items : List Turn) (worker number : ℕ) → is_valid plan ≡ true → count_turns plan (advances plan worker number) items (start plan) ≤ most_turns_for plan worker number (after_items plan items (start plan)) }
+    ensures plain { (plan : Plan) (items : List Turn) (worker number : ℕ) (call : Call) → is_valid plan ≡ true → slice_get (calls_met plan worker (after_items plan items (start plan))) number ≡ Some call → tries_of call.operation ≡ 0
+        → count_turns plan (advances plan worker number) items (start plan) ≤ 4 }
     ensures woken { (plan : Plan) (items : List Turn) (worker number : ℕ) → is_valid plan ≡ true → count_turns plan (requeues plan worker number) items (start plan) ≤ count_turns plan (wakes plan worker number) items (start plan) }
 {
     validity();
     events_use_something_up();
     workers_stand_in_their_calls();
+    workers_wait_where_their_calls_do();
     few_turns_are_left_of_a_call();
+    few_turns_are_left();
+    scripts::runs_go_on::<Name>();
 }
 
 /// Every run ends, in one of the three ways: one round more than is left to do is enough, and any more
@@ -132,7 +144,7 @@ pub fn scripts_of_one_turn_calls_end()
 {
     validity();
     events_use_something_up();
-    some_calls_take_one_turn();
+    one_turn_completes_some_calls();
     scripts::a_script_without_tests_is_its_own_run::<Name>();
 }
 
@@ -170,6 +182,7 @@ pub fn objects_keep_their_kinds()
 {
     validity();
     numbers_stay_in_range();
+    ranges_are_kept();
 }
 
 /// At every moment, behind any turns up to the first misuse, the items that the run has made on an object lead from what it
@@ -185,6 +198,7 @@ pub fn objects_come_by_the_items_of_the_run()
 {
     validity();
     items_lead_from_turn_to_turn();
+    items_lead_on();
 }
 
 /// At every moment the next turn of a worker that stands before a call of a map or an atomic makes the call whole, by one item on
@@ -207,6 +221,16 @@ pub fn an_ifeq_tells_what_its_load_found()
     an_ifeq_is_one_load();
 }
 
+/// At every moment the next turn of a worker that stands before a `waitfor`, and whose atomic holds the value, makes one load of the
+/// atomic, and answers true. It changes no object: the cond and its mutex aren't looked at.
+pub fn a_waitfor_that_is_met_is_one_load()
+    ensures { (plan : Plan) (items : List Turn) (worker atomic tries : ℕ) (call : Call) (value found : Number) → is_valid plan ≡ true → next_call plan worker (after_items plan items (start plan)) ≡ Some call
+        → call.operation ≡ operations.Composed (ComposedCall.WaitFor atomic value tries) → begun_by worker (after_items plan items (start plan)) ≡ 0
+        → slice_get (after_items plan items (start plan)).objects atomic ≡ Some (states.Atomic found) → is_same found value ≡ true → IsMet plan worker atomic found (after_items plan items (start plan)) }
+{
+    validity();
+}
+
 /// At every moment, behind any turns up to the first misuse, a worker's items fall into the calls of a run of its script, in order:
 /// each completed call is spelt by the items of its own turns, as a record's are, and its reply is read off them. Behind them stand the
 /// first items of at most one more call, or that call as a misuse: each list ends by the call before which its worker stands, and by the
@@ -217,12 +241,15 @@ pub fn the_items_of_each_call_spell_it()
         → (count : ℕ) × ((r : Record) → r.lists ≡ lists_of plan (all_made plan (plan.schedule ++ rounds count plan.workers) (start plan)) → (lines : List Line) × AreLines plan r outcome lines × EndAs plan outcome (λ worker. misuse_of plan worker (plan.schedule ++ rounds count plan.workers) (start plan)) lines) }
 {
     validity();
-    turns_use_something_up();
+    something_is_used_up();
     workers_stand_in_their_calls();
+    workers_wait_where_their_calls_do();
     maps_keep_to_the_keys_of_calls();
-    turns_spell_their_calls();
+    keys_are_kept();
+    turns_spell_what_was_left();
     calls_are_entered_whole();
-    items_are_their_workers();
+    calls_begin_whole();
+    items_are_of_their_workers();
     scripts::a_run_is_told_by_its_replies::<u32>();
     scripts::runs_go_on::<u32>();
     scripts::runs_do_not_hang_on_names::<Name, u32>();
@@ -243,6 +270,7 @@ pub fn keys_are_those_of_calls()
         → contains_key m key ≡ true → key_name (keys_in plan.scripts) (key_number (keys_in plan.scripts) key) ≡ key }
 {
     maps_keep_to_the_keys_of_calls();
+    keys_are_kept();
     keys_are_numbered_by_first_appearance();
 }
 
@@ -251,6 +279,7 @@ pub fn pairs_are_few()
     ensures { (plan : Plan) (items : List Turn) → list_all (list_all (has_pairs_to (distinct_count (all_keys plan.scripts)))) (after_items plan items (start plan)).replies ≡ true }
 {
     maps_keep_to_the_keys_of_calls();
+    keys_are_kept();
 }
 
 /// At every moment each reply has the form of its call's replies, by the table of `sync_model`: a `lock` never answers a
@@ -261,6 +290,7 @@ pub fn replies_have_their_form()
 {
     validity();
     workers_stand_in_their_calls();
+    workers_wait_where_their_calls_do();
     scripts::replies_have_their_form::<Name, u32>();
     scripts::runs_do_not_hang_on_names::<Name, u32>();
 }
@@ -274,6 +304,7 @@ pub fn no_put_is_dropped()
 {
     validity();
     pools_have_room();
+    room_is_kept();
     scripts::runs_go_on::<Name>();
 }
 

@@ -16,6 +16,7 @@ use crate::state::State;
 use crate::step::Step;
 use crate::turn::{next_call, take_turn};
 use crate::turns::laws::maps_keep_to_the_keys_of_calls;
+use crate::turns::laws::within::keys_are_kept;
 use script_calls::{Ending, Outcome, Report};
 use std::alloc::{AllocError, Global};
 use sync_types::Seq;
@@ -162,6 +163,7 @@ pub fn stepped(alloc: Global, workload: &Workload) -> Result<Outcome, AllocError
     ensures forms { IfOk result (λ outcome. has_forms workload.now outcome ≡ true) }
 {
     maps_keep_to_the_keys_of_calls();
+    keys_are_kept();
     laws::replies_have_their_form();
     laws::each_run_has_one_outcome();
     let mut state = State::start(alloc, workload)?;

@@ -4,7 +4,7 @@ ghost use Rattle.script_calls.specs.Runs.{passed_over};
 ghost use Rattle.workload.specs.Readable.{IsReadable};
 ghost use Rattle.step_runner.specs.Places.{IsKeptFor, places_behind};
 ghost use Rattle.step_runner.specs.State.{new_objects, start, with_reply};
-ghost use Rattle.step_runner.specs.Turns.{settled};
+ghost use Rattle.step_runner.specs.Turns.{settled_with};
 
 use crate::laws;
 use crate::step::Step;
@@ -15,8 +15,8 @@ use std::marker::Model;
 use sync_types::{Name, Seq};
 use workload::Workload;
 
-/// The clock's moment, the objects, and for each worker the replies to its calls so far, how many waits of its call it has begun, and the place of
-/// its next call.
+/// The clock's moment, the objects, and for each worker the replies to its calls so far, how many waits of its call it has begun, and
+/// the place of its next call.
 #[derive(Drop)]
 pub struct State {
     pub(crate) moment: u64,
@@ -114,25 +114,36 @@ impl State {
         self.places[worker as usize]
     }
 
-    /// Completes a worker's call with its reply. Calls that this passes over are left out.
+    /// Completes a worker's call with its reply. Calls that this passes over are left out. Of the next call no wait was begun.
     fn complete(&mut self, worker: u32, call: &Call, reply: Reply<Name>) -> Result<(), AllocError>
         requires replies { worker < length self.old.state.replies }
+        requires waits { worker < length self.old.state.begun }
         requires places { worker < length self.old.places }
         requires room { get_or self.old.places worker 0 < 2 ^ 63 }
         ensures state { OnOk result (self.new.state ≡ with_reply worker reply self.old.state) }
         ensures places { OnOk result (self.new.places ≡ set self.old.places worker (get_or self.old.places worker 0 + 1 + passed_over call.now reply)) }
     {
         self.places[worker as usize] += 1 + call.passed_over(&reply);
+        self.begun[worker as usize] = 0;
         self.replies.push_at(worker as usize, reply)
     }
 
-    /// Settles what a turn means for its worker: only an answer that completes the call adds a reply.
-    pub fn settle(&mut self, worker: u32, call: &Call, answer: Answer) -> Result<Step, AllocError>
+    /// Settles what a turn means for its worker, behind which so many waits of its call were begun: only an answer that completes the
+    /// call adds a reply.
+    pub fn settle(
+        &mut self,
+        worker: u32,
+        call: &Call,
+        begun: u32,
+        answer: Answer,
+    ) -> Result<Step, AllocError>
         requires replies { worker < length self.old.state.replies }
+        requires waits { worker < length self.old.state.begun }
         requires places { worker < length self.old.places }
         requires room { get_or self.old.places worker 0 < 2 ^ 63 }
-        ensures { IfOk result (λ step. (settled worker answer self.old.state ≡ (self.new.state, step)) × (self.new.places ≡ places_behind worker call.now answer self.old.places)) }
+        ensures { IfOk result (λ step. (settled_with worker ((self.old.state.objects, begun), answer) self.old.state ≡ (self.new.state, step)) × (self.new.places ≡ places_behind worker call.now answer self.old.places)) }
     {
+        self.begun[worker as usize] = begun;
         match answer {
             Answer::Still => Ok(Step::Still),
             Answer::Unfinished => Ok(Step::Made),

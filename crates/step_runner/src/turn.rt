@@ -7,7 +7,7 @@ ghost use Rattle.step_runner.specs.Turns.{next_call, turn_of};
 use crate::laws;
 use crate::state::State;
 use crate::step::Step;
-use crate::turns::{Taker, take_turn_at};
+use crate::turns::{Taker, take_turn_within};
 use script_calls::Call;
 use script_calls::laws::runs_go_on;
 use std::alloc::{AllocError, Global};
@@ -45,8 +45,10 @@ pub fn take_turn(
                 workers: workload.workers(),
                 moment: state.moment,
             };
-            let answer = take_turn_at(alloc, &mut state.objects, call, taker)?;
-            state.settle(worker, call, answer)
+            let begun = state.begun[worker as usize];
+            let (begun, answer) =
+                take_turn_within(alloc, &mut state.objects, call, begun, taker)?;
+            state.settle(worker, call, begun, answer)
         }
     }
 }

@@ -6,11 +6,11 @@ use Rattle.step_runner.proofs.laws.keys_are_those_of_calls.Goals as goal
 
 pub returns-clause-keys : goal.returns-clause-keys
 returns-clause-keys c = λ plan items object m key is there.
-    let keys : Keys = record { begins = c.maps_keep_to_the_keys_of_calls.ensures.begins; goes_on = c.maps_keep_to_the_keys_of_calls.ensures.goes_on } in
+    let keys : Keys = record { begins = c.maps_keep_to_the_keys_of_calls.ensures.begins; goes_on = c.keys_are_kept.ensures } in
     (items_keys keys plan (distinct_count (all_keys plan.scripts)) items (omega arith)).maps object (states.Map m) is key there
 
 pub returns-clause-named : goal.returns-clause-named
 returns-clause-named c = λ plan items object m key is there.
-    let keys : Keys = record { begins = c.maps_keep_to_the_keys_of_calls.ensures.begins; goes_on = c.maps_keep_to_the_keys_of_calls.ensures.goes_on } in
+    let keys : Keys = record { begins = c.maps_keep_to_the_keys_of_calls.ensures.begins; goes_on = c.keys_are_kept.ensures } in
     c.keys_are_numbered_by_first_appearance.ensures.named plan.scripts key
     ((items_keys keys plan (distinct_count (all_keys plan.scripts)) items (omega arith)).maps object (states.Map m) is key there)

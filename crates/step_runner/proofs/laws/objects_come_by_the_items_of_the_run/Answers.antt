@@ -1,9 +1,9 @@
 use Rattle.step_runner.proofs.RunLogs.{Leads, run_leads, ends_lead}
 use Rattle.step_runner.proofs.laws.objects_come_by_the_items_of_the_run.Goals as goal
 
-abbrev leads : goal.After-items_lead_from_turn_to_turn → Leads
+abbrev leads : goal.After-items_lead_on → Leads
 leads c = record {
-  turn = λ workers worker moment place call objects old new ready at there. c.items_lead_from_turn_to_turn.ensures.turn workers worker moment place call objects old new ready at there;
+  turn = λ workers worker moment place begun call objects old new ready at there. c.items_lead_on.ensures workers worker moment place begun call objects old new ready at there;
   nowhere = c.items_lead_from_turn_to_turn.ensures.nowhere;
   on = c.items_lead_from_turn_to_turn.ensures.on;
 }

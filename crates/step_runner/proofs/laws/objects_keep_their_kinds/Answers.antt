@@ -7,7 +7,7 @@ returns-clause-kinds c plan items valid = (c.validity.ensures.always plan items 
 
 pub returns-clause-ranges : goal.returns-clause-ranges
 returns-clause-ranges c plan items object number valid at =
-    in_range (record { begins = c.numbers_stay_in_range.ensures.begins; goes_on = c.numbers_stay_in_range.ensures.goes_on })
+    in_range (record { begins = c.numbers_stay_in_range.ensures.begins; goes_on = c.ranges_are_kept.ensures })
     plan (c.validity.ensures.goes_on plan) (c.validity.ensures.begins plan valid) items object (states.Atomic number) at
 
 pub returns-clause-mutexes : goal.returns-clause-mutexes

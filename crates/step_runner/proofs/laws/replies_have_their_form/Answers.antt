@@ -4,9 +4,9 @@ use Rattle.step_runner.proofs.laws.replies_have_their_form.Goals as goal
 abbrev stands : goal.After-runs_do_not_hang_on_names → TurnStands
 stands c = record {
   begins = c.workers_stand_in_their_calls.ensures.begins;
-  forms = c.workers_stand_in_their_calls.ensures.forms;
-  own = c.workers_stand_in_their_calls.ensures.own;
-  others = c.workers_stand_in_their_calls.ensures.others;
+  forms = c.workers_wait_where_their_calls_do.ensures.forms;
+  own = c.workers_wait_where_their_calls_do.ensures.own;
+  others = c.workers_wait_where_their_calls_do.ensures.others;
 }
 
 pub returns-clause-always : goal.returns-clause-always

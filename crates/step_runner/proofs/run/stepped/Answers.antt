@@ -31,7 +31,7 @@ returns-clause-computed c = computed c
 
 pub returns-clause-pairs : goal.returns-clause-pairs
 returns-clause-pairs c =
-    let keys : Keys = record { begins = c.maps_keep_to_the_keys_of_calls.ensures.begins; goes_on = c.maps_keep_to_the_keys_of_calls.ensures.goes_on } in
+    let keys : Keys = record { begins = c.maps_keep_to_the_keys_of_calls.ensures.begins; goes_on = c.keys_are_kept.ensures } in
     IfOk-weaker c.outcome.result (λ outcome. outcome ≡ turns c.args.workload.now) (λ outcome. shows_to MAX_KEYS outcome ≡ true)
     (λ outcome is. subst (λ (o : Outcome). shows_to MAX_KEYS o ≡ true) (sym is) (few_pairs keys c.args.workload.now c.in_ok-state.ensures.readable)) (computed c)
 
