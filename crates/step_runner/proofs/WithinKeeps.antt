@@ -180,7 +180,7 @@ module _ (law : OwnLaw) (stays : Stays) (all : Kinds) (workers worker moment : �
 
   by_out : (operation : Operation) (begun : ℕ) (objects : List ObjectState) → ReadyBy workers worker call objects operation → map kind_of objects ≡ kinds → IsOutBut (waits_by kinds call operation begun) worker objects
       → IsOutBut (waits_behind (turn_by_operation call worker moment begun objects operation).1 (waits_by kinds call operation (turn_by_operation call worker moment begun objects operation).0.1)) worker
-          (turn_by_operation call worker moment begun objects operation).0.0
+      (turn_by_operation call worker moment begun objects operation).0.0
   by_out (operations.Composed (WaitFor atomic value tries)) begun objects ready of out =
       takes worker moment call.object atomic value tries (BothOf atomic value tries) (LookOut atomic value tries) (TurnOut atomic value tries) (out_steps atomic value tries) begun objects (ready, of) out
   by_out operation begun objects ready of out =

@@ -153,7 +153,7 @@ module _ (law : OwnTakes) (most : MostLaw) (stays : Stays) (all : Kinds) (worker
 
 pub within_takes : OwnTakes → MostLaw → Stays → Kinds → (workers worker moment begun : ℕ) (call : Call) (objects : List ObjectState) → IsReadyWithin workers worker call objects
     → TakesBy (goes_back (items_within call worker moment begun objects)) (turns_within (map kind_of objects) call worker objects begun)
-        (turns_within (map kind_of objects) call worker (turn_within call worker moment begun objects).0.0 (turn_within call worker moment begun objects).0.1) (turn_within call worker moment begun objects).1
+    (turns_within (map kind_of objects) call worker (turn_within call worker moment begun objects).0.0 (turn_within call worker moment begun objects).0.1) (turn_within call worker moment begun objects).1
 within_takes law most stays all workers worker moment begun call objects ready = by_takes law most stays all workers worker moment (map kind_of objects) call call.operation begun objects ready refl
 
 -- ---- who is told to go on
