@@ -68,7 +68,7 @@ module _ (plan : Plan) where
   -- one that has a `waitfor` is a cond, and what the call names is an atomic
   wait_for_kind : (kind : ObjectKind) (atomic : ℕ) (value : Number) (tries : ℕ) → has_among plan.objects kind (operations.Composed (WaitFor atomic value tries)) ≡ true
       → ((mutex : ℕ) × (kind ≡ kinds.Cond mutex)) × ((type : AtomicKind) × IsAt plan atomic (kinds.Atomic type))
-  wait_for_kind (kinds.Cond mutex) atomic value tries has = ((mutex, refl), atomic_line value (slice_get plan.objects atomic) has)
+  wait_for_kind (kinds.Cond mutex) atomic value tries has = let is = atomic_line value (slice_get plan.objects atomic) has in ((mutex, refl), (is.0, (is.1, is.2, is.3)))
   wait_for_kind kind atomic value tries has = absurd (false≢true has)
 
   module _ (kind : ObjectKind) (call : ComposedCall) (has : has_among plan.objects kind (operations.Composed call) ≡ true) where

@@ -1,5 +1,5 @@
 -- What is left of a `waitfor`, try by try.
-use Rattle.std.proofs.Common.{◌≡◌, ℕ, zero, suc, ◌+◌, ◌<◌, Bool, true, false, List, [], ◌++◌, refl, sym, ap, ◌∙◌, subst, arith, Ok, Err}
+use Rattle.std.proofs.Common.{◌≡◌, ℕ, suc, ◌+◌, Bool, true, false, refl, sym, arith, Ok, Err}
 use Rattle.std.proofs.lemmas.Bool.{false≢true}
 use Rattle.sync_model.specs.declared.answer.Answer.TheVariants.{Done, Halted}
 use Rattle.sync_types.specs.declared.atomic_object.Number.{Number}
@@ -7,8 +7,8 @@ use Rattle.script_calls.specs.declared.call.Reply.{Reply}
 use Rattle.sync_types.specs.declared.misuse.Misuse.{Misuse}
 use Rattle.protocols.specs.Spelling.{CallAnswer}
 use Rattle.run_record.specs.CondKind.{wait_part}
-use Rattle.run_record.specs.Parts.{Part, and_then, returns}
-use Rattle.run_record.specs.Tests.{tests, unless_met, waits_for}
+use Rattle.run_record.specs.Parts.{returns}
+use Rattle.run_record.specs.Tests.{tests, waits_for}
 use Rattle.thread_objects.specs.Laws.{Stays, Joins}
 use Rattle.thread_objects.specs.Working.{Desk, Works}
 use Rattle.thread_runner.specs.Replies.{is_unmet}

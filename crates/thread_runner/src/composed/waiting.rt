@@ -1,5 +1,5 @@
 //! `waitfor`: tests of an atomic, and waits on a cond between them.
-ghost use Rattle.std.specs.Prelude.{◌≡◌, ℕ, ◌+◌, ◌<◌, length};
+ghost use Rattle.std.specs.Prelude.{◌≡◌, ◌+◌, ◌<◌, length};
 ghost use Rattle.sync_types.specs.declared.atomic_object.AtomicKind.{AtomicKind};
 ghost use Rattle.sync_model.specs.Shared.{IsCallerAt};
 ghost use Rattle.workload.specs.declared.object.ObjectKind.TheVariants.{Atomic};

@@ -1,4 +1,4 @@
-use Rattle.std.proofs.Common.{ℕ, suc, ◌+◌, ◌-◌, ◌≡◌, ◌∙◌, sym, arith}
+use Rattle.std.proofs.Common.{suc, ◌+◌, ◌-◌, ◌≡◌, ◌∙◌, sym, arith}
 use Rattle.run_record.specs.Objects.{atomic_number}
 use Rattle.run_record.specs.Record.{object_number}
 use Rattle.thread_objects.specs.Working.{Desk, desk_with}
