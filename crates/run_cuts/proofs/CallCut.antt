@@ -2,7 +2,7 @@
 use Rattle.std.proofs.Common.{◌≡◌, ℕ, true, Option, Some, None}
 use Rattle.std.specs.Prelude.{slice_get}
 use Rattle.script_calls.specs.declared.call.Call.{Call}
-use Rattle.script_calls.specs.declared.call.ComposedCall.TheVariants.{IfEqual}
+use Rattle.script_calls.specs.declared.call.ComposedCall.TheVariants.{IfEqual, WaitFor}
 use Rattle.script_calls.specs.declared.call.Operation.{Operation}
 use Rattle.script_calls.specs.declared.call.Operation.TheVariants as operations
 use Rattle.workload.specs.Keys.{keys_in}
@@ -23,6 +23,7 @@ use Rattle.run_cuts.proofs.OnceCut.{do_cuts, func_cuts, value_cuts}
 use Rattle.run_cuts.proofs.PoolCut.{pool_cuts}
 use Rattle.run_cuts.proofs.RwMutexCut.{rw_mutex_cuts}
 use Rattle.run_cuts.proofs.SharedCut.{atomic_cuts, if_equal_cuts, map_cuts}
+use Rattle.run_cuts.proofs.WaitForCut.{wait_for_cuts}
 
 on_cuts : (plan : Plan) (worker before place : ℕ) (kind : ObjectKind) (operation : Operation) → is_told operation ≡ true → Cuts (call_on plan worker before place kind operation) (on_cut plan worker place kind operation)
 on_cuts plan worker before place kinds.Map (operations.Map call) h = map_cuts (keys_in plan.scripts) (map_number plan.objects place) call
@@ -32,6 +33,7 @@ on_cuts plan worker before place (kinds.Atomic type) (operations.Composed (IfEqu
 on_cuts plan worker before place kinds.Mutex (operations.Mutex call) h = mutex_cuts (object_number place) call
 on_cuts plan worker before place kinds.RwMutex (operations.RwMutex call) h = rw_mutex_cuts (object_number place) call
 on_cuts plan worker before place (kinds.Cond mutex) (operations.Cond call) h = cond_cuts (object_number place) (object_number mutex) call
+on_cuts plan worker before place (kinds.Cond mutex) (operations.Composed (WaitFor atomic value tries)) h = wait_for_cuts (object_number place) (object_number mutex) (atomic_number plan.objects atomic) value tries
 on_cuts plan worker before place (kinds.WaitGroup start) (operations.WaitGroup call) h = group_cuts (object_number place) call
 on_cuts plan worker before place (kinds.Once atomic delta) operations.Once h = do_cuts (object_number place) (atomic_number plan.objects atomic) delta
 on_cuts plan worker before place (kinds.OnceFunc code) operations.OnceFunc h = func_cuts (object_number place) code

@@ -9,4 +9,5 @@ mod PoolCut
 mod RangeCut
 mod RwMutexCut
 mod SharedCut
+mod WaitForCut
 mod WriterCut

@@ -28,11 +28,11 @@ use Rattle.workload.specs.Keys.{key_number}
 use Rattle.run_record.specs.AtomicKind.{atomic_call, adds}
 use Rattle.run_record.specs.MapKind.{map_call}
 use Rattle.run_record.specs.Parts.{Part, Places}
-use Rattle.run_record.specs.Tests.{holds, tests, if_equal_call}
+use Rattle.run_record.specs.Tests.{holds, tests, compared, if_equal_call}
 use Rattle.run_record.specs.declared.made.Made.{Made}
 use Rattle.run_record.specs.declared.made.Made.TheVariants.{Shared, Entered}
 use Rattle.run_cuts.specs.Cuts.{whole, within, wrong, Cutter, Cuts, by_reply, place_cut, read_cut}
-use Rattle.run_cuts.specs.SharedCuts.{same_map_call, same_atomic_call, is_map_call, is_atomic_call, map_read, atomic_read, sum_read, map_cut, atomic_cut, adds_cut, if_equal_cut}
+use Rattle.run_cuts.specs.SharedCuts.{same_map_call, same_atomic_call, is_map_call, is_atomic_call, map_read, atomic_read, sum_read, map_cut, atomic_cut, adds_cut, tests_cut, if_equal_cut}
 use Rattle.run_cuts.proofs.CutLemmas.{read_cuts, same_whole, within_whole, wrong_whole, whole_within, whole_wrong, within_wrong, wrong_within}
 
 number_told : (a b : Number) → is_same a b ≡ true → a ≡ b
@@ -237,7 +237,8 @@ adds_cuts a amount =
     let add : AtomicCall = atomic_calls.Add (numbers.Int64 amount) in
     place_cuts (shared.Atomic a add) (λ (t : ℤ). answers.Atomic (atomic_replies.Held (numbers.Int64 t))) (λ t. t) (is_atomic_call a add) sum_read (pos 0) (is_atomic_told a add) (is_atomic_same a add) sum_read_told (λ t. refl)
 
+pub tests_cuts : (a : ℕ) (value : Number) → Cuts (tests a value) (tests_cut a value)
+tests_cuts a value = read_cuts (holds value) (atomic_call a atomic_calls.Load) (atomic_cut a atomic_calls.Load) (atomic_cuts a atomic_calls.Load)
+
 pub if_equal_cuts : (a : ℕ) (value : Number) → Cuts (if_equal_call a value) (if_equal_cut a value)
-if_equal_cuts a value =
-    read_cuts (λ met. replies.Atomic (atomic_replies.Compared met)) (tests a value) (read_cut (holds value) (atomic_cut a atomic_calls.Load))
-    (read_cuts (holds value) (atomic_call a atomic_calls.Load) (atomic_cut a atomic_calls.Load) (atomic_cuts a atomic_calls.Load))
+if_equal_cuts a value = read_cuts compared (tests a value) (tests_cut a value) (tests_cuts a value)

@@ -10,3 +10,4 @@ pub mod PoolCuts
 pub mod RangeCuts
 pub mod RwMutexCuts
 pub mod SharedCuts
+pub mod WaitForCuts

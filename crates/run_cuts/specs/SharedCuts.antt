@@ -16,7 +16,7 @@ use Rattle.sync_types.specs.declared.atomic_object.Number.TheVariants as numbers
 use Rattle.sync_types.specs.declared.map_object.MapCall.{MapCall}
 use Rattle.sync_types.specs.declared.map_object.MapCall.TheVariants as map_calls
 use Rattle.workload.specs.Keys.{key_number}
-use Rattle.run_record.specs.Tests.{holds}
+use Rattle.run_record.specs.Tests.{holds, compared}
 use Rattle.run_cuts.specs.Cuts.{Cutter, place_cut, read_cut}
 
 -- whether two calls of a map are one, by the numbers of their keys
@@ -75,6 +75,10 @@ atomic_cut a call = place_cut (is_atomic_call a call) atomic_read
 abbrev pub adds_cut : ℕ → ℤ → Cutter ℤ
 adds_cut a amount = place_cut (is_atomic_call a (atomic_calls.Add (numbers.Int64 amount))) sum_read
 
--- an `ifeq` is a load, read as whether it found the value
+-- a test is a load, read as whether it found the value
+abbrev pub tests_cut : ℕ → Number → Cutter Bool
+tests_cut a value = read_cut (holds value) (atomic_cut a atomic_calls.Load)
+
+-- an `ifeq` is one test
 abbrev pub if_equal_cut : ℕ → Number → Cutter (Reply ℕ)
-if_equal_cut a value = read_cut (λ met. replies.Atomic (atomic_replies.Compared met)) (read_cut (holds value) (atomic_cut a atomic_calls.Load))
+if_equal_cut a value = read_cut compared (tests_cut a value)

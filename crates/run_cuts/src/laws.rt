@@ -11,7 +11,7 @@ ghost use Rattle.run_record.specs.MutexKind.{mutex_call};
 ghost use Rattle.run_record.specs.OnceKind.{do_call, func_call, value_call};
 ghost use Rattle.run_record.specs.PoolKind.{pool_call};
 ghost use Rattle.run_record.specs.RwMutexKind.{rw_mutex_call};
-ghost use Rattle.run_record.specs.Tests.{if_equal_call};
+ghost use Rattle.run_record.specs.Tests.{if_equal_call, wait_for_call};
 ghost use Rattle.run_record.specs.WaitGroupKind.{wait_group_call};
 ghost use Rattle.run_cuts.specs.CallCuts.{call_cut, is_told};
 ghost use Rattle.run_cuts.specs.CondCuts.{cond_cut};
@@ -24,6 +24,7 @@ ghost use Rattle.run_cuts.specs.PoolCuts.{pool_cut};
 ghost use Rattle.run_cuts.specs.RangeCuts.{CutsRange};
 ghost use Rattle.run_cuts.specs.RwMutexCuts.{rw_mutex_cut};
 ghost use Rattle.run_cuts.specs.SharedCuts.{adds_cut, atomic_cut, if_equal_cut, map_cut};
+ghost use Rattle.run_cuts.specs.WaitForCuts.{wait_for_cut};
 
 use sync_types::{
     AtomicCall, CondCall, MapCall, MutexCall, Number, PoolCall, RwMutexCall, WaitGroupCall,
@@ -39,6 +40,7 @@ pub fn calls_are_cut_as_they_are_spelt()
     ensures map { (keys : List (List ℕ)) (m : ℕ) (call : MapCall (List ℕ)) → Cuts (map_call keys m call) (map_cut keys m call) }
     ensures atomic { (a : ℕ) (call : AtomicCall) → Cuts (atomic_call a call) (atomic_cut a call) }
     ensures ifeq { (a : ℕ) (value : Number) → Cuts (if_equal_call a value) (if_equal_cut a value) }
+    ensures waitfor { (cond mutex a : ℕ) (value : Number) (tries : ℕ) → Cuts (wait_for_call cond mutex a value tries) (wait_for_cut cond mutex a value tries) }
     ensures adds { (a : ℕ) (amount : ℤ) → Cuts (adds a amount) (adds_cut a amount) }
     ensures once { (object a : ℕ) (amount : ℤ) → Cuts (do_call object a amount) (do_cut object a amount) }
     ensures once_func { (object code : ℕ) → Cuts (func_call object code) (func_cut object code) }

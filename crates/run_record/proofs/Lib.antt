@@ -26,6 +26,8 @@ mod PartLemmas
 mod PoolReturns
 mod RangeReplies
 mod Returning
+mod RoundCounts
+mod RoundLemmas
 mod RunLines
 mod RwReturns
 mod TwoCalls

@@ -20,6 +20,7 @@ pub mod PoolKind
 pub mod Ranges
 pub mod Record
 pub mod Returns
+pub mod Rounds
 pub mod Runs
 pub mod RwMutexKind
 pub mod Tests

@@ -5,6 +5,7 @@ use Rattle.run_cuts.proofs.OnceCut.{do_cuts, func_cuts, value_cuts}
 use Rattle.run_cuts.proofs.PoolCut.{pool_cuts}
 use Rattle.run_cuts.proofs.RwMutexCut.{rw_mutex_cuts}
 use Rattle.run_cuts.proofs.SharedCut.{adds_cuts, atomic_cuts, if_equal_cuts, map_cuts}
+use Rattle.run_cuts.proofs.WaitForCut.{wait_for_cuts}
 use Rattle.run_cuts.proofs.laws.calls_are_cut_as_they_are_spelt.Goals as goal
 
 pub returns-clause-mutex : goal.returns-clause-mutex
@@ -30,6 +31,9 @@ returns-clause-adds c a amount = adds_cuts a amount
 
 pub returns-clause-ifeq : goal.returns-clause-ifeq
 returns-clause-ifeq c a value = if_equal_cuts a value
+
+pub returns-clause-waitfor : goal.returns-clause-waitfor
+returns-clause-waitfor c cond mutex a value tries = wait_for_cuts cond mutex a value tries
 
 pub returns-clause-once : goal.returns-clause-once
 returns-clause-once c object a amount = do_cuts object a amount
