@@ -1,5 +1,5 @@
 -- A call passes the checks of its form.
-use Rattle.std.proofs.Common.{◌≡◌, ℕ, ◌^◌, ◌<◌, true, ◌&&◌, List, [], ◌∷◌, refl, arith}
+use Rattle.std.proofs.Common.{◌≡◌, ℕ, ◌+◌, ◌^◌, ◌<◌, true, ◌&&◌, List, [], ◌∷◌, ◌++◌, Option, Some, None, refl, sym, ap, subst, ◌∙◌, arith}
 use Rattle.std.specs.Prelude.{nat_le, count_by}
 use Rattle.std.specs.List.{list_all}
 use Rattle.std.specs.Option.{option_to_list}
@@ -7,7 +7,7 @@ use Rattle.std.specs.Fmt.{decimal}
 use Rattle.std.proofs.lemmas.Bool.{leb-true}
 use Rattle.sync_types.specs.Name.{is_name}
 use Rattle.script_calls.specs.declared.call.ComposedCall.{ComposedCall}
-use Rattle.script_calls.specs.declared.call.ComposedCall.TheVariants.{IfEqual}
+use Rattle.script_calls.specs.declared.call.ComposedCall.TheVariants.{IfEqual, WaitFor}
 use Rattle.script_calls.specs.declared.call.Operation.{Operation}
 use Rattle.script_calls.specs.declared.call.Operation.TheVariants as operations
 use Rattle.sync_types.specs.declared.map_object.MapCall.{MapCall}
@@ -32,15 +32,22 @@ use Rattle.sync_types.specs.SequentialAtomic.{has_bits, is_of, is_atomic_call}
 use Rattle.sync_types.specs.declared.value.TheConstants.{MAX_VALUE}
 use Rattle.workload.specs.declared.object.ObjectKind.{ObjectKind}
 use Rattle.workload.specs.declared.object.ObjectKind.TheVariants as kinds
-use Rattle.workload.specs.Plan.{word_of, has_call}
-use Rattle.workload.specs.NumberWords.{number_word, is_number_to}
+use Rattle.workload.specs.declared.object.ObjectWord.{ObjectWord}
+use Rattle.workload.specs.declared.object.ObjectWord.TheVariants as object_words
+use Rattle.workload.specs.declared.keyword.Operand.{Operand}
+use Rattle.workload.specs.declared.keyword.Verb.{Verb}
+use Rattle.workload.specs.declared.keyword.Verb.TheVariants as verbs
+use Rattle.workload.specs.declared.reason.Reason.TheVariants.{WrongKind}
+use Rattle.workload.specs.Plan.{word_of, has_call, has_among}
+use Rattle.workload.specs.NumberWords.{number_word, number_of, is_number_to, is_tries}
 use Rattle.workload.specs.CallWords.{map_verb, map_operands, atomic_verb, atomic_operands, mutex_verb, rw_mutex_verb, cond_verb, group_verb, group_operands, pool_verb, pool_operands, composed_verb, composed_operands, verb_of, operands_of}
-use Rattle.workload.specs.Draft.{operation_keys, is_operation, is_map_call, is_group_call, is_pool_call, is_composed_call, is_value, is_range_operation}
-use Rattle.workload.specs.Checks.{map_form, atomic_form, bits_form, mutex_form, rw_mutex_form, cond_form, group_form, pool_form, form_of, ranges_in}
+use Rattle.workload.specs.Draft.{Draft, operation_keys, tries_of, names_second, is_operation, is_map_call, is_group_call, is_pool_call, is_composed_call, is_value, is_range_operation}
+use Rattle.workload.specs.Checks.{map_form, atomic_form, bits_form, mutex_form, rw_mutex_form, cond_form, group_form, pool_form, form_of, first_failing, form_words, wait_for_words, call_form, ranges_in}
 use Rattle.workload.proofs.Passing.{both}
 use Rattle.workload.proofs.FirstFailing.{PassesWith}
 use Rattle.workload.proofs.Numbers.{is_number-decimal, number_of-decimal}
-use Rattle.workload.proofs.CallWords.{number_passes, amount_passes, passes_pass}
+use Rattle.workload.proofs.CallWords.{number_passes, amount_passes, passes_pass, tries_pass, tries_back}
+use Rattle.workload.proofs.Awaits.{Awaits, awaits, alone_second, no_second}
 
 pub value_passes : (n : ℕ) → nat_le n MAX_VALUE ≡ true → is_number_to MAX_VALUE (decimal n) ≡ true
 value_passes n le =
@@ -56,84 +63,127 @@ valued k v vs h =
     let values = both (is_value v) (list_all is_value vs) (both (list_all is_name (k ∷ [])) (list_all is_value (v ∷ vs)) h).1 in
     (value_passes v values.0, values.1)
 
-map_passes : (c : MapCall (List ℕ)) → is_map_call c ≡ true → PassesWith (map_form (map_verb c)) (map_operands c) (option_to_list (map_key c))
-map_passes (map_calls.Load k) h = (refl, rw (named k [] h) refl)
-map_passes (map_calls.Store k v) h = (refl, rw (named k (v ∷ []) h, (valued k v [] h).0) refl)
-map_passes (map_calls.LoadOrStore k v) h = (refl, rw (named k (v ∷ []) h, (valued k v [] h).0) refl)
-map_passes (map_calls.LoadAndDelete k) h = (refl, rw (named k [] h) refl)
-map_passes (map_calls.Delete k) h = (refl, rw (named k [] h) refl)
-map_passes (map_calls.Swap k v) h = (refl, rw (named k (v ∷ []) h, (valued k v [] h).0) refl)
-map_passes (map_calls.CompareAndSwap k v w) h =
+map_passes : (d : Draft) (c : MapCall (List ℕ)) → is_map_call c ≡ true → PassesWith d (map_form (map_verb c)) (map_operands c) (option_to_list (map_key c)) 0
+map_passes d (map_calls.Load k) h = (refl, refl, rw (named k [] h) refl)
+map_passes d (map_calls.Store k v) h = (refl, refl, rw (named k (v ∷ []) h, (valued k v [] h).0) refl)
+map_passes d (map_calls.LoadOrStore k v) h = (refl, refl, rw (named k (v ∷ []) h, (valued k v [] h).0) refl)
+map_passes d (map_calls.LoadAndDelete k) h = (refl, refl, rw (named k [] h) refl)
+map_passes d (map_calls.Delete k) h = (refl, refl, rw (named k [] h) refl)
+map_passes d (map_calls.Swap k v) h = (refl, refl, rw (named k (v ∷ []) h, (valued k v [] h).0) refl)
+map_passes d (map_calls.CompareAndSwap k v w) h =
     let first = valued k v (w ∷ []) h in
     let second = value_passes w (both (is_value w) true first.1).0 in
-    (refl, rw (named k (v ∷ w ∷ []) h, first.0, second) refl)
-map_passes (map_calls.CompareAndDelete k v) h = (refl, rw (named k (v ∷ []) h, (valued k v [] h).0) refl)
-map_passes map_calls.Clear h = (refl, refl)
+    (refl, refl, rw (named k (v ∷ w ∷ []) h, first.0, second) refl)
+map_passes d (map_calls.CompareAndDelete k v) h = (refl, refl, rw (named k (v ∷ []) h, (valued k v [] h).0) refl)
+map_passes d map_calls.Clear h = (refl, refl, refl)
 
-bits_pass : (k : AtomicKind) (v : Number) → (has_bits k && is_of k v) ≡ true → PassesWith (bits_form k) (number_word v ∷ []) []
-bits_pass types.Int32 v h = (refl, rw (number_passes types.Int32 v h) refl)
-bits_pass types.Int64 v h = (refl, rw (number_passes types.Int64 v h) refl)
-bits_pass types.Uint32 v h = (refl, rw (number_passes types.Uint32 v h) refl)
-bits_pass types.Uint64 v h = (refl, rw (number_passes types.Uint64 v h) refl)
-bits_pass types.Bool v h = absurd cc
+bits_pass : (d : Draft) (k : AtomicKind) (v : Number) → (has_bits k && is_of k v) ≡ true → PassesWith d (bits_form k) (number_word v ∷ []) [] 0
+bits_pass d types.Int32 v h = (refl, refl, rw (number_passes types.Int32 v h) refl)
+bits_pass d types.Int64 v h = (refl, refl, rw (number_passes types.Int64 v h) refl)
+bits_pass d types.Uint32 v h = (refl, refl, rw (number_passes types.Uint32 v h) refl)
+bits_pass d types.Uint64 v h = (refl, refl, rw (number_passes types.Uint64 v h) refl)
+bits_pass d types.Bool v h = absurd cc
 
-atomic_passes : (k : AtomicKind) (c : AtomicCall) → is_atomic_call k c ≡ true → PassesWith (atomic_form k (atomic_verb c)) (atomic_operands c) []
-atomic_passes k atomic_calls.Load h = (refl, refl)
-atomic_passes k (atomic_calls.Store v) h = (refl, rw (number_passes k v h) refl)
-atomic_passes k (atomic_calls.Swap v) h = (refl, rw (number_passes k v h) refl)
-atomic_passes k (atomic_calls.Add v) h = bits_pass k v h
-atomic_passes k (atomic_calls.And v) h = bits_pass k v h
-atomic_passes k (atomic_calls.Or v) h = bits_pass k v h
-atomic_passes k (atomic_calls.CompareAndSwap v w) h =
+atomic_passes : (d : Draft) (k : AtomicKind) (c : AtomicCall) → is_atomic_call k c ≡ true → PassesWith d (atomic_form k (atomic_verb c)) (atomic_operands c) [] 0
+atomic_passes d k atomic_calls.Load h = (refl, refl, refl)
+atomic_passes d k (atomic_calls.Store v) h = (refl, refl, rw (number_passes k v h) refl)
+atomic_passes d k (atomic_calls.Swap v) h = (refl, refl, rw (number_passes k v h) refl)
+atomic_passes d k (atomic_calls.Add v) h = bits_pass d k v h
+atomic_passes d k (atomic_calls.And v) h = bits_pass d k v h
+atomic_passes d k (atomic_calls.Or v) h = bits_pass d k v h
+atomic_passes d k (atomic_calls.CompareAndSwap v w) h =
     let numbers = both (is_of k v) (is_of k w) h in
-    (refl, rw (number_passes k v numbers.0, number_passes k w numbers.1) refl)
+    (refl, refl, rw (number_passes k v numbers.0, number_passes k w numbers.1) refl)
 
-mutex_passes : (c : MutexCall) → PassesWith (mutex_form (mutex_verb c)) [] []
-mutex_passes mutex_calls.Lock = (refl, refl)
-mutex_passes mutex_calls.Unlock = (refl, refl)
-mutex_passes mutex_calls.TryLock = (refl, refl)
+mutex_passes : (d : Draft) (c : MutexCall) → PassesWith d (mutex_form (mutex_verb c)) [] [] 0
+mutex_passes d mutex_calls.Lock = (refl, refl, refl)
+mutex_passes d mutex_calls.Unlock = (refl, refl, refl)
+mutex_passes d mutex_calls.TryLock = (refl, refl, refl)
 
-rw_mutex_passes : (c : RwMutexCall) → PassesWith (rw_mutex_form (rw_mutex_verb c)) [] []
-rw_mutex_passes rw_mutex_calls.Lock = (refl, refl)
-rw_mutex_passes rw_mutex_calls.Unlock = (refl, refl)
-rw_mutex_passes rw_mutex_calls.TryLock = (refl, refl)
-rw_mutex_passes rw_mutex_calls.RLock = (refl, refl)
-rw_mutex_passes rw_mutex_calls.RUnlock = (refl, refl)
-rw_mutex_passes rw_mutex_calls.TryRLock = (refl, refl)
+rw_mutex_passes : (d : Draft) (c : RwMutexCall) → PassesWith d (rw_mutex_form (rw_mutex_verb c)) [] [] 0
+rw_mutex_passes d rw_mutex_calls.Lock = (refl, refl, refl)
+rw_mutex_passes d rw_mutex_calls.Unlock = (refl, refl, refl)
+rw_mutex_passes d rw_mutex_calls.TryLock = (refl, refl, refl)
+rw_mutex_passes d rw_mutex_calls.RLock = (refl, refl, refl)
+rw_mutex_passes d rw_mutex_calls.RUnlock = (refl, refl, refl)
+rw_mutex_passes d rw_mutex_calls.TryRLock = (refl, refl, refl)
 
-cond_passes : (c : CondCall) → PassesWith (cond_form (cond_verb c)) [] []
-cond_passes cond_calls.Wait = (refl, refl)
-cond_passes cond_calls.Signal = (refl, refl)
-cond_passes cond_calls.Broadcast = (refl, refl)
+cond_passes : (d : Draft) (c : CondCall) → PassesWith d (cond_form (cond_verb c)) [] [] 0
+cond_passes d cond_calls.Wait = (refl, refl, refl)
+cond_passes d cond_calls.Signal = (refl, refl, refl)
+cond_passes d cond_calls.Broadcast = (refl, refl, refl)
 
-group_passes : (c : WaitGroupCall) → is_group_call c ≡ true → PassesWith (group_form (group_verb c)) (group_operands c) []
-group_passes (group_calls.Add z) h = (refl, rw (amount_passes z h) refl)
-group_passes group_calls.Done h = (refl, refl)
-group_passes group_calls.Wait h = (refl, refl)
+group_passes : (d : Draft) (c : WaitGroupCall) → is_group_call c ≡ true → PassesWith d (group_form (group_verb c)) (group_operands c) [] 0
+group_passes d (group_calls.Add z) h = (refl, refl, rw (amount_passes z h) refl)
+group_passes d group_calls.Done h = (refl, refl, refl)
+group_passes d group_calls.Wait h = (refl, refl, refl)
 
-pool_passes : (c : PoolCall) → is_pool_call c ≡ true → PassesWith (pool_form (pool_verb c)) (pool_operands c) []
-pool_passes (pool_calls.Put v) h = (refl, rw (value_passes v h) refl)
-pool_passes pool_calls.Get h = (refl, refl)
-pool_passes pool_calls.Sweep h = (refl, refl)
+pool_passes : (d : Draft) (c : PoolCall) → is_pool_call c ≡ true → PassesWith d (pool_form (pool_verb c)) (pool_operands c) [] 0
+pool_passes d (pool_calls.Put v) h = (refl, refl, rw (value_passes v h) refl)
+pool_passes d pool_calls.Get h = (refl, refl, refl)
+pool_passes d pool_calls.Sweep h = (refl, refl, refl)
 
-composed_passes : (k : AtomicKind) (c : ComposedCall) → has_call (kinds.Atomic k) (operations.Composed c) ≡ true → is_composed_call c ≡ true → PassesWith (atomic_form k (composed_verb c)) (composed_operands c) []
-composed_passes k (IfEqual v n) on h = (refl, rw (number_passes k v on, passes_pass n h) refl)
+composed_passes : (d : Draft) (k : AtomicKind) (c : ComposedCall) → has_call (kinds.Atomic k) (operations.Composed c) ≡ true → is_composed_call c ≡ true → PassesWith d (atomic_form k (composed_verb c)) (composed_operands c) [] 0
+composed_passes d k (IfEqual v n) on h = (refl, refl, rw (number_passes k v on, passes_pass n h) refl)
+composed_passes d k (WaitFor a v n) on h = absurd cc
 
--- an operation that the kind of its object has
-pub call_form : (kind : ObjectKind) (o : Operation) → has_call kind o ≡ true → is_operation o ≡ true → PassesWith (form_of (verb_of o) (word_of kind)) (operands_of o) (operation_keys o)
-call_form kinds.Map (operations.Map c) on h = map_passes c h
-call_form kinds.Map operations.Range on h = (refl, refl)
-call_form (kinds.Atomic k) (operations.Atomic c) on h = atomic_passes k c on
-call_form kinds.Mutex (operations.Mutex c) on h = mutex_passes c
-call_form kinds.RwMutex (operations.RwMutex c) on h = rw_mutex_passes c
-call_form (kinds.Cond m) (operations.Cond c) on h = cond_passes c
-call_form (kinds.WaitGroup n) (operations.WaitGroup c) on h = group_passes c h
-call_form (kinds.Once a z) operations.Once on h = (refl, refl)
-call_form (kinds.OnceFunc n) operations.OnceFunc on h = (refl, refl)
-call_form (kinds.OnceValue n) operations.OnceValue on h = (refl, refl)
-call_form kinds.Pool (operations.Pool c) on h = pool_passes c h
-call_form (kinds.Atomic k) (operations.Composed c) on h = composed_passes k c on h
-call_form kind c on h = absurd cc
+-- an operation that an object of the kind has alone
+alone_passes : (d : Draft) (kind : ObjectKind) (o : Operation) → has_call kind o ≡ true → is_operation o ≡ true → PassesWith d (form_of (verb_of o) (word_of kind)) (operands_of o) (operation_keys o) 0
+alone_passes d kinds.Map (operations.Map c) on h = map_passes d c h
+alone_passes d kinds.Map operations.Range on h = (refl, refl, refl)
+alone_passes d (kinds.Atomic k) (operations.Atomic c) on h = atomic_passes d k c on
+alone_passes d kinds.Mutex (operations.Mutex c) on h = mutex_passes d c
+alone_passes d kinds.RwMutex (operations.RwMutex c) on h = rw_mutex_passes d c
+alone_passes d (kinds.Cond m) (operations.Cond c) on h = cond_passes d c
+alone_passes d (kinds.WaitGroup n) (operations.WaitGroup c) on h = group_passes d c h
+alone_passes d (kinds.Once a z) operations.Once on h = (refl, refl, refl)
+alone_passes d (kinds.OnceFunc n) operations.OnceFunc on h = (refl, refl, refl)
+alone_passes d (kinds.OnceValue n) operations.OnceValue on h = (refl, refl, refl)
+alone_passes d kinds.Pool (operations.Pool c) on h = pool_passes d c h
+alone_passes d (kinds.Atomic k) (operations.Composed c) on h = composed_passes d k c on h
+alone_passes d kind c on h = absurd cc
+
+-- the form of a call hangs on the draft only where it is a `waitfor` of a cond
+pub plain_form : (d : Draft) (verb : Verb) (word : ObjectWord) (words : List (List ℕ)) → ((verb ≡ verbs.WaitFor) → (word ≡ object_words.Cond) → ⊥) → call_form d verb word words ≡ form_of verb word
+plain_form d verbs.WaitFor object_words.Cond words other = absurd (other refl refl)
+plain_form d verb word words other = refl
+
+-- objects that have one alone have no `waitfor`
+no_form : (word : ObjectWord) → form_of verbs.WaitFor word ≡ None
+no_form object_words.Map = refl
+no_form word = refl
+
+no_wait : (d : Draft) (kind : ObjectKind) (o : Operation) → has_call kind o ≡ true → is_operation o ≡ true → verb_of o ≡ verbs.WaitFor → ⊥
+no_wait d kind o on h verb =
+    let form : form_of (verb_of o) (word_of kind) ≡ None = ap (λ (v : Verb). form_of v (word_of kind)) verb ∙ no_form (word_of kind) in
+    let fails : first_failing (form_words d (form_of (verb_of o) (word_of kind)) (operands_of o)) ≡ Some WrongKind = ap (λ (f : Option (List Operand)). first_failing (form_words d f (operands_of o))) form in
+    let passes = sym (alone_passes d kind o on h).2 ∙ fails in
+    cc
+
+alone_call : (d : Draft) (kind : ObjectKind) (second : Option (List ℕ)) (o : Operation) → has_call kind o ≡ true → names_second d o second ≡ true → is_operation o ≡ true
+    → PassesWith d (call_form d (verb_of o) (word_of kind) (option_to_list second ++ operands_of o)) (option_to_list second ++ operands_of o) (operation_keys o) (tries_of o)
+alone_call d kind second o on named h =
+    let alone = alone_second kind o on in
+    let form = plain_form d (verb_of o) (word_of kind) (operands_of o) (λ v w. no_wait d kind o on h v) in
+    subst (λ (x : Option (List ℕ)). PassesWith d (call_form d (verb_of o) (word_of kind) (option_to_list x ++ operands_of o)) (option_to_list x ++ operands_of o) (operation_keys o) (tries_of o)) (sym (no_second d o second alone.0 named))
+    (subst (λ (f : Option (List Operand)). PassesWith d f (operands_of o) (operation_keys o) (tries_of o)) (sym form)
+    (subst (λ (n : ℕ). PassesWith d (form_of (verb_of o) (word_of kind)) (operands_of o) (operation_keys o) n) (sym alone.1) (alone_passes d kind o on h)))
+
+none_more : (n : ℕ) → n + 0 ≡ n
+none_more n = omega arith
+
+-- a `waitfor` of an atomic that may hold its value
+wait_passes : (d : Draft) (a : ℕ) (v : Number) (n : ℕ) (second : Option (List ℕ)) → Awaits d a v second → is_tries n ≡ true
+    → PassesWith d (Some (wait_for_words d (option_to_list second ++ number_word v ∷ decimal n ∷ []))) (option_to_list second ++ number_word v ∷ decimal n ∷ []) [] n
+wait_passes d a v n second w h =
+    subst (λ (x : Option (List ℕ)). PassesWith d (Some (wait_for_words d (option_to_list x ++ number_word v ∷ decimal n ∷ []))) (option_to_list x ++ number_word v ∷ decimal n ∷ []) [] n) (sym w.is)
+    (rw w.found (refl, none_more (number_of (decimal n)) ∙ tries_back n h, rw (w.named, number_passes w.kind v w.fits, tries_pass n h) refl))
+
+-- a call that its object has among the others passes the checks of the words behind the object's name
+pub call_passes : (d : Draft) (kind : ObjectKind) (second : Option (List ℕ)) (o : Operation) → has_among d.plan.objects kind o ≡ true → names_second d o second ≡ true → is_operation o ≡ true
+    → PassesWith d (call_form d (verb_of o) (word_of kind) (option_to_list second ++ operands_of o)) (option_to_list second ++ operands_of o) (operation_keys o) (tries_of o)
+call_passes d (kinds.Cond m) second (operations.Composed (WaitFor a v n)) on named h = wait_passes d a v n second (awaits d a v n second on named) h
+call_passes d kind second o on named h = alone_call d kind second o on named h
 
 -- the word of an operation says whether it is `range`
 pub ranges_of : (o : Operation) → count_by is_range_operation (o ∷ []) ≡ ranges_in (verb_of o)
@@ -197,3 +247,4 @@ ranges_of (operations.Pool c) = no_range c
     no_range pool_calls.Get = refl
     no_range pool_calls.Sweep = refl
 ranges_of (operations.Composed (IfEqual v n)) = refl
+ranges_of (operations.Composed (WaitFor a v n)) = refl

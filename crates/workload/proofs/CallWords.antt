@@ -21,15 +21,15 @@ use Rattle.sync_types.specs.declared.atomic_object.AtomicCall.{AtomicCall}
 use Rattle.sync_types.specs.declared.atomic_object.AtomicCall.TheVariants as atomic_calls
 use Rattle.sync_types.specs.SequentialAtomic.{has_bits, is_signed, is_of, is_atomic_call}
 use Rattle.script_calls.specs.declared.call.ComposedCall.{ComposedCall}
-use Rattle.script_calls.specs.declared.call.ComposedCall.TheVariants.{IfEqual}
+use Rattle.script_calls.specs.declared.call.ComposedCall.TheVariants.{IfEqual, WaitFor}
 use Rattle.workload.specs.declared.keyword.Verb.{Verb}
 use Rattle.workload.specs.declared.keyword.Verb.TheVariants as verbs
-use Rattle.workload.specs.declared.limits.TheConstants.{MAX_AMOUNT, MAX_PASSES}
+use Rattle.workload.specs.declared.limits.TheConstants.{MAX_AMOUNT, MAX_PASSES, MAX_TRIES}
 use Rattle.sync_types.specs.declared.value.TheConstants.{MAX_VALUE}
 use Rattle.script_calls.specs.declared.call.Operation.TheVariants as operations
 use Rattle.workload.specs.declared.object.ObjectWord.TheVariants as words
 use Rattle.workload.specs.Plan.{is_amount, has_operation}
-use Rattle.workload.specs.NumberWords.{is_amount_word, is_passes, is_passes_word, number_word, number_of, is_number, is_number_to, is_signed_word, is_number_between, is_number_word}
+use Rattle.workload.specs.NumberWords.{is_amount_word, is_passes, is_passes_word, is_tries, is_tries_word, number_word, number_of, is_number, is_number_to, is_signed_word, is_number_between, is_number_word}
 use Rattle.workload.specs.CallWords.{map_verb, map_operands, atomic_verb, atomic_operands, group_verb, group_operands, pool_verb, pool_operands, composed_verb, composed_operands}
 use Rattle.workload.specs.Draft.{is_map_call, is_group_call, is_pool_call, is_composed_call, is_value}
 use Rattle.workload.proofs.Passing.{both, pair}
@@ -304,6 +304,22 @@ passes_said word h =
     let most = leb-true (number_of word) MAX_PASSES (both (nat_lt 0 (number_of word)) (nat_le (number_of word) MAX_PASSES) parts.1).1 in
     (parts.1, decimal-number_of word parts.0 (omega arith))
 
+-- the same of a number of waits
+pub tries_pass : (n : ℕ) → is_tries n ≡ true → is_tries_word (decimal n) ≡ true
+tries_pass n h =
+    let most = leb-true n MAX_TRIES (both (nat_lt 0 n) (nat_le n MAX_TRIES) h).1 in
+    let small : n < 2 ^ 64 = omega arith in
+    rw (is_number-decimal n small, number_of-decimal n small) h
+
+pub tries_back : (n : ℕ) → is_tries n ≡ true → number_of (decimal n) ≡ n
+tries_back n h = number_of-decimal n (omega (arith, leb-true n MAX_TRIES (both (nat_lt 0 n) (nat_le n MAX_TRIES) h).1))
+
+pub tries_said : (word : List ℕ) → is_tries_word word ≡ true → (is_tries (number_of word) ≡ true) × (decimal (number_of word) ≡ word)
+tries_said word h =
+    let parts = both (is_number word) (is_tries (number_of word)) h in
+    let most = leb-true (number_of word) MAX_TRIES (both (nat_lt 0 (number_of word)) (nat_le (number_of word) MAX_TRIES) parts.1).1 in
+    (parts.1, decimal-number_of word parts.0 (omega arith))
+
 -- the call of this word with these operands, on an atomic of this type
 abbrev pub composed_call_at : AtomicKind → Verb → List (List ℕ) → Option ComposedCall
 composed_call_at kind verbs.IfEqual (v ∷ n ∷ []) = Some (IfEqual (number_read kind v) (number_of n))
@@ -313,3 +329,4 @@ pub composed_call_spelled : (kind : AtomicKind) (c : ComposedCall) → has_opera
 composed_call_spelled kind (IfEqual v n) on h =
     let most = leb-true n MAX_PASSES (both (nat_lt 0 n) (nat_le n MAX_PASSES) h).1 in
     ap (λ (x : Number). Some (IfEqual x (number_of (decimal n)))) (number_spelled kind v on) ∙ ap (λ (m : ℕ). Some (IfEqual v m)) (number_of-decimal n (omega arith))
+composed_call_spelled kind (WaitFor a v n) on h = absurd cc

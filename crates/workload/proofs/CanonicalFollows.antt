@@ -1,6 +1,6 @@
 -- The canonical lines of a readable workload follow one another.
 use Rattle.std.proofs.Common.{◌≡◌, ℕ, zero, suc, ◌+◌, ◌*◌, ◌≤◌, max, Bool, true, false, cond, eqb, ◌&&◌, ◌||◌, not, List, [], ◌∷◌, ◌++◌, map, length, get_or, set, take, drop, replicate, Option, Some, None, refl, sym, ap, subst, ◌∙◌, append_assoc, arith}
-use Rattle.std.specs.Prelude.{nat_lt, nat_le, is_some, slice_get, count_by}
+use Rattle.std.specs.Prelude.{nat_lt, nat_le, is_some, slice_get, count_by, sum_by}
 use Rattle.std.specs.List.{list_all, list_any, flat_map, onto_first}
 use Rattle.std.proofs.Math.Seq.{set-append_seam, get_or-append_seam}
 use Rattle.std.proofs.lemmas.Grind.{flat_map-append}
@@ -13,22 +13,27 @@ use Rattle.std.proofs.lemmas.List.Folds.{list_any-append, list_all-append}
 use Rattle.std.proofs.lemmas.Slice.Eq.{bytes_eq-Decides}
 use Rattle.sync_types.specs.Name.{is_name}
 use Rattle.script_calls.specs.declared.call.Call.{Call}
+use Rattle.script_calls.specs.declared.call.ComposedCall.TheVariants.{WaitFor}
+use Rattle.script_calls.specs.declared.call.Operation.{Operation}
+use Rattle.script_calls.specs.declared.call.Operation.TheVariants as operations
 use Rattle.sync_types.specs.declared.atomic_object.AtomicKind.TheVariants as types
-use Rattle.workload.specs.declared.limits.TheConstants.{MAX_CALLS, MAX_KEYS, MAX_RANGES, MAX_TURNS}
+use Rattle.workload.specs.declared.limits.TheConstants.{MAX_ALL_TRIES, MAX_CALLS, MAX_KEYS, MAX_RANGES, MAX_TURNS}
 use Rattle.workload.specs.declared.object.Declared.{Declared}
 use Rattle.workload.specs.declared.object.ObjectKind.{ObjectKind}
+use Rattle.workload.specs.declared.object.ObjectKind.TheVariants as kinds
 use Rattle.workload.specs.declared.object.ObjectWord.{ObjectWord}
 use Rattle.workload.specs.declared.object.ObjectWord.TheVariants as words
 use Rattle.workload.specs.declared.object.ObjectLine.{ObjectLine}
 use Rattle.workload.specs.declared.line.Line.TheVariants as lines
 use Rattle.workload.specs.declared.turn.Turn.{Turn}
-use Rattle.workload.specs.Plan.{Plan, word_of, reference_of, is_target, refers, has_call, is_on}
-use Rattle.workload.specs.Draft.{Draft, started, may_follow, declared_from, count_of, count_together, limit_of, is_kind, names_reference, names_object, is_call, is_item, keys_of, all_keys, distinct_count, key_count, call_count, is_range, range_count}
-use Rattle.workload.specs.Canonical.{name_of, reference_name, object_line, call_line, script_lines, eights, canonical_lines}
+use Rattle.workload.specs.Plan.{Plan, word_of, reference_of, is_target, refers, has_call, has_among, is_on}
+use Rattle.workload.specs.Draft.{Draft, started, may_follow, declared_from, count_of, count_together, limit_of, is_kind, names_reference, names_object, is_call, is_item, keys_of, all_keys, distinct_count, key_count, call_count, is_range, range_count, tries_of, try_count, names_second}
+use Rattle.workload.specs.Canonical.{name_of, reference_name, second_name, object_line, call_line, script_lines, eights, canonical_lines}
 use Rattle.workload.specs.Readable.{may_join, may_declare, IsReadable}
 use Rattle.workload.proofs.Passing.{both, pair, not_true}
 use Rattle.workload.proofs.KeyLemmas.{distinct_more, distinct_same}
 use Rattle.workload.proofs.DraftLemmas.{valid_parts, declare_more}
+use Rattle.workload.proofs.Awaits.{held, alone_second}
 use Rattle.workload.proofs.Eights.{eights_first}
 use Rattle.workload.proofs.FollowOn.{FollowOn, follow_append, follow_to}
 
@@ -312,16 +317,41 @@ ranges_fit done front rest c more =
     let one : Call → ℕ = λ call. cond (is_range call) 1 0 in
     omega (arith, ranges-middle done front more, ranges-middle done (front ++ (c ∷ rest)) more, sum_by-append one front (c ∷ rest), sum_by-append one (c ∷ []) rest)
 
+tries-middle : (done : List (List Call)) (script : List Call) (more : List (List Call)) → try_count (done ++ (script ∷ more)) ≡ try_count done + (sum_by (λ call. tries_of call.operation) script + try_count more)
+tries-middle done script more =
+    let tries : List Call → ℕ = λ calls. sum_by (λ call. tries_of call.operation) calls in
+    omega (arith, sum_by-append tries done (script ∷ more), sum_by-append tries (script ∷ []) more)
+
+-- one more call keeps the limit on waits where all calls do
+tries_fit : (done : List (List Call)) (front rest : List Call) (c : Call) (more : List (List Call)) → try_count (done ++ (front ∷ more)) + tries_of c.operation ≤ try_count (done ++ ((front ++ (c ∷ rest)) ∷ more))
+tries_fit done front rest c more =
+    let one : Call → ℕ = λ call. tries_of call.operation in
+    omega (arith, tries-middle done front more, tries-middle done (front ++ (c ∷ rest)) more, sum_by-append one front (c ∷ rest), sum_by-append one (c ∷ []) rest)
+
 -- a call on an object that is there is named by its name
-call_named : (objects : List ObjectLine) (c : Call) → may_declare [] objects ≡ true → is_on (slice_get objects c.object) c ≡ true
-    → (is_name (name_of (slice_get objects c.object)) ≡ true) × (names_object (declared_from 0 (name_of (slice_get objects c.object)) objects) c ≡ true)
+call_named : (objects : List ObjectLine) (c : Call) → may_declare [] objects ≡ true → is_on objects (slice_get objects c.object) c ≡ true
+    → (is_name (name_of (slice_get objects c.object)) ≡ true) × (names_object objects (declared_from 0 (name_of (slice_get objects c.object)) objects) c ≡ true) × (kind : ObjectKind) × (has_among objects kind c.operation ≡ true)
 call_named objects c new on =
-    elim (slice_get objects c.object) as (λ o. slice_get objects c.object ≡ o → is_on o c ≡ true → (is_name (name_of o) ≡ true) × (names_object (declared_from 0 (name_of o) objects) c ≡ true)) [
+    elim (slice_get objects c.object) as (λ o. slice_get objects c.object ≡ o → is_on objects o c ≡ true → (is_name (name_of o) ≡ true) × (names_object objects (declared_from 0 (name_of o) objects) c ≡ true) × (kind : ObjectKind) × (has_among objects kind c.operation ≡ true)) [
       | None ↦ λ at h. absurd cc
       | Some o ↦ λ at h.
           let found = found_in objects [] c.object o new at in
-          (found.0, rw found.1 (pair (eqb (0 + c.object) c.object) (has_call o.kind c.operation) (eq-eqb (0 + c.object) c.object (omega arith)) h))
+          (found.0, rw found.1 (pair (eqb (0 + c.object) c.object) (has_among objects o.kind c.operation) (eq-eqb (0 + c.object) c.object (omega arith)) h), o.kind, h)
     ] refl on
+
+-- and so is the second one
+second_named : (d : Draft) (kind : ObjectKind) (o : Operation) → may_declare [] d.plan.objects ≡ true → has_among d.plan.objects kind o ≡ true → names_second d o (second_name d.plan.objects o) ≡ true
+second_named d (kinds.Cond m) (operations.Composed (WaitFor a v n)) new on =
+    let atomic = held d.plan.objects a v on in
+    let found = found_in d.plan.objects [] a atomic.0 new atomic.1 in
+    rw (atomic.1, found.0, found.1) (eq-eqb (0 + a) a (omega arith))
+second_named d kind o new on = no_name d kind o on
+  where
+    no_name : (d : Draft) (kind : ObjectKind) (o : Operation) → has_call kind o ≡ true → names_second d o (second_name d.plan.objects o) ≡ true
+    no_name d kind o on =
+        let none = (alone_second kind o on).0 in
+        let name : second_name d.plan.objects o ≡ None = ap (λ (r : Option ℕ). option_map (λ place. name_of (slice_get d.plan.objects place)) r) none in
+        subst (λ (x : Option (List ℕ)). names_second d o x ≡ true) (sym name) (rw none refl)
 
 -- a draft by its parts
 abbrev at : ℕ → List ObjectLine → List Turn → List (List Call) → Option ℕ → Draft
@@ -329,18 +359,19 @@ at workers objects schedule scripts worker = record { plan = record { workers = 
 
 -- what the calls of a script need
 record CallsFit (objects : List ObjectLine) (done : List (List Call)) (front rest : List Call) (more : List (List Call)) : Type 0 where
-  on : list_all (λ call. is_on (slice_get objects call.object) call) rest ≡ true
+  on : list_all (λ call. is_on objects (slice_get objects call.object) call) rest ≡ true
   fits : list_all is_call rest ≡ true
   room : call_count (done ++ ((front ++ rest) ∷ more)) ≤ MAX_CALLS
   keys : distinct_count (all_keys (done ++ ((front ++ rest) ∷ more))) ≤ MAX_KEYS
   ranges : range_count (done ++ ((front ++ rest) ∷ more)) ≤ MAX_RANGES
+  tries : try_count (done ++ ((front ++ rest) ∷ more)) ≤ MAX_ALL_TRIES
 
 calls_follow : (workers : ℕ) (objects : List ObjectLine) (schedule : List Turn) (done : List (List Call)) (rest front : List Call) (more : List (List Call)) → may_declare [] objects ≡ true → CallsFit objects done front rest more
     → FollowOn (at workers objects schedule (done ++ (front ∷ more)) (Some (length done))) (map (call_line objects) rest) (at workers objects schedule (done ++ ((front ++ rest) ∷ more)) (Some (length done)))
 calls_follow workers objects schedule done [] front more new fit = ap (λ (f : List Call). at workers objects schedule (done ++ (f ∷ more)) (Some (length done))) (append-nil front)
 calls_follow workers objects schedule done (c ∷ rest) front more new fit =
     let d = at workers objects schedule (done ++ (front ∷ more)) (Some (length done)) in
-    let test : Call → Bool = λ call. is_on (slice_get objects call.object) call in
+    let test : Call → Bool = λ call. is_on objects (slice_get objects call.object) call in
     let on = both (test c) (list_all test rest) fit.on in
     let fits = both (is_call c) (list_all is_call rest) fit.fits in
     let named = call_named objects c new on.0 in
@@ -350,7 +381,10 @@ calls_follow workers objects schedule done (c ∷ rest) front more new fit =
     le-leb (key_count (done ++ (front ∷ more)) (keys_of c)) MAX_KEYS (omega (arith, fit.keys, keys_fit done front rest c more)) in
     let ranges : nat_le (range_count (done ++ (front ∷ more)) + count_by is_range (c ∷ [])) MAX_RANGES ≡ true =
     le-leb (range_count (done ++ (front ∷ more)) + count_by is_range (c ∷ [])) MAX_RANGES (omega (arith, fit.ranges, ranges_fit done front rest c more)) in
-    let follows : may_follow d (call_line objects c) ≡ true = rw (named.0, named.1, fits.0, room, keys, ranges) refl in
+    let tries : nat_le (try_count (done ++ (front ∷ more)) + tries_of c.operation) MAX_ALL_TRIES ≡ true =
+    le-leb (try_count (done ++ (front ∷ more)) + tries_of c.operation) MAX_ALL_TRIES (omega (arith, fit.tries, tries_fit done front rest c more)) in
+    let second = second_named d named.2 c.operation new named.3 in
+    let follows : may_follow d (call_line objects c) ≡ true = rw (named.0, named.1, second, fits.0, room, keys, ranges, tries) refl in
     let moved : front ++ (c ∷ rest) ≡ (front ++ c ∷ []) ++ rest = sym (append_assoc front (c ∷ []) rest) in
     let put : set (done ++ (front ∷ more)) (length done) (get_or (done ++ (front ∷ more)) (length done) [] ++ c ∷ []) ≡ done ++ ((front ++ c ∷ []) ∷ more) =
     ap (λ (f : List Call). set (done ++ (front ∷ more)) (length done) (f ++ c ∷ [])) (get_or-append_seam done front more []) ∙ set-append_seam done front more (front ++ c ∷ []) in
@@ -361,6 +395,7 @@ calls_follow workers objects schedule done (c ∷ rest) front more new fit =
       room = subst (λ (f : List Call). call_count (done ++ (f ∷ more)) ≤ MAX_CALLS) moved fit.room;
       keys = subst (λ (f : List Call). distinct_count (all_keys (done ++ (f ∷ more))) ≤ MAX_KEYS) moved fit.keys;
       ranges = subst (λ (f : List Call). range_count (done ++ (f ∷ more)) ≤ MAX_RANGES) moved fit.ranges;
+      tries = subst (λ (f : List Call). try_count (done ++ (f ∷ more)) ≤ MAX_ALL_TRIES) moved fit.tries;
     }) in (
       follows,
       tt,
@@ -376,23 +411,28 @@ empty_ranges : (n : ℕ) → range_count (replicate n []) ≡ 0
 empty_ranges zero = refl
 empty_ranges (suc n) = empty_ranges n
 
+empty_tries : (n : ℕ) → try_count (replicate n []) ≡ 0
+empty_tries zero = refl
+empty_tries (suc n) = empty_tries n
+
 empty_calls : (n : ℕ) → call_count (replicate n []) ≡ 0
 empty_calls zero = refl
 empty_calls (suc n) = empty_calls n
 
 -- what the scripts need
 record ScriptsFit (objects : List ObjectLine) (done rest : List (List Call)) : Type 0 where
-  on : list_all (list_all (λ call. is_on (slice_get objects call.object) call)) rest ≡ true
+  on : list_all (list_all (λ call. is_on objects (slice_get objects call.object) call)) rest ≡ true
   fits : list_all (list_all is_call) rest ≡ true
   room : call_count (done ++ rest) ≤ MAX_CALLS
   keys : distinct_count (all_keys (done ++ rest)) ≤ MAX_KEYS
   ranges : range_count (done ++ rest) ≤ MAX_RANGES
+  tries : try_count (done ++ rest) ≤ MAX_ALL_TRIES
 
 scripts_follow : (workers : ℕ) (objects : List ObjectLine) (schedule : List Turn) (rest done : List (List Call)) (worker : Option ℕ) → may_declare [] objects ≡ true → length done + length rest ≡ workers → ScriptsFit objects done rest
     → (last : Option ℕ) × FollowOn (at workers objects schedule (done ++ replicate (length rest) []) worker) (script_lines objects (length done) rest) (at workers objects schedule (done ++ rest) last)
 scripts_follow workers objects schedule [] done worker new count fit = (worker, refl)
 scripts_follow workers objects schedule (s ∷ rest) done worker new count fit =
-    let test : Call → Bool = λ call. is_on (slice_get objects call.object) call in
+    let test : Call → Bool = λ call. is_on objects (slice_get objects call.object) call in
     let on = both (list_all test s) (list_all (list_all test) rest) fit.on in
     let fits = both (list_all is_call s) (list_all (list_all is_call) rest) fit.fits in
     let more = replicate (length rest) [] in
@@ -407,7 +447,8 @@ scripts_follow workers objects schedule (s ∷ rest) done worker new count fit =
       distinct_front (all_keys done ++ flat_map keys_of s) (all_keys rest),
     ) in
     let some_ranges : range_count (done ++ (s ∷ more)) ≤ MAX_RANGES = omega (arith, fit.ranges, ranges-middle done s more, ranges-middle done s rest, empty_ranges (length rest)) in
-    let calls = calls_follow workers objects schedule done s [] more new (record { on = on.0; fits = fits.0; room = room; keys = some_keys; ranges = some_ranges }) in
+    let some_tries : try_count (done ++ (s ∷ more)) ≤ MAX_ALL_TRIES = omega (arith, fit.tries, tries-middle done s more, tries-middle done s rest, empty_tries (length rest)) in
+    let calls = calls_follow workers objects schedule done s [] more new (record { on = on.0; fits = fits.0; room = room; keys = some_keys; ranges = some_ranges; tries = some_tries }) in
     let inside : nat_lt (length done) workers ≡ true = lt-ltb (length done) workers (omega arith) in
     let behind = scripts_follow workers objects schedule rest (done ++ s ∷ []) (Some (length done)) new (omega (arith, length-append done (s ∷ []))) (record {
       on = on.1;
@@ -415,6 +456,7 @@ scripts_follow workers objects schedule (s ∷ rest) done worker new count fit =
       room = subst (λ (x : List (List Call)). call_count x ≤ MAX_CALLS) moved fit.room;
       keys = subst (λ (x : List (List Call)). distinct_count (all_keys x) ≤ MAX_KEYS) moved fit.keys;
       ranges = subst (λ (x : List (List Call)). range_count x ≤ MAX_RANGES) moved fit.ranges;
+      tries = subst (λ (x : List (List Call)). try_count x ≤ MAX_ALL_TRIES) moved fit.tries;
     }) in
     let here : FollowOn (at workers objects schedule (done ++ ([] ∷ more)) worker) (lines.Worker (length done) ∷ map (call_line objects) s) (at workers objects schedule ((done ++ s ∷ []) ++ more) (Some (length done))) =
     (inside, tt, follow_to (map (call_line objects) s) _ _ _ (ap (λ (x : List (List Call)). at workers objects schedule x (Some (length done))) (sym (append_assoc done (s ∷ []) more))) calls) in
@@ -469,7 +511,7 @@ pub canonical_follows : (plan : Plan) → IsReadable plan → (e : Draft) × Fol
 canonical_follows plan h =
     let v = valid_parts plan h.valid in
     let first = objects_follow plan.objects plan.objects (started plan.workers) refl refl h.objects in
-    let second = scripts_follow plan.workers plan.objects [] plan.scripts [] None h.objects (omega (arith, v.scripts)) (record { on = v.calls; fits = h.calls; room = h.call_room; keys = h.key_room; ranges = h.range_room }) in
+    let second = scripts_follow plan.workers plan.objects [] plan.scripts [] None h.objects (omega (arith, v.scripts)) (record { on = v.calls; fits = h.calls; room = h.call_room; keys = h.key_room; ranges = h.range_room; tries = h.try_room }) in
     let third = schedule_follows (length plan.schedule) plan.workers plan.objects plan.scripts second.0 plan.schedule [] (omega arith) h.items (omega (arith, h.turn_room)) in
     let start : at plan.workers plan.objects [] (replicate plan.workers []) None ≡ at plan.workers plan.objects [] (replicate (length plan.scripts) []) None = ap (λ (n : ℕ). at plan.workers plan.objects [] (replicate n []) None) (sym v.scripts) in
     let objects = map (object_line plan.objects) plan.objects in

@@ -1,6 +1,6 @@
 -- A draft with one more line keeps its tables.
 use Rattle.std.proofs.Common.{◌≡◌, ℕ, zero, suc, ◌+◌, ◌-◌, ◌<◌, ◌≤◌, Bool, true, false, cond, eqb, ◌&&◌, List, [], ◌∷◌, ◌++◌, length, get_or, set, replicate, Option, Some, None, refl, sym, ap, subst, ◌∙◌, append_assoc, arith}
-use Rattle.std.specs.Prelude.{is_some, slice_get, count_by}
+use Rattle.std.specs.Prelude.{is_some, slice_get, count_by, sum_by}
 use Rattle.std.specs.Option.{option_or, option_map_or}
 use Rattle.std.specs.List.{list_all}
 use Rattle.std.specs.Str.{bytes_eq}
@@ -9,20 +9,24 @@ use Rattle.std.specs.Cmp.Lexicographic.{slice_cmp, nat_list_cmp_total}
 use Rattle.std.specs.FinMap.{FinMap, get, insert, empty, from_entries, get-empty, get-insert}
 use Rattle.std.proofs.lemmas.Bool.{eqb-true, eq-eqb, ltb-true, leb-true}
 use Rattle.std.proofs.lemmas.List.Folds.{list_any-append}
-use Rattle.workload.specs.declared.limits.TheConstants.{MAX_CALLS, MAX_KEYS, MAX_RANGES, MAX_TURNS, MAX_WORKERS}
+use Rattle.workload.specs.declared.limits.TheConstants.{MAX_ALL_TRIES, MAX_CALLS, MAX_KEYS, MAX_RANGES, MAX_TURNS, MAX_WORKERS}
 use Rattle.std.proofs.lemmas.Slice.Eq.{bytes_eq-Decides}
 use Rattle.std.proofs.lemmas.Map.Text.{is_eq-slice_cmp}
 use Rattle.std.proofs.lemmas.List.{length-set, length-append, length-replicate, append-nil}
 use Rattle.std.proofs.lemmas.List.Sums.{sum_by-set, sum_by-append}
 use Rattle.script_calls.specs.declared.call.Call.{Call}
+use Rattle.script_calls.specs.declared.call.ComposedCall.TheVariants.{WaitFor}
+use Rattle.script_calls.specs.declared.call.Operation.{Operation}
+use Rattle.script_calls.specs.declared.call.Operation.TheVariants as operations
 use Rattle.workload.specs.declared.object.ObjectLine.{ObjectLine}
 use Rattle.workload.specs.declared.object.Declared.{Declared}
 use Rattle.workload.specs.declared.line.Line.TheVariants as lines
 use Rattle.workload.specs.declared.turn.Turn.{Turn}
 use Rattle.workload.specs.declared.turn.Turn.TheVariants as turns
 use Rattle.workload.specs.declared.object.ObjectKind.{ObjectKind}
-use Rattle.workload.specs.Plan.{Plan, reference_of, is_target, refers, has_call, is_on, is_turn, is_valid}
-use Rattle.workload.specs.Draft.{Draft, names_reference, declared_from, names_object, is_call, is_item, may_follow, call_count, key_count, keys_of, all_keys, distinct_count, is_range, range_count}
+use Rattle.workload.specs.declared.object.ObjectKind.TheVariants as kinds
+use Rattle.workload.specs.Plan.{Plan, reference_of, is_target, refers, may_hold, has_among, is_on, is_turn, is_valid}
+use Rattle.workload.specs.Draft.{Draft, names_reference, declared_from, names_object, is_call, is_item, may_follow, call_count, key_count, keys_of, all_keys, distinct_count, is_range, range_count, tries_of, try_count}
 use Rattle.workload.specs.Readable.{may_join, may_declare}
 use Rattle.workload.specs.Index.{IsIndexed, with_keys, marks}
 use Rattle.workload.proofs.Passing.{both, pair, all_mono, all_set, all_append, all_at}
@@ -88,33 +92,44 @@ refers_more os o kind h = at (reference_of kind) h
     at (Some place) h = there os place h
 
 -- a call whose name is that of its object is on it
-pub names_is_on : (name : List ℕ) (os : List ObjectLine) (call : Call) → names_object (declared_from 0 name os) call ≡ true → is_on (slice_get os call.object) call ≡ true
+pub names_is_on : (name : List ℕ) (os : List ObjectLine) (call : Call) → names_object os (declared_from 0 name os) call ≡ true → is_on os (slice_get os call.object) call ≡ true
 names_is_on name os call e =
-    elim (declared_from 0 name os) as (λ o. declared_from 0 name os ≡ o → names_object o call ≡ true → is_on (slice_get os call.object) call ≡ true) [
+    elim (declared_from 0 name os) as (λ o. declared_from 0 name os ≡ o → names_object os o call ≡ true → is_on os (slice_get os call.object) call ≡ true) [
       | None ↦ λ is h. absurd cc
       | Some d ↦ λ is h.
-          let parts = both (eqb d.place call.object) (has_call d.kind call.operation) h in
+          let parts = both (eqb d.place call.object) (has_among os d.kind call.operation) h in
           let at = found_at 0 name os d is in
           let place : d.place - 0 ≡ call.object = omega (arith, eqb-true d.place call.object parts.0) in
           let there : slice_get os call.object ≡ Some at.0 = ap (slice_get os) (sym place) ∙ at.2 in
           rw there (rw at.3 parts.1)
     ] refl e
 
-get_more : (os : List ObjectLine) (o : ObjectLine) (k : ℕ) (call : Call) → is_on (slice_get os k) call ≡ true → is_on (slice_get (os ++ o ∷ []) k) call ≡ true
-get_more [] o k call e = absurd cc
-get_more (p ∷ os) o zero call e = e
-get_more (p ∷ os) o (suc k) call e = get_more os o k call e
+-- an object that has an operation among some has it among more
+has_more : (os : List ObjectLine) (o : ObjectLine) (kind : ObjectKind) (operation : Operation) → has_among os kind operation ≡ true → has_among (os ++ o ∷ []) kind operation ≡ true
+has_more os o (kinds.Cond m) (operations.Composed (WaitFor a v n)) h = there os a h
+  where
+    there : (os : List ObjectLine) (place : ℕ) → option_map_or (λ object. may_hold v object.kind) (slice_get os place) false ≡ true → option_map_or (λ object. may_hold v object.kind) (slice_get (os ++ o ∷ []) place) false ≡ true
+    there [] place h = absurd cc
+    there (p ∷ os) zero h = h
+    there (p ∷ os) (suc place) h = there os place h
+has_more os o kind operation h = h
+
+-- and stays on its object
+on_more : (all os : List ObjectLine) (o : ObjectLine) (k : ℕ) (call : Call) → is_on all (slice_get os k) call ≡ true → is_on (all ++ o ∷ []) (slice_get (os ++ o ∷ []) k) call ≡ true
+on_more all [] o k call e = absurd cc
+on_more all (p ∷ os) o zero call e = has_more all o p.kind call.operation e
+on_more all (p ∷ os) o (suc k) call e = on_more all os o k call e
 
 -- the parts of a plan that is valid
 pub record IsValid (plan : Plan) : Type 0 where
   pub scripts : length plan.scripts ≡ plan.workers
-  pub calls : list_all (list_all (λ call. is_on (slice_get plan.objects call.object) call)) plan.scripts ≡ true
+  pub calls : list_all (list_all (λ call. is_on plan.objects (slice_get plan.objects call.object) call)) plan.scripts ≡ true
   pub turns : list_all (is_turn plan.workers) plan.schedule ≡ true
   pub references : list_all (λ object. refers plan.objects object.kind) plan.objects ≡ true
 
 pub valid_parts : (plan : Plan) → is_valid plan ≡ true → IsValid plan
 valid_parts plan e =
-    let calls = list_all (list_all (λ call. is_on (slice_get plan.objects call.object) call)) plan.scripts in
+    let calls = list_all (list_all (λ call. is_on plan.objects (slice_get plan.objects call.object) call)) plan.scripts in
     let turns = list_all (is_turn plan.workers) plan.schedule in
     let references = list_all (λ object. refers plan.objects object.kind) plan.objects in
     let first = both (eqb (length plan.scripts) plan.workers) (calls && (turns && references)) e in
@@ -125,7 +140,7 @@ valid_parts plan e =
 pub valid_from : (plan : Plan) → IsValid plan → is_valid plan ≡ true
 valid_from plan v =
     pair (eqb (length plan.scripts) plan.workers) _ (eq-eqb (length plan.scripts) plan.workers v.scripts)
-    (pair (list_all (list_all (λ call. is_on (slice_get plan.objects call.object) call)) plan.scripts) _ v.calls
+    (pair (list_all (list_all (λ call. is_on plan.objects (slice_get plan.objects call.object) call)) plan.scripts) _ v.calls
     (pair (list_all (is_turn plan.workers) plan.schedule) (list_all (λ object. refers plan.objects object.kind) plan.objects) v.turns v.references))
 
 no_name : (q name : List ℕ) (os : List ObjectLine) → is_some (declared_from 0 name os) ≡ false → bytes_eq q name ≡ true → declared_from 0 q os ≡ None
@@ -161,10 +176,10 @@ object_joins d o to follows =
     rw (h.name, h.new, names_refers d o.kind to h.reference, h.kind, h.room) refl
 
 -- one more object keeps the tables
-pub indexed_object : (plan : Plan) (worker : Option ℕ) (table : FinMap (slice_cmp nat_cmp) Declared) (seen : FinMap (slice_cmp nat_cmp) (Unit {0})) (number many : ℕ) (o : ObjectLine) (to : Option (List ℕ))
-    → IsIndexed plan worker table seen number many → may_follow (record { plan = plan; current = worker }) (lines.Object o to) ≡ true
-    → IsIndexed (record plan { objects = plan.objects ++ o ∷ [] }) worker (insert table o.name (record { place = length plan.objects; kind = o.kind })) seen number many
-indexed_object plan worker table seen number many o to h follows =
+pub indexed_object : (plan : Plan) (worker : Option ℕ) (table : FinMap (slice_cmp nat_cmp) Declared) (seen : FinMap (slice_cmp nat_cmp) (Unit {0})) (number many waits : ℕ) (o : ObjectLine) (to : Option (List ℕ))
+    → IsIndexed plan worker table seen number many waits → may_follow (record { plan = plan; current = worker }) (lines.Object o to) ≡ true
+    → IsIndexed (record plan { objects = plan.objects ++ o ∷ [] }) worker (insert table o.name (record { place = length plan.objects; kind = o.kind })) seen number many waits
+indexed_object plan worker table seen number many waits o to h follows =
     let r = h.readable in
     let v = valid_parts plan r.valid in
     let d : Draft = record { plan = plan; current = worker } in
@@ -174,8 +189,8 @@ indexed_object plan worker table seen number many o to h follows =
       readable = record {
         valid = valid_from (record plan { objects = plan.objects ++ o ∷ [] }) (record {
           scripts = v.scripts;
-          calls = all_mono (list_all (λ call. is_on (slice_get plan.objects call.object) call)) (list_all (λ call. is_on (slice_get (plan.objects ++ o ∷ []) call.object) call))
-              (λ script. all_mono _ _ (λ call. get_more plan.objects o call.object call) script) plan.scripts v.calls;
+          calls = all_mono (list_all (λ call. is_on plan.objects (slice_get plan.objects call.object) call)) (list_all (λ call. is_on (plan.objects ++ o ∷ []) (slice_get (plan.objects ++ o ∷ []) call.object) call))
+              (λ script. all_mono _ _ (λ call. on_more plan.objects plan.objects o call.object call) script) plan.scripts v.calls;
           turns = v.turns;
           references = all_append all plan.objects (o ∷ [])
               (all_mono (λ x. refers plan.objects x.kind) all (λ x. refers_more plan.objects o x.kind) plan.objects v.references)
@@ -188,6 +203,7 @@ indexed_object plan worker table seen number many o to h follows =
         call_room = r.call_room;
         key_room = r.key_room;
         range_room = r.range_room;
+        try_room = r.try_room;
         items = r.items;
         turn_room = r.turn_room;
       };
@@ -196,6 +212,7 @@ indexed_object plan worker table seen number many o to h follows =
       keys = h.keys;
       calls = h.calls;
       ranges = h.ranges;
+      tries = h.tries;
     }
 
 item_is_turn : (workers : ℕ) (turn : Turn) → is_item workers turn ≡ true → is_turn workers turn ≡ true
@@ -203,10 +220,10 @@ item_is_turn workers (turns.Worker worker) e = e
 item_is_turn workers (turns.Moment moment) e = refl
 
 -- more turns keep the tables
-pub indexed_turns : (plan : Plan) (worker : Option ℕ) (table : FinMap (slice_cmp nat_cmp) Declared) (seen : FinMap (slice_cmp nat_cmp) (Unit {0})) (number many : ℕ) (more : List Turn)
-    → IsIndexed plan worker table seen number many → may_follow (record { plan = plan; current = worker }) (lines.Schedule more) ≡ true
-    → IsIndexed (record plan { schedule = plan.schedule ++ more }) worker table seen number many
-indexed_turns plan worker table seen number many more h follows =
+pub indexed_turns : (plan : Plan) (worker : Option ℕ) (table : FinMap (slice_cmp nat_cmp) Declared) (seen : FinMap (slice_cmp nat_cmp) (Unit {0})) (number many waits : ℕ) (more : List Turn)
+    → IsIndexed plan worker table seen number many waits → may_follow (record { plan = plan; current = worker }) (lines.Schedule more) ≡ true
+    → IsIndexed (record plan { schedule = plan.schedule ++ more }) worker table seen number many waits
+indexed_turns plan worker table seen number many waits more h follows =
     let r = h.readable in
     let v = valid_parts plan r.valid in
     let items = (schedule_follows (record { plan = plan; current = worker }) more follows).items in
@@ -225,6 +242,7 @@ indexed_turns plan worker table seen number many more h follows =
         call_room = r.call_room;
         key_room = r.key_room;
         range_room = r.range_room;
+        try_room = r.try_room;
         items = all_append (is_item plan.workers) plan.schedule more r.items items;
         turn_room = omega (arith, length-append plan.schedule more, leb-true (length plan.schedule + length more) MAX_TURNS (schedule_follows (record { plan = plan; current = worker }) more follows).room);
       };
@@ -233,24 +251,28 @@ indexed_turns plan worker table seen number many more h follows =
       keys = h.keys;
       calls = h.calls;
       ranges = h.ranges;
+      tries = h.tries;
     }
 
 -- one more call keeps the tables
-pub indexed_call : (plan : Plan) (worker : ℕ) (table : FinMap (slice_cmp nat_cmp) Declared) (seen : FinMap (slice_cmp nat_cmp) (Unit {0})) (number many : ℕ) (name : List ℕ) (call : Call)
-    → IsIndexed plan (Some worker) table seen number many → may_follow (record { plan = plan; current = Some worker }) (lines.Call name call) ≡ true
-    → IsIndexed (record plan { scripts = set plan.scripts worker (get_or plan.scripts worker [] ++ call ∷ []) }) (Some worker) table (with_keys seen (keys_of call)) (number + 1) (many + count_by is_range (call ∷ []))
-indexed_call plan worker table seen number many name call h follows =
+pub indexed_call : (plan : Plan) (worker : ℕ) (table : FinMap (slice_cmp nat_cmp) Declared) (seen : FinMap (slice_cmp nat_cmp) (Unit {0})) (number many waits : ℕ) (name : List ℕ) (second : Option (List ℕ)) (call : Call)
+    → IsIndexed plan (Some worker) table seen number many waits → may_follow (record { plan = plan; current = Some worker }) (lines.Call name second call) ≡ true
+    → IsIndexed (record plan { scripts = set plan.scripts worker (get_or plan.scripts worker [] ++ call ∷ []) }) (Some worker) table (with_keys seen (keys_of call)) (number + 1) (many + count_by is_range (call ∷ [])) (waits + tries_of call.operation)
+indexed_call plan worker table seen number many waits name second call h follows =
     let r = h.readable in
     let v = valid_parts plan r.valid in
-    let parts = call_follows (record { plan = plan; current = Some worker }) name call follows in
-    let on : is_on (slice_get plan.objects call.object) call ≡ true = names_is_on name plan.objects call parts.on in
+    let parts = call_follows (record { plan = plan; current = Some worker }) name second call follows in
+    let on : is_on plan.objects (slice_get plan.objects call.object) call ≡ true = names_is_on name plan.objects call parts.on in
     let here : worker < length plan.scripts = omega (arith, ltb-true worker plan.workers h.current, v.scripts) in
     let script = get_or plan.scripts worker [] in
-    let test : Call → Bool = λ c. is_on (slice_get plan.objects c.object) c in
+    let test : Call → Bool = λ c. is_on plan.objects (slice_get plan.objects c.object) c in
     let grown : call_count (set plan.scripts worker (script ++ call ∷ [])) ≡ call_count plan.scripts + 1 = omega (arith, sum_by-set length plan.scripts worker (script ++ call ∷ []) [] here, length-append script (call ∷ [])) in
     let ranges : List Call → ℕ = λ calls. count_by is_range calls in
     let more : range_count (set plan.scripts worker (script ++ call ∷ [])) ≡ range_count plan.scripts + count_by is_range (call ∷ []) =
     omega (arith, sum_by-set ranges plan.scripts worker (script ++ call ∷ []) [] here, sum_by-append (λ (c : Call). cond (is_range c) 1 0) script (call ∷ [])) in
+    let tries : Call → ℕ = λ c. tries_of c.operation in
+    let longer : try_count (set plan.scripts worker (script ++ call ∷ [])) ≡ try_count plan.scripts + tries_of call.operation =
+    omega (arith, sum_by-set (sum_by tries) plan.scripts worker (script ++ call ∷ []) [] here, sum_by-append tries script (call ∷ [])) in
     record {
       readable = record {
         valid = valid_from (record plan { scripts = set plan.scripts worker (script ++ call ∷ []) }) (record {
@@ -270,6 +292,7 @@ indexed_call plan worker table seen number many name call h follows =
           leb-true (key_count plan.scripts (keys_of call)) MAX_KEYS parts.keys,
         );
         range_room = omega (arith, more, leb-true (range_count plan.scripts + count_by is_range (call ∷ [])) MAX_RANGES parts.ranges);
+        try_room = omega (arith, longer, leb-true (try_count plan.scripts + tries_of call.operation) MAX_ALL_TRIES parts.tries);
         items = r.items;
         turn_room = r.turn_room;
       };
@@ -278,6 +301,7 @@ indexed_call plan worker table seen number many name call h follows =
       keys = keys_with_call seen plan.scripts worker call here h.keys;
       calls = omega (arith, h.calls, grown);
       ranges = omega (arith, h.ranges, more);
+      tries = omega (arith, h.tries, longer);
     }
 
 all_empty : {X : Type 0} (p : X → Bool) (n : ℕ) → list_all (list_all p) (replicate n []) ≡ true
@@ -292,17 +316,21 @@ no_ranges : (n : ℕ) → range_count (replicate n []) ≡ 0
 no_ranges zero = refl
 no_ranges (suc n) = no_ranges n
 
+no_tries : (n : ℕ) → try_count (replicate n []) ≡ 0
+no_tries zero = refl
+no_tries (suc n) = no_tries n
+
 no_calls : (n : ℕ) → call_count (replicate n []) ≡ 0
 no_calls zero = refl
 no_calls (suc n) = no_calls n
 
 -- the tables of a draft without lines
-pub indexed_start : (workers : ℕ) → 0 < workers → workers ≤ MAX_WORKERS → IsIndexed (record { workers = workers; objects = []; scripts = replicate workers []; schedule = [] }) None empty empty 0 0
+pub indexed_start : (workers : ℕ) → 0 < workers → workers ≤ MAX_WORKERS → IsIndexed (record { workers = workers; objects = []; scripts = replicate workers []; schedule = [] }) None empty empty 0 0 0
 indexed_start workers some few = record {
   readable = record {
     valid = valid_from (record { workers = workers; objects = []; scripts = replicate workers []; schedule = [] }) (record {
       scripts = length-replicate workers [];
-      calls = all_empty (λ call. is_on (slice_get [] call.object) call) workers;
+      calls = all_empty (λ call. is_on [] (slice_get [] call.object) call) workers;
       turns = refl;
       references = refl;
     });
@@ -313,6 +341,7 @@ indexed_start workers some few = record {
     call_room = omega (arith, no_calls workers);
     key_room = omega (arith, ap distinct_count (no_keys workers));
     range_room = omega (arith, no_ranges workers);
+    try_room = omega (arith, no_tries workers);
     items = refl;
     turn_room = omega arith;
   };
@@ -321,4 +350,5 @@ indexed_start workers some few = record {
   keys = ap (λ (ks : List (List ℕ)). from_entries {R = slice_cmp nat_cmp} (marks ks)) (sym (no_keys workers));
   calls = sym (no_calls workers);
   ranges = sym (no_ranges workers);
+  tries = sym (no_tries workers);
 }

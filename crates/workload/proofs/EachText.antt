@@ -1,6 +1,6 @@
 -- Each text is read or refused.
 use Rattle.std.proofs.Common.{◌≡◌, ℕ, ℤ, ◌+◌, ◌-◌, ◌≤◌, max, Bool, true, false, cond, eqb, ◌&&◌, not, List, [], ◌∷◌, ◌++◌, map, length, Option, Some, None, refl, sym, ap, subst, ◌∙◌, arith, inl, inr, ◌⊎◌}
-use Rattle.std.specs.Prelude.{nat_lt, nat_le, is_some, codes, count_by}
+use Rattle.std.specs.Prelude.{nat_lt, nat_le, is_some, slice_get, codes, count_by}
 use Rattle.std.specs.List.{list_all, flat_map, AllByRecursion}
 use Rattle.std.specs.Fmt.{decimal, signed_decimal}
 use Rattle.std.specs.Option.{option_to_list, option_map_or}
@@ -10,7 +10,7 @@ use Rattle.std.proofs.lemmas.Slice.Eq.{bytes_eq-Decides}
 use Rattle.std.proofs.lemmas.List.{length-map}
 use Rattle.sync_types.specs.Name.{is_name}
 use Rattle.script_calls.specs.declared.call.Call.{Call}
-use Rattle.script_calls.specs.declared.call.ComposedCall.TheVariants.{IfEqual}
+use Rattle.script_calls.specs.declared.call.ComposedCall.TheVariants.{IfEqual, WaitFor}
 use Rattle.script_calls.specs.declared.call.Operation.{Operation}
 use Rattle.script_calls.specs.declared.call.Operation.TheVariants as operations
 use Rattle.sync_types.specs.declared.map_object.MapCall.TheVariants as map_calls
@@ -45,19 +45,21 @@ use Rattle.workload.specs.declared.reason.Reason.{Reason}
 use Rattle.workload.specs.declared.reason.Reason.TheVariants.{NoWorkersLine, LineTooLong, BadByte, WrongNumberOfWords, BadName, NameTaken, BadNumber, CallOutsideWorker, LimitReached, InputTooLong}
 use Rattle.workload.specs.declared.turn.Turn.{Turn}
 use Rattle.workload.specs.declared.turn.Turn.TheVariants as turns
-use Rattle.workload.specs.Plan.{Plan, word_of, reference_of, is_target, is_amount, has_call}
+use Rattle.workload.specs.Plan.{Plan, word_of, reference_of, is_target, is_amount, has_call, has_among}
 use Rattle.workload.specs.Lines.{lines_of, words_of, is_short, is_clean, is_significant}
 use Rattle.workload.specs.KeywordWords.{keyword_word, keyword_at, verb_word}
 use Rattle.workload.specs.NumberWords.{number_word, is_number, is_number_to, is_amount_word, is_passes, number_of}
 use Rattle.workload.specs.CallWords.{verb_of, operands_of}
 use Rattle.workload.specs.Words.{spelled, kind_parameters, turn_word}
-use Rattle.workload.specs.Draft.{Draft, started, with_line, declared, may_follow, names_object, names_reference, is_kind, is_operation, is_value, is_item, is_range, operation_keys, count_of, limit_of, range_count}
-use Rattle.workload.specs.Checks.{Check, first_failing, form_words, parameter_words, keys_among, map_form, bits_form, atomic_form, mutex_form, rw_mutex_form, cond_form, group_form, pool_form, form_of, parameters_of, parameters_checks, reference_checks, is_mutex, is_int64, ranges_in, limit_checks, form_checks, object_checks, worker_checks, item_checks, line_checks, first_checks, word_checks, reason_of}
+use Rattle.workload.specs.Draft.{Draft, started, with_line, declared, may_follow, names_object, names_reference, is_kind, is_operation, is_value, is_item, is_range, operation_keys, names_second, tries_of, count_of, limit_of, range_count}
+use Rattle.workload.specs.Checks.{Check, first_failing, form_words, parameter_words, keys_among, map_form, bits_form, atomic_form, mutex_form, rw_mutex_form, cond_form, group_form, pool_form, form_of, parameters_of, parameters_checks, reference_checks, is_mutex, is_int64, is_atomic, awaited_number, wait_for_words, call_form, operand_checks, tries_among, ranges_in, limit_checks, form_checks, object_checks, worker_checks, item_checks, line_checks, first_checks, word_checks, reason_of}
 use Rattle.workload.specs.Reads.{Continues, IsRead, ReadsOn, Reads, FirstFault, IsRefused}
 use Rattle.workload.proofs.Passing.{both, pair}
 use Rattle.workload.proofs.Keywords.{keyword_from}
-use Rattle.workload.proofs.CallWords.{number_read, number_said, signed_of, amount_said, passes_said}
-use Rattle.workload.proofs.CallForms.{call_form, ranges_of}
+use Rattle.workload.proofs.CallWords.{number_read, number_said, signed_of, amount_said, passes_said, tries_said}
+use Rattle.workload.proofs.CallForms.{plain_form, call_passes, ranges_of}
+use Rattle.workload.proofs.Awaits.{alone_second}
+use Rattle.workload.proofs.DraftLemmas.{found_at}
 use Rattle.workload.proofs.FirstFailing.{PassesWith, form_passes}
 use Rattle.workload.proofs.Numbers.{decimal-number_of}
 use Rattle.workload.proofs.OneReading.{IsSmall, read_small}
@@ -261,83 +263,83 @@ object_said d word (name ∷ ws) h =
 -- ---- calls
 
 abbrev CallSaid : Draft → List ℕ → Verb → List (List ℕ) → Type 0
-CallSaid d name verb words = (c : Call) × (verb_of c.operation ≡ verb) × (operands_of c.operation ≡ words) × (may_follow d (lines.Call name c) ≡ true)
+CallSaid d name verb words = (second : Option (List ℕ)) × (c : Call) × (verb_of c.operation ≡ verb) × (option_to_list second ++ operands_of c.operation ≡ words) × (may_follow d (lines.Call name second c) ≡ true)
 
 -- ---- the operands that words spell
 
-none_said : (words : List (List ℕ)) → first_failing (form_words (Some []) words) ≡ None → words ≡ []
-none_said [] h = refl
-none_said (word ∷ words) h = absurd (omega (arith, eqb-true (length (word ∷ words)) 0 (all_pass (form_words (Some []) (word ∷ words)) h).0))
+none_said : (d : Draft) (words : List (List ℕ)) → first_failing (form_words d (Some []) words) ≡ None → words ≡ []
+none_said d [] h = refl
+none_said d (word ∷ words) h = absurd (omega (arith, eqb-true (length (word ∷ words)) 0 (all_pass (form_words d (Some []) (word ∷ words)) h).0))
 
-key_said : (words : List (List ℕ)) → first_failing (form_words (Some (operands.Key ∷ [])) words) ≡ None → (k : List ℕ) × (is_name k ≡ true) × (words ≡ k ∷ [])
-key_said [] h = absurd cc
-key_said (k ∷ []) h =
-    let all = all_pass (form_words (Some (operands.Key ∷ [])) (k ∷ [])) h in
+key_said : (d : Draft) (words : List (List ℕ)) → first_failing (form_words d (Some (operands.Key ∷ [])) words) ≡ None → (k : List ℕ) × (is_name k ≡ true) × (words ≡ k ∷ [])
+key_said d [] h = absurd cc
+key_said d (k ∷ []) h =
+    let all = all_pass (form_words d (Some (operands.Key ∷ [])) (k ∷ [])) h in
     (k, all.1.0, refl)
-key_said (k ∷ other ∷ words) h = absurd (omega (arith, eqb-true (length (k ∷ other ∷ words)) 1 (all_pass (form_words (Some (operands.Key ∷ [])) (k ∷ other ∷ words)) h).0))
+key_said d (k ∷ other ∷ words) h = absurd (omega (arith, eqb-true (length (k ∷ other ∷ words)) 1 (all_pass (form_words d (Some (operands.Key ∷ [])) (k ∷ other ∷ words)) h).0))
 
 value_said : (word : List ℕ) → is_number_to MAX_VALUE word ≡ true → (is_value (number_of word) ≡ true) × (word ≡ decimal (number_of word))
 value_said word h =
     let parts = both (is_number word) (nat_le (number_of word) MAX_VALUE) h in
     (parts.1, sym (number_words word parts.0 (leb-true (number_of word) MAX_VALUE parts.1)))
 
-pair_said : (words : List (List ℕ)) → first_failing (form_words (Some (operands.Key ∷ operands.Value ∷ [])) words) ≡ None → (k : List ℕ) × (v : ℕ) × (is_name k ≡ true) × (is_value v ≡ true) × (words ≡ k ∷ decimal v ∷ [])
-pair_said [] h = absurd cc
-pair_said (k ∷ []) h = absurd cc
-pair_said (k ∷ v ∷ []) h =
-    let all = all_pass (form_words (Some (operands.Key ∷ operands.Value ∷ [])) (k ∷ v ∷ [])) h in
+pair_said : (d : Draft) (words : List (List ℕ)) → first_failing (form_words d (Some (operands.Key ∷ operands.Value ∷ [])) words) ≡ None → (k : List ℕ) × (v : ℕ) × (is_name k ≡ true) × (is_value v ≡ true) × (words ≡ k ∷ decimal v ∷ [])
+pair_said d [] h = absurd cc
+pair_said d (k ∷ []) h = absurd cc
+pair_said d (k ∷ v ∷ []) h =
+    let all = all_pass (form_words d (Some (operands.Key ∷ operands.Value ∷ [])) (k ∷ v ∷ [])) h in
     let value = value_said v all.1.1.0 in
     (k, number_of v, all.1.0, value.0, ap (λ (w : List ℕ). k ∷ w ∷ []) value.1)
-pair_said (k ∷ v ∷ other ∷ words) h = absurd (omega (arith, eqb-true (length (k ∷ v ∷ other ∷ words)) 2 (all_pass (form_words (Some (operands.Key ∷ operands.Value ∷ [])) (k ∷ v ∷ other ∷ words)) h).0))
+pair_said d (k ∷ v ∷ other ∷ words) h = absurd (omega (arith, eqb-true (length (k ∷ v ∷ other ∷ words)) 2 (all_pass (form_words d (Some (operands.Key ∷ operands.Value ∷ [])) (k ∷ v ∷ other ∷ words)) h).0))
 
-exchange_said : (words : List (List ℕ)) → first_failing (form_words (Some (operands.Key ∷ operands.Value ∷ operands.Value ∷ [])) words) ≡ None
+exchange_said : (d : Draft) (words : List (List ℕ)) → first_failing (form_words d (Some (operands.Key ∷ operands.Value ∷ operands.Value ∷ [])) words) ≡ None
     → (k : List ℕ) × (v : ℕ) × (w : ℕ) × (is_name k ≡ true) × (is_value v ≡ true) × (is_value w ≡ true) × (words ≡ k ∷ decimal v ∷ decimal w ∷ [])
-exchange_said [] h = absurd cc
-exchange_said (k ∷ []) h = absurd cc
-exchange_said (k ∷ v ∷ []) h = absurd cc
-exchange_said (k ∷ v ∷ w ∷ []) h =
-    let all = all_pass (form_words (Some (operands.Key ∷ operands.Value ∷ operands.Value ∷ [])) (k ∷ v ∷ w ∷ [])) h in
+exchange_said d [] h = absurd cc
+exchange_said d (k ∷ []) h = absurd cc
+exchange_said d (k ∷ v ∷ []) h = absurd cc
+exchange_said d (k ∷ v ∷ w ∷ []) h =
+    let all = all_pass (form_words d (Some (operands.Key ∷ operands.Value ∷ operands.Value ∷ [])) (k ∷ v ∷ w ∷ [])) h in
     let first = value_said v all.1.1.0 in
     let second = value_said w all.1.1.1.0 in
     (k, number_of v, number_of w, all.1.0, first.0, second.0, ap (λ (x : List ℕ). k ∷ x ∷ w ∷ []) first.1 ∙ ap (λ (x : List ℕ). k ∷ decimal (number_of v) ∷ x ∷ []) second.1)
-exchange_said (k ∷ v ∷ w ∷ other ∷ words) h = absurd (omega (arith, eqb-true (length (k ∷ v ∷ w ∷ other ∷ words)) 3 (all_pass (form_words (Some (operands.Key ∷ operands.Value ∷ operands.Value ∷ [])) (k ∷ v ∷ w ∷ other ∷ words)) h).0))
+exchange_said d (k ∷ v ∷ w ∷ other ∷ words) h = absurd (omega (arith, eqb-true (length (k ∷ v ∷ w ∷ other ∷ words)) 3 (all_pass (form_words d (Some (operands.Key ∷ operands.Value ∷ operands.Value ∷ [])) (k ∷ v ∷ w ∷ other ∷ words)) h).0))
 
-number_alone_said : (kind : AtomicKind) (words : List (List ℕ)) → first_failing (form_words (Some (operands.Number kind ∷ [])) words) ≡ None → (x : Number) × (is_of kind x ≡ true) × (words ≡ number_word x ∷ [])
-number_alone_said kind [] h = absurd cc
-number_alone_said kind (w ∷ []) h =
-    let all = all_pass (form_words (Some (operands.Number kind ∷ [])) (w ∷ [])) h in
+number_alone_said : (d : Draft) (kind : AtomicKind) (words : List (List ℕ)) → first_failing (form_words d (Some (operands.Number kind ∷ [])) words) ≡ None → (x : Number) × (is_of kind x ≡ true) × (words ≡ number_word x ∷ [])
+number_alone_said d kind [] h = absurd cc
+number_alone_said d kind (w ∷ []) h =
+    let all = all_pass (form_words d (Some (operands.Number kind ∷ [])) (w ∷ [])) h in
     let said = number_said kind w all.1.0 in
     (number_read kind w, said.0, ap (λ (x : List ℕ). x ∷ []) (sym said.1))
-number_alone_said kind (w ∷ other ∷ words) h = absurd (omega (arith, eqb-true (length (w ∷ other ∷ words)) 1 (all_pass (form_words (Some (operands.Number kind ∷ [])) (w ∷ other ∷ words)) h).0))
+number_alone_said d kind (w ∷ other ∷ words) h = absurd (omega (arith, eqb-true (length (w ∷ other ∷ words)) 1 (all_pass (form_words d (Some (operands.Number kind ∷ [])) (w ∷ other ∷ words)) h).0))
 
-numbers_said : (kind : AtomicKind) (words : List (List ℕ)) → first_failing (form_words (Some (operands.Number kind ∷ operands.Number kind ∷ [])) words) ≡ None
+numbers_said : (d : Draft) (kind : AtomicKind) (words : List (List ℕ)) → first_failing (form_words d (Some (operands.Number kind ∷ operands.Number kind ∷ [])) words) ≡ None
     → (x : Number) × (y : Number) × (is_of kind x ≡ true) × (is_of kind y ≡ true) × (words ≡ number_word x ∷ number_word y ∷ [])
-numbers_said kind [] h = absurd cc
-numbers_said kind (v ∷ []) h = absurd cc
-numbers_said kind (v ∷ w ∷ []) h =
-    let all = all_pass (form_words (Some (operands.Number kind ∷ operands.Number kind ∷ [])) (v ∷ w ∷ [])) h in
+numbers_said d kind [] h = absurd cc
+numbers_said d kind (v ∷ []) h = absurd cc
+numbers_said d kind (v ∷ w ∷ []) h =
+    let all = all_pass (form_words d (Some (operands.Number kind ∷ operands.Number kind ∷ [])) (v ∷ w ∷ [])) h in
     let first = number_said kind v all.1.0 in
     let second = number_said kind w all.1.1.0 in
     (number_read kind v, number_read kind w, first.0, second.0, ap (λ (x : List ℕ). x ∷ w ∷ []) (sym first.1) ∙ ap (λ (x : List ℕ). number_word (number_read kind v) ∷ x ∷ []) (sym second.1))
-numbers_said kind (v ∷ w ∷ other ∷ words) h = absurd (omega (arith, eqb-true (length (v ∷ w ∷ other ∷ words)) 2 (all_pass (form_words (Some (operands.Number kind ∷ operands.Number kind ∷ [])) (v ∷ w ∷ other ∷ words)) h).0))
+numbers_said d kind (v ∷ w ∷ other ∷ words) h = absurd (omega (arith, eqb-true (length (v ∷ w ∷ other ∷ words)) 2 (all_pass (form_words d (Some (operands.Number kind ∷ operands.Number kind ∷ [])) (v ∷ w ∷ other ∷ words)) h).0))
 
-test_said : (kind : AtomicKind) (words : List (List ℕ)) → first_failing (form_words (Some (operands.Number kind ∷ operands.Passes ∷ [])) words) ≡ None
+test_said : (d : Draft) (kind : AtomicKind) (words : List (List ℕ)) → first_failing (form_words d (Some (operands.Number kind ∷ operands.Passes ∷ [])) words) ≡ None
     → (x : Number) × (n : ℕ) × (is_of kind x ≡ true) × (is_passes n ≡ true) × (words ≡ number_word x ∷ decimal n ∷ [])
-test_said kind [] h = absurd cc
-test_said kind (v ∷ []) h = absurd cc
-test_said kind (v ∷ w ∷ []) h =
-    let all = all_pass (form_words (Some (operands.Number kind ∷ operands.Passes ∷ [])) (v ∷ w ∷ [])) h in
+test_said d kind [] h = absurd cc
+test_said d kind (v ∷ []) h = absurd cc
+test_said d kind (v ∷ w ∷ []) h =
+    let all = all_pass (form_words d (Some (operands.Number kind ∷ operands.Passes ∷ [])) (v ∷ w ∷ [])) h in
     let first = number_said kind v all.1.0 in
     let second = passes_said w all.1.1.0 in
     (number_read kind v, number_of w, first.0, second.0, ap (λ (x : List ℕ). x ∷ w ∷ []) (sym first.1) ∙ ap (λ (x : List ℕ). number_word (number_read kind v) ∷ x ∷ []) (sym second.1))
-test_said kind (v ∷ w ∷ other ∷ words) h = absurd (omega (arith, eqb-true (length (v ∷ w ∷ other ∷ words)) 2 (all_pass (form_words (Some (operands.Number kind ∷ operands.Passes ∷ [])) (v ∷ w ∷ other ∷ words)) h).0))
+test_said d kind (v ∷ w ∷ other ∷ words) h = absurd (omega (arith, eqb-true (length (v ∷ w ∷ other ∷ words)) 2 (all_pass (form_words d (Some (operands.Number kind ∷ operands.Passes ∷ [])) (v ∷ w ∷ other ∷ words)) h).0))
 
-bits_said : (kind : AtomicKind) (words : List (List ℕ)) → first_failing (form_words (bits_form kind) words) ≡ None → (x : Number) × ((has_bits kind && is_of kind x) ≡ true) × (words ≡ number_word x ∷ [])
-bits_said types.Int32 words h = number_alone_said types.Int32 words h
-bits_said types.Int64 words h = number_alone_said types.Int64 words h
-bits_said types.Uint32 words h = number_alone_said types.Uint32 words h
-bits_said types.Uint64 words h = number_alone_said types.Uint64 words h
-bits_said types.Bool words h = absurd cc
+bits_said : (d : Draft) (kind : AtomicKind) (words : List (List ℕ)) → first_failing (form_words d (bits_form kind) words) ≡ None → (x : Number) × ((has_bits kind && is_of kind x) ≡ true) × (words ≡ number_word x ∷ [])
+bits_said d types.Int32 words h = number_alone_said d types.Int32 words h
+bits_said d types.Int64 words h = number_alone_said d types.Int64 words h
+bits_said d types.Uint32 words h = number_alone_said d types.Uint32 words h
+bits_said d types.Uint64 words h = number_alone_said d types.Uint64 words h
+bits_said d types.Bool words h = absurd cc
 
 -- ---- the call that words spell
 
@@ -350,110 +352,175 @@ keyed k h = rw h refl
 paired : (k : List ℕ) (v : ℕ) → is_name k ≡ true → is_value v ≡ true → (list_all is_name (k ∷ []) && list_all is_value (v ∷ [])) ≡ true
 paired k v h i = rw (h, i) refl
 
-map_spelled : (verb : Verb) (words : List (List ℕ)) → first_failing (form_words (map_form verb) words) ≡ None → Spelled kinds.Map verb words
-map_spelled verbs.Load words h = let said = key_said words h in (operations.Map (map_calls.Load said.0), refl, sym said.2, refl, keyed said.0 said.1)
-map_spelled verbs.LoadAndDelete words h = let said = key_said words h in (operations.Map (map_calls.LoadAndDelete said.0), refl, sym said.2, refl, keyed said.0 said.1)
-map_spelled verbs.Delete words h = let said = key_said words h in (operations.Map (map_calls.Delete said.0), refl, sym said.2, refl, keyed said.0 said.1)
-map_spelled verbs.Store words h = let said = pair_said words h in (operations.Map (map_calls.Store said.0 said.1), refl, sym said.4, refl, paired said.0 said.1 said.2 said.3)
-map_spelled verbs.LoadOrStore words h = let said = pair_said words h in (operations.Map (map_calls.LoadOrStore said.0 said.1), refl, sym said.4, refl, paired said.0 said.1 said.2 said.3)
-map_spelled verbs.Swap words h = let said = pair_said words h in (operations.Map (map_calls.Swap said.0 said.1), refl, sym said.4, refl, paired said.0 said.1 said.2 said.3)
-map_spelled verbs.CompareAndDelete words h = let said = pair_said words h in (operations.Map (map_calls.CompareAndDelete said.0 said.1), refl, sym said.4, refl, paired said.0 said.1 said.2 said.3)
-map_spelled verbs.CompareAndSwap words h = let said = exchange_said words h in (operations.Map (map_calls.CompareAndSwap said.0 said.1 said.2), refl, sym said.6, refl, rw (said.3, said.4, said.5) refl)
-map_spelled verbs.Clear words h = (operations.Map map_calls.Clear, refl, sym (none_said words h), refl, refl)
-map_spelled verbs.Range words h = (operations.Range, refl, sym (none_said words h), refl, refl)
-map_spelled verb words h = absurd cc
+map_spelled : (d : Draft) (verb : Verb) (words : List (List ℕ)) → first_failing (form_words d (map_form verb) words) ≡ None → Spelled kinds.Map verb words
+map_spelled d verbs.Load words h = let said = key_said d words h in (operations.Map (map_calls.Load said.0), refl, sym said.2, refl, keyed said.0 said.1)
+map_spelled d verbs.LoadAndDelete words h = let said = key_said d words h in (operations.Map (map_calls.LoadAndDelete said.0), refl, sym said.2, refl, keyed said.0 said.1)
+map_spelled d verbs.Delete words h = let said = key_said d words h in (operations.Map (map_calls.Delete said.0), refl, sym said.2, refl, keyed said.0 said.1)
+map_spelled d verbs.Store words h = let said = pair_said d words h in (operations.Map (map_calls.Store said.0 said.1), refl, sym said.4, refl, paired said.0 said.1 said.2 said.3)
+map_spelled d verbs.LoadOrStore words h = let said = pair_said d words h in (operations.Map (map_calls.LoadOrStore said.0 said.1), refl, sym said.4, refl, paired said.0 said.1 said.2 said.3)
+map_spelled d verbs.Swap words h = let said = pair_said d words h in (operations.Map (map_calls.Swap said.0 said.1), refl, sym said.4, refl, paired said.0 said.1 said.2 said.3)
+map_spelled d verbs.CompareAndDelete words h = let said = pair_said d words h in (operations.Map (map_calls.CompareAndDelete said.0 said.1), refl, sym said.4, refl, paired said.0 said.1 said.2 said.3)
+map_spelled d verbs.CompareAndSwap words h = let said = exchange_said d words h in (operations.Map (map_calls.CompareAndSwap said.0 said.1 said.2), refl, sym said.6, refl, rw (said.3, said.4, said.5) refl)
+map_spelled d verbs.Clear words h = (operations.Map map_calls.Clear, refl, sym (none_said d words h), refl, refl)
+map_spelled d verbs.Range words h = (operations.Range, refl, sym (none_said d words h), refl, refl)
+map_spelled d verb words h = absurd cc
 
-atomic_spelled : (kind : AtomicKind) (verb : Verb) (words : List (List ℕ)) → first_failing (form_words (atomic_form kind verb) words) ≡ None → Spelled (kinds.Atomic kind) verb words
-atomic_spelled kind verbs.Load words h = (operations.Atomic atomic_calls.Load, refl, sym (none_said words h), refl, refl)
-atomic_spelled kind verbs.Store words h = let said = number_alone_said kind words h in (operations.Atomic (atomic_calls.Store said.0), refl, sym said.2, said.1, refl)
-atomic_spelled kind verbs.Swap words h = let said = number_alone_said kind words h in (operations.Atomic (atomic_calls.Swap said.0), refl, sym said.2, said.1, refl)
-atomic_spelled kind verbs.Add words h = let said = bits_said kind words h in (operations.Atomic (atomic_calls.Add said.0), refl, sym said.2, said.1, refl)
-atomic_spelled kind verbs.And words h = let said = bits_said kind words h in (operations.Atomic (atomic_calls.And said.0), refl, sym said.2, said.1, refl)
-atomic_spelled kind verbs.Or words h = let said = bits_said kind words h in (operations.Atomic (atomic_calls.Or said.0), refl, sym said.2, said.1, refl)
-atomic_spelled kind verbs.CompareAndSwap words h = let said = numbers_said kind words h in (operations.Atomic (atomic_calls.CompareAndSwap said.0 said.1), refl, sym said.4, pair (is_of kind said.0) (is_of kind said.1) said.2 said.3, refl)
-atomic_spelled kind verbs.IfEqual words h = let said = test_said kind words h in (operations.Composed (IfEqual said.0 said.1), refl, sym said.4, said.2, said.3)
-atomic_spelled kind verb words h = absurd cc
+atomic_spelled : (d : Draft) (kind : AtomicKind) (verb : Verb) (words : List (List ℕ)) → first_failing (form_words d (atomic_form kind verb) words) ≡ None → Spelled (kinds.Atomic kind) verb words
+atomic_spelled d kind verbs.Load words h = (operations.Atomic atomic_calls.Load, refl, sym (none_said d words h), refl, refl)
+atomic_spelled d kind verbs.Store words h = let said = number_alone_said d kind words h in (operations.Atomic (atomic_calls.Store said.0), refl, sym said.2, said.1, refl)
+atomic_spelled d kind verbs.Swap words h = let said = number_alone_said d kind words h in (operations.Atomic (atomic_calls.Swap said.0), refl, sym said.2, said.1, refl)
+atomic_spelled d kind verbs.Add words h = let said = bits_said d kind words h in (operations.Atomic (atomic_calls.Add said.0), refl, sym said.2, said.1, refl)
+atomic_spelled d kind verbs.And words h = let said = bits_said d kind words h in (operations.Atomic (atomic_calls.And said.0), refl, sym said.2, said.1, refl)
+atomic_spelled d kind verbs.Or words h = let said = bits_said d kind words h in (operations.Atomic (atomic_calls.Or said.0), refl, sym said.2, said.1, refl)
+atomic_spelled d kind verbs.CompareAndSwap words h = let said = numbers_said d kind words h in (operations.Atomic (atomic_calls.CompareAndSwap said.0 said.1), refl, sym said.4, pair (is_of kind said.0) (is_of kind said.1) said.2 said.3, refl)
+atomic_spelled d kind verbs.IfEqual words h = let said = test_said d kind words h in (operations.Composed (IfEqual said.0 said.1), refl, sym said.4, said.2, said.3)
+atomic_spelled d kind verb words h = absurd cc
 
-mutex_spelled : (verb : Verb) (words : List (List ℕ)) → first_failing (form_words (mutex_form verb) words) ≡ None → Spelled kinds.Mutex verb words
-mutex_spelled verbs.Lock words h = (operations.Mutex mutex_calls.Lock, refl, sym (none_said words h), refl, refl)
-mutex_spelled verbs.Unlock words h = (operations.Mutex mutex_calls.Unlock, refl, sym (none_said words h), refl, refl)
-mutex_spelled verbs.TryLock words h = (operations.Mutex mutex_calls.TryLock, refl, sym (none_said words h), refl, refl)
-mutex_spelled verb words h = absurd cc
+mutex_spelled : (d : Draft) (verb : Verb) (words : List (List ℕ)) → first_failing (form_words d (mutex_form verb) words) ≡ None → Spelled kinds.Mutex verb words
+mutex_spelled d verbs.Lock words h = (operations.Mutex mutex_calls.Lock, refl, sym (none_said d words h), refl, refl)
+mutex_spelled d verbs.Unlock words h = (operations.Mutex mutex_calls.Unlock, refl, sym (none_said d words h), refl, refl)
+mutex_spelled d verbs.TryLock words h = (operations.Mutex mutex_calls.TryLock, refl, sym (none_said d words h), refl, refl)
+mutex_spelled d verb words h = absurd cc
 
-rw_mutex_spelled : (verb : Verb) (words : List (List ℕ)) → first_failing (form_words (rw_mutex_form verb) words) ≡ None → Spelled kinds.RwMutex verb words
-rw_mutex_spelled verbs.Lock words h = (operations.RwMutex rw_mutex_calls.Lock, refl, sym (none_said words h), refl, refl)
-rw_mutex_spelled verbs.Unlock words h = (operations.RwMutex rw_mutex_calls.Unlock, refl, sym (none_said words h), refl, refl)
-rw_mutex_spelled verbs.TryLock words h = (operations.RwMutex rw_mutex_calls.TryLock, refl, sym (none_said words h), refl, refl)
-rw_mutex_spelled verbs.RLock words h = (operations.RwMutex rw_mutex_calls.RLock, refl, sym (none_said words h), refl, refl)
-rw_mutex_spelled verbs.RUnlock words h = (operations.RwMutex rw_mutex_calls.RUnlock, refl, sym (none_said words h), refl, refl)
-rw_mutex_spelled verbs.TryRLock words h = (operations.RwMutex rw_mutex_calls.TryRLock, refl, sym (none_said words h), refl, refl)
-rw_mutex_spelled verb words h = absurd cc
+rw_mutex_spelled : (d : Draft) (verb : Verb) (words : List (List ℕ)) → first_failing (form_words d (rw_mutex_form verb) words) ≡ None → Spelled kinds.RwMutex verb words
+rw_mutex_spelled d verbs.Lock words h = (operations.RwMutex rw_mutex_calls.Lock, refl, sym (none_said d words h), refl, refl)
+rw_mutex_spelled d verbs.Unlock words h = (operations.RwMutex rw_mutex_calls.Unlock, refl, sym (none_said d words h), refl, refl)
+rw_mutex_spelled d verbs.TryLock words h = (operations.RwMutex rw_mutex_calls.TryLock, refl, sym (none_said d words h), refl, refl)
+rw_mutex_spelled d verbs.RLock words h = (operations.RwMutex rw_mutex_calls.RLock, refl, sym (none_said d words h), refl, refl)
+rw_mutex_spelled d verbs.RUnlock words h = (operations.RwMutex rw_mutex_calls.RUnlock, refl, sym (none_said d words h), refl, refl)
+rw_mutex_spelled d verbs.TryRLock words h = (operations.RwMutex rw_mutex_calls.TryRLock, refl, sym (none_said d words h), refl, refl)
+rw_mutex_spelled d verb words h = absurd cc
 
-cond_spelled : (m : ℕ) (verb : Verb) (words : List (List ℕ)) → first_failing (form_words (cond_form verb) words) ≡ None → Spelled (kinds.Cond m) verb words
-cond_spelled m verbs.Wait words h = (operations.Cond cond_calls.Wait, refl, sym (none_said words h), refl, refl)
-cond_spelled m verbs.Signal words h = (operations.Cond cond_calls.Signal, refl, sym (none_said words h), refl, refl)
-cond_spelled m verbs.Broadcast words h = (operations.Cond cond_calls.Broadcast, refl, sym (none_said words h), refl, refl)
-cond_spelled m verb words h = absurd cc
+cond_spelled : (d : Draft) (m : ℕ) (verb : Verb) (words : List (List ℕ)) → first_failing (form_words d (cond_form verb) words) ≡ None → Spelled (kinds.Cond m) verb words
+cond_spelled d m verbs.Wait words h = (operations.Cond cond_calls.Wait, refl, sym (none_said d words h), refl, refl)
+cond_spelled d m verbs.Signal words h = (operations.Cond cond_calls.Signal, refl, sym (none_said d words h), refl, refl)
+cond_spelled d m verbs.Broadcast words h = (operations.Cond cond_calls.Broadcast, refl, sym (none_said d words h), refl, refl)
+cond_spelled d m verb words h = absurd cc
 
-amount_alone_said : (words : List (List ℕ)) → first_failing (form_words (Some (operands.Amount ∷ [])) words) ≡ None → (z : ℤ) × (is_amount z ≡ true) × (words ≡ signed_decimal z ∷ [])
-amount_alone_said [] h = absurd cc
-amount_alone_said (w ∷ []) h =
-    let all = all_pass (form_words (Some (operands.Amount ∷ [])) (w ∷ [])) h in
+amount_alone_said : (d : Draft) (words : List (List ℕ)) → first_failing (form_words d (Some (operands.Amount ∷ [])) words) ≡ None → (z : ℤ) × (is_amount z ≡ true) × (words ≡ signed_decimal z ∷ [])
+amount_alone_said d [] h = absurd cc
+amount_alone_said d (w ∷ []) h =
+    let all = all_pass (form_words d (Some (operands.Amount ∷ [])) (w ∷ [])) h in
     let said = amount_said w all.1.0 in
     (signed_of w, said.0, ap (λ (x : List ℕ). x ∷ []) (sym said.1))
-amount_alone_said (w ∷ other ∷ words) h = absurd (omega (arith, eqb-true (length (w ∷ other ∷ words)) 1 (all_pass (form_words (Some (operands.Amount ∷ [])) (w ∷ other ∷ words)) h).0))
+amount_alone_said d (w ∷ other ∷ words) h = absurd (omega (arith, eqb-true (length (w ∷ other ∷ words)) 1 (all_pass (form_words d (Some (operands.Amount ∷ [])) (w ∷ other ∷ words)) h).0))
 
-group_spelled : (n : ℕ) (verb : Verb) (words : List (List ℕ)) → first_failing (form_words (group_form verb) words) ≡ None → Spelled (kinds.WaitGroup n) verb words
-group_spelled n verbs.Add words h = let said = amount_alone_said words h in (operations.WaitGroup (group_calls.Add said.0), refl, sym said.2, refl, said.1)
-group_spelled n verbs.Done words h = (operations.WaitGroup group_calls.Done, refl, sym (none_said words h), refl, refl)
-group_spelled n verbs.Wait words h = (operations.WaitGroup group_calls.Wait, refl, sym (none_said words h), refl, refl)
-group_spelled n verb words h = absurd cc
+group_spelled : (d : Draft) (n : ℕ) (verb : Verb) (words : List (List ℕ)) → first_failing (form_words d (group_form verb) words) ≡ None → Spelled (kinds.WaitGroup n) verb words
+group_spelled d n verbs.Add words h = let said = amount_alone_said d words h in (operations.WaitGroup (group_calls.Add said.0), refl, sym said.2, refl, said.1)
+group_spelled d n verbs.Done words h = (operations.WaitGroup group_calls.Done, refl, sym (none_said d words h), refl, refl)
+group_spelled d n verbs.Wait words h = (operations.WaitGroup group_calls.Wait, refl, sym (none_said d words h), refl, refl)
+group_spelled d n verb words h = absurd cc
 
-item_alone_said : (words : List (List ℕ)) → first_failing (form_words (Some (operands.Value ∷ [])) words) ≡ None → (v : ℕ) × (is_value v ≡ true) × (words ≡ decimal v ∷ [])
-item_alone_said [] h = absurd cc
-item_alone_said (w ∷ []) h =
-    let all = all_pass (form_words (Some (operands.Value ∷ [])) (w ∷ [])) h in
+item_alone_said : (d : Draft) (words : List (List ℕ)) → first_failing (form_words d (Some (operands.Value ∷ [])) words) ≡ None → (v : ℕ) × (is_value v ≡ true) × (words ≡ decimal v ∷ [])
+item_alone_said d [] h = absurd cc
+item_alone_said d (w ∷ []) h =
+    let all = all_pass (form_words d (Some (operands.Value ∷ [])) (w ∷ [])) h in
     let said = value_said w all.1.0 in
     (number_of w, said.0, ap (λ (x : List ℕ). x ∷ []) said.1)
-item_alone_said (w ∷ other ∷ words) h = absurd (omega (arith, eqb-true (length (w ∷ other ∷ words)) 1 (all_pass (form_words (Some (operands.Value ∷ [])) (w ∷ other ∷ words)) h).0))
+item_alone_said d (w ∷ other ∷ words) h = absurd (omega (arith, eqb-true (length (w ∷ other ∷ words)) 1 (all_pass (form_words d (Some (operands.Value ∷ [])) (w ∷ other ∷ words)) h).0))
 
-pool_spelled : (verb : Verb) (words : List (List ℕ)) → first_failing (form_words (pool_form verb) words) ≡ None → Spelled kinds.Pool verb words
-pool_spelled verbs.Put words h = let said = item_alone_said words h in (operations.Pool (pool_calls.Put said.0), refl, sym said.2, refl, said.1)
-pool_spelled verbs.Get words h = (operations.Pool pool_calls.Get, refl, sym (none_said words h), refl, refl)
-pool_spelled verbs.Sweep words h = (operations.Pool pool_calls.Sweep, refl, sym (none_said words h), refl, refl)
-pool_spelled verb words h = absurd cc
+pool_spelled : (d : Draft) (verb : Verb) (words : List (List ℕ)) → first_failing (form_words d (pool_form verb) words) ≡ None → Spelled kinds.Pool verb words
+pool_spelled d verbs.Put words h = let said = item_alone_said d words h in (operations.Pool (pool_calls.Put said.0), refl, sym said.2, refl, said.1)
+pool_spelled d verbs.Get words h = (operations.Pool pool_calls.Get, refl, sym (none_said d words h), refl, refl)
+pool_spelled d verbs.Sweep words h = (operations.Pool pool_calls.Sweep, refl, sym (none_said d words h), refl, refl)
+pool_spelled d verb words h = absurd cc
 
-spelled_on : (kind : ObjectKind) (verb : Verb) (words : List (List ℕ)) → first_failing (form_words (form_of verb (word_of kind)) words) ≡ None → Spelled kind verb words
-spelled_on kinds.Map verb words h = map_spelled verb words h
-spelled_on (kinds.Atomic kind) verb words h = atomic_spelled kind verb words h
-spelled_on kinds.Mutex verb words h = mutex_spelled verb words h
-spelled_on kinds.RwMutex verb words h = rw_mutex_spelled verb words h
-spelled_on (kinds.Cond m) verb words h = cond_spelled m verb words h
-spelled_on (kinds.WaitGroup n) verb words h = group_spelled n verb words h
-spelled_on (kinds.Once a z) verbs.Do words h = (operations.Once, refl, sym (none_said words h), refl, refl)
-spelled_on (kinds.OnceFunc n) verbs.Call words h = (operations.OnceFunc, refl, sym (none_said words h), refl, refl)
-spelled_on (kinds.OnceValue n) verbs.Value words h = (operations.OnceValue, refl, sym (none_said words h), refl, refl)
-spelled_on kinds.Pool verb words h = pool_spelled verb words h
-spelled_on kind verb words h = absurd cc
+spelled_on : (d : Draft) (kind : ObjectKind) (verb : Verb) (words : List (List ℕ)) → first_failing (form_words d (form_of verb (word_of kind)) words) ≡ None → Spelled kind verb words
+spelled_on d kinds.Map verb words h = map_spelled d verb words h
+spelled_on d (kinds.Atomic kind) verb words h = atomic_spelled d kind verb words h
+spelled_on d kinds.Mutex verb words h = mutex_spelled d verb words h
+spelled_on d kinds.RwMutex verb words h = rw_mutex_spelled d verb words h
+spelled_on d (kinds.Cond m) verb words h = cond_spelled d m verb words h
+spelled_on d (kinds.WaitGroup n) verb words h = group_spelled d n verb words h
+spelled_on d (kinds.Once a z) verbs.Do words h = (operations.Once, refl, sym (none_said d words h), refl, refl)
+spelled_on d (kinds.OnceFunc n) verbs.Call words h = (operations.OnceFunc, refl, sym (none_said d words h), refl, refl)
+spelled_on d (kinds.OnceValue n) verbs.Value words h = (operations.OnceValue, refl, sym (none_said d words h), refl, refl)
+spelled_on d kinds.Pool verb words h = pool_spelled d verb words h
+spelled_on d kind verb words h = absurd cc
+
+-- the call with its second name, if it has one
+abbrev SpelledAmong : Draft → ObjectKind → Verb → List (List ℕ) → Type 0
+SpelledAmong d kind verb words =
+    (second : Option (List ℕ)) × (o : Operation) × (verb_of o ≡ verb) × (option_to_list second ++ operands_of o ≡ words) × (has_among d.plan.objects kind o ≡ true) × (names_second d o second ≡ true) × (is_operation o ≡ true)
+
+-- a call that an object has alone, it has among any
+alone_among : (objects : List ObjectLine) (kind : ObjectKind) (o : Operation) → has_call kind o ≡ true → has_among objects kind o ≡ true
+alone_among objects (kinds.Cond m) (operations.Composed (WaitFor a v n)) h = absurd cc
+alone_among objects kind o h = h
+
+alone_spelled : (d : Draft) (kind : ObjectKind) (verb : Verb) (words : List (List ℕ)) → first_failing (form_words d (form_of verb (word_of kind)) words) ≡ None → SpelledAmong d kind verb words
+alone_spelled d kind verb words h =
+    let said = spelled_on d kind verb words h in
+    let second : names_second d said.0 None ≡ true = rw (alone_second kind said.0 said.3).0 refl in
+    (None, said.0, said.1, said.2, alone_among d.plan.objects kind said.0 said.3, second, said.4)
+
+-- a kind of an atomic
+atomic_kind : (kind : ObjectKind) → is_atomic kind ≡ true → (k : AtomicKind) × (kind ≡ kinds.Atomic k)
+atomic_kind (kinds.Atomic k) h = (k, refl)
+atomic_kind kind h = absurd cc
+
+-- a `waitfor` of the atomic that a name finds, and of a number of its type
+wait_among : (d : Draft) (m : ℕ) (a : List ℕ) (found : Declared) (k : AtomicKind) (v : Number) (n : ℕ) → declared d a ≡ Some found → found.kind ≡ kinds.Atomic k → is_of k v ≡ true → has_among d.plan.objects (kinds.Cond m) (operations.Composed (WaitFor found.place v n)) ≡ true
+wait_among d m a found k v n is kind fits =
+    let there = found_at 0 a d.plan.objects found is in
+    let here : found.place - 0 ≡ found.place = omega arith in
+    let object : slice_get d.plan.objects found.place ≡ Some there.0 = ap (slice_get d.plan.objects) (sym here) ∙ there.2 in
+    rw (object, there.3, kind) fits
+
+wait_named : (d : Draft) (a : List ℕ) (found : Declared) (v : Number) (n : ℕ) → is_name a ≡ true → declared d a ≡ Some found → names_second d (operations.Composed (WaitFor found.place v n)) (Some a) ≡ true
+wait_named d a found v n named is = rw (named, is) (eq-eqb found.place found.place refl)
+
+wait_spelled : (d : Draft) (m : ℕ) (words : List (List ℕ)) → first_failing (form_words d (Some (wait_for_words d words)) words) ≡ None → SpelledAmong d (kinds.Cond m) verbs.WaitFor words
+wait_spelled d m [] h = absurd cc
+wait_spelled d m (a ∷ []) h = absurd cc
+wait_spelled d m (a ∷ v ∷ []) h = absurd cc
+wait_spelled d m (a ∷ v ∷ w ∷ []) h =
+    let rest = λ (o : Option Declared). operand_checks d (option_map_or (λ object. awaited_number object.kind) o operands.Value ∷ operands.Tries ∷ []) (v ∷ w ∷ []) in
+    let parts = both_pass (reference_checks d is_atomic a) (rest (declared d a)) h in
+    let to = reference_said d is_atomic a parts.0 in
+    let atomic = atomic_kind to.0.kind to.3 in
+    let k = atomic.0 in
+    let found : declared d a ≡ Some (record { place = to.0.place; kind = kinds.Atomic k }) = to.2 ∙ ap (λ (x : ObjectKind). Some (record { place = to.0.place; kind = x })) atomic.1 in
+    let all = all_pass (operand_checks d (operands.Number k ∷ operands.Tries ∷ []) (v ∷ w ∷ [])) (subst (λ (o : Option Declared). first_failing (rest o) ≡ None) found parts.1) in
+    let value = number_said k v all.0 in
+    let tries = tries_said w all.1.0 in
+    let place = to.0.place in (
+      Some a,
+      operations.Composed (WaitFor place (number_read k v) (number_of w)),
+      refl,
+      ap (λ (x : List ℕ). a ∷ x ∷ decimal (number_of w) ∷ []) value.1 ∙ ap (λ (x : List ℕ). a ∷ v ∷ x ∷ []) tries.1,
+      wait_among d m a to.0 k (number_read k v) (number_of w) to.2 atomic.1 value.0,
+      wait_named d a to.0 (number_read k v) (number_of w) to.1 to.2,
+      tries.0,
+    )
+wait_spelled d m (a ∷ v ∷ w ∷ other ∷ words) h = absurd (omega (arith, eqb-true (length (a ∷ v ∷ w ∷ other ∷ words)) 3 (all_pass (form_words d (Some (wait_for_words d (a ∷ v ∷ w ∷ other ∷ words))) (a ∷ v ∷ w ∷ other ∷ words)) h).0))
+
+spelled_among : (d : Draft) (kind : ObjectKind) (verb : Verb) (words : List (List ℕ)) → first_failing (form_words d (call_form d verb (word_of kind) words) words) ≡ None → SpelledAmong d kind verb words
+spelled_among d (kinds.Cond m) verbs.WaitFor words h = wait_spelled d m words h
+spelled_among d kind verb words h =
+    alone_spelled d kind verb words (subst (λ (f : Option (List Operand)). first_failing (form_words d f words) ≡ None) (plain_form d verb (word_of kind) words (λ v w. cc)) h)
 
 -- the checks of the operands alone
-operands_pass : (d : Draft) (verb : Verb) (form : Option (List Operand)) (words : List (List ℕ)) → first_failing (form_checks d verb form words) ≡ None → first_failing (form_words form words) ≡ None
-operands_pass d verb form words h = (both_pass (form_words form words) (limit_checks d (keys_among form words) (ranges_in verb)) h).0
+operands_pass : (d : Draft) (verb : Verb) (form : Option (List Operand)) (words : List (List ℕ)) → first_failing (form_checks d verb form words) ≡ None → first_failing (form_words d form words) ≡ None
+operands_pass d verb form words h = (both_pass (form_words d form words) (limit_checks d (keys_among form words) (ranges_in verb) (tries_among form words)) h).0
 
-kind_said : (d : Draft) (name : List ℕ) (place : ℕ) (kind : ObjectKind) → declared d name ≡ Some (record { place = place; kind = kind }) → is_some d.current ≡ true → is_name name ≡ true → (verb : Verb) (words : List (List ℕ)) → first_failing (form_checks d verb (form_of verb (word_of kind)) words) ≡ None → CallSaid d name verb words
+kind_said : (d : Draft) (name : List ℕ) (place : ℕ) (kind : ObjectKind) → declared d name ≡ Some (record { place = place; kind = kind }) → is_some d.current ≡ true → is_name name ≡ true → (verb : Verb) (words : List (List ℕ))
+    → first_failing (form_checks d verb (call_form d verb (word_of kind) words) words) ≡ None → CallSaid d name verb words
 kind_said d name place kind at current named verb words h =
-    let form = form_of verb (word_of kind) in
-    let said = spelled_on kind verb words (operands_pass d verb form words h) in
-    let o = said.0 in
+    let form = call_form d verb (word_of kind) words in
+    let said = spelled_among d kind verb words (operands_pass d verb form words h) in
+    let o = said.1 in
     let c : Call = record { object = place; operation = o } in
     let keys = operation_keys o in
-    let passes : PassesWith form words keys =
-    subst (λ (ws : List (List ℕ)). PassesWith form ws keys) said.2 (subst (λ (v : Verb). PassesWith (form_of v (word_of kind)) (operands_of o) keys) said.1 (call_form kind o said.3 said.4)) in
-    let limits = all_pass (limit_checks d keys (ranges_in verb)) (sym (form_passes d verb form words keys passes) ∙ h) in
-    let on : names_object (declared d name) c ≡ true = rw at (pair (eqb place place) (has_call kind o) (eq-eqb place place refl) said.3) in
-    let many : ranges_in verb ≡ count_by is_range (c ∷ []) = ap ranges_in (sym said.1) ∙ sym (ranges_of o) in
+    let tries = tries_of o in
+    let passes : PassesWith d form words keys tries =
+    subst (λ (ws : List (List ℕ)). PassesWith d (call_form d verb (word_of kind) ws) ws keys tries) said.3
+    (subst (λ (v : Verb). PassesWith d (call_form d v (word_of kind) (option_to_list said.0 ++ operands_of o)) (option_to_list said.0 ++ operands_of o) keys tries) said.2 (call_passes d kind said.0 o said.4 said.5 said.6)) in
+    let limits = all_pass (limit_checks d keys (ranges_in verb) tries) (sym (form_passes d verb form words keys tries passes) ∙ h) in
+    let on : names_object d.plan.objects (declared d name) c ≡ true = rw at (pair (eqb place place) (has_among d.plan.objects kind o) (eq-eqb place place refl) said.4) in
+    let many : ranges_in verb ≡ count_by is_range (c ∷ []) = ap ranges_in (sym said.2) ∙ sym (ranges_of o) in
     let ranges : nat_le (range_count d.plan.scripts + count_by is_range (c ∷ [])) MAX_RANGES ≡ true = ap (λ (n : ℕ). nat_le (range_count d.plan.scripts + n) MAX_RANGES) (sym many) ∙ limits.1.1.0 in
-    (c, said.1, said.2, rw (current, named, on, said.4, limits.0, limits.1.0, ranges) refl)
+    (said.0, c, said.2, said.3, rw (current, named, on, said.5, said.6, limits.0, limits.1.0, ranges, limits.1.1.1.0) refl)
 
 call_said : (d : Draft) (verb : Verb) (words : List (List ℕ)) → first_failing (line_checks d (Some (keywords.Call verb)) words) ≡ None → Said d (keyword_word (keywords.Call verb) ∷ words)
 call_said d verb [] h = absurd (no_words d.current h)
@@ -470,7 +537,7 @@ call_said d verb (name ∷ words) h =
     found_said None is current named h = absurd cc
     found_said (Some found) is current named h =
         let said = kind_said d name found.place found.kind is current named verb words h in
-        (lines.Call name said.0, said.3, ap (λ (v : Verb). verb_word v ∷ name ∷ words) (sym said.1) ∙ ap (λ (ws : List (List ℕ)). verb_word (verb_of said.0.operation) ∷ name ∷ ws) (sym said.2))
+        (lines.Call name said.0 said.1, said.4, ap (λ (v : Verb). verb_word v ∷ name ∷ words) (sym said.2) ∙ ap (λ (ws : List (List ℕ)). verb_word (verb_of said.1.operation) ∷ name ∷ ws) (sym said.3))
 
 line_said : (d : Draft) (word : List ℕ) (k : Option Keyword) (words : List (List ℕ)) → d.plan.workers ≤ MAX_WORKERS → keyword_at word ≡ k → first_failing (line_checks d k words) ≡ None → Said d (word ∷ words)
 line_said d word None words few is h = absurd cc

@@ -4,7 +4,7 @@ use Rattle.workload.specs.declared.keyword.Operand.{Operand}
 use Rattle.workload.specs.declared.keyword.Verb.{Verb}
 use Rattle.workload.specs.declared.reason.Reason.{Reason}
 use Rattle.workload.specs.Draft.{Draft}
-use Rattle.workload.specs.Checks.{Check, first_failing, form_words, form_checks, keys_among, limit_checks, ranges_in}
+use Rattle.workload.specs.Checks.{Check, first_failing, form_words, form_checks, keys_among, tries_among, limit_checks, ranges_in}
 
 -- the first of some checks that fails is the first of these and others behind them
 pub fails_first : (xs ys : List Check) (r : Reason) → first_failing xs ≡ Some r → first_failing (xs ++ ys) ≡ Some r
@@ -24,10 +24,14 @@ passes_first (x ∷ xs) ys e =
       | false ↦ λ h. absurd cc
     ] e
 
--- words of a form that pass all its checks, and the keys among them
-abbrev pub PassesWith : Option (List Operand) → List (List ℕ) → List (List ℕ) → Type 0
-PassesWith form words keys = (keys_among form words ≡ keys) × (first_failing (form_words form words) ≡ None)
+-- words of a form that pass all its checks, the keys among them, and how many waits they say
+abbrev pub PassesWith : Draft → Option (List Operand) → List (List ℕ) → List (List ℕ) → ℕ → Type 0
+PassesWith d form words keys tries = (keys_among form words ≡ keys) × (tries_among form words ≡ tries) × (first_failing (form_words d form words) ≡ None)
 
 -- a call whose operands pass is left to the limits
-pub form_passes : (d : Draft) (verb : Verb) (form : Option (List Operand)) (words keys : List (List ℕ)) → PassesWith form words keys → first_failing (form_checks d verb form words) ≡ first_failing (limit_checks d keys (ranges_in verb))
-form_passes d verb form words keys h = passes_first (form_words form words) _ h.1 ∙ ap (λ (ks : List (List ℕ)). first_failing (limit_checks d ks (ranges_in verb))) h.0
+pub form_passes : (d : Draft) (verb : Verb) (form : Option (List Operand)) (words keys : List (List ℕ)) (tries : ℕ) → PassesWith d form words keys tries
+    → first_failing (form_checks d verb form words) ≡ first_failing (limit_checks d keys (ranges_in verb) tries)
+form_passes d verb form words keys tries h =
+    passes_first (form_words d form words) _ h.2
+    ∙ ap (λ (ks : List (List ℕ)). first_failing (limit_checks d ks (ranges_in verb) (tries_among form words))) h.0
+    ∙ ap (λ (n : ℕ). first_failing (limit_checks d keys (ranges_in verb) n)) h.1

@@ -81,6 +81,7 @@ significant (keywords.Call verbs.Put) rest = refl
 significant (keywords.Call verbs.Get) rest = refl
 significant (keywords.Call verbs.Sweep) rest = refl
 significant (keywords.Call verbs.IfEqual) rest = refl
+significant (keywords.Call verbs.WaitFor) rest = refl
 
 not_silent : {X : Type 0} (b : Bool) → b ≡ true → b ≡ false → X
 not_silent b t f = absurd cc

@@ -4,12 +4,12 @@ use Rattle.std.specs.Prelude.{is_some, nat_lt, nat_le, count_by}
 use Rattle.std.specs.List.{list_all}
 use Rattle.sync_types.specs.Name.{is_name}
 use Rattle.script_calls.specs.declared.call.Call.{Call}
-use Rattle.workload.specs.declared.limits.TheConstants.{MAX_CALLS, MAX_KEYS, MAX_RANGES, MAX_TURNS}
+use Rattle.workload.specs.declared.limits.TheConstants.{MAX_ALL_TRIES, MAX_CALLS, MAX_KEYS, MAX_RANGES, MAX_TURNS}
 use Rattle.workload.specs.declared.object.ObjectLine.{ObjectLine}
 use Rattle.workload.specs.declared.line.Line.TheVariants as lines
 use Rattle.workload.specs.declared.turn.Turn.{Turn}
 use Rattle.workload.specs.Plan.{word_of}
-use Rattle.workload.specs.Draft.{Draft, declared, names_reference, is_kind, count_of, limit_of, call_count, key_count, range_count, is_range, keys_of, names_object, is_call, is_item, may_follow}
+use Rattle.workload.specs.Draft.{Draft, declared, names_reference, is_kind, count_of, limit_of, call_count, key_count, range_count, is_range, try_count, tries_of, keys_of, names_object, names_second, is_call, is_item, may_follow}
 use Rattle.workload.proofs.Passing.{both, not_true}
 
 pub record ObjectFollows (d : Draft) (o : ObjectLine) (to : Option (List ℕ)) : Type 0 where
@@ -43,25 +43,31 @@ schedule_follows d turns e =
     let second = both items room first.1 in
     record { some = first.0; items = second.0; room = second.1 }
 
-pub record CallFollows (d : Draft) (object : List ℕ) (made : Call) : Type 0 where
+pub record CallFollows (d : Draft) (object : List ℕ) (behind : Option (List ℕ)) (made : Call) : Type 0 where
   pub current : is_some d.current ≡ true
   pub name : is_name object ≡ true
-  pub on : names_object (declared d object) made ≡ true
+  pub on : names_object d.plan.objects (declared d object) made ≡ true
+  pub second : names_second d made.operation behind ≡ true
   pub call : is_call made ≡ true
   pub room : nat_lt (call_count d.plan.scripts) MAX_CALLS ≡ true
   pub keys : nat_le (key_count d.plan.scripts (keys_of made)) MAX_KEYS ≡ true
   pub ranges : nat_le (range_count d.plan.scripts + count_by is_range (made ∷ [])) MAX_RANGES ≡ true
+  pub tries : nat_le (try_count d.plan.scripts + tries_of made.operation) MAX_ALL_TRIES ≡ true
 
-pub call_follows : (d : Draft) (name : List ℕ) (call : Call) → may_follow d (lines.Call name call) ≡ true → CallFollows d name call
-call_follows d name call e =
-    let on = names_object (declared d name) call in
+pub call_follows : (d : Draft) (name : List ℕ) (second : Option (List ℕ)) (call : Call) → may_follow d (lines.Call name second call) ≡ true → CallFollows d name second call
+call_follows d name second call e =
+    let on = names_object d.plan.objects (declared d name) call in
+    let behind = names_second d call.operation second in
     let room = nat_lt (call_count d.plan.scripts) MAX_CALLS in
     let keys = nat_le (key_count d.plan.scripts (keys_of call)) MAX_KEYS in
     let ranges = nat_le (range_count d.plan.scripts + count_by is_range (call ∷ [])) MAX_RANGES in
-    let p1 = both (is_some d.current) (is_name name && (on && (is_call call && (room && (keys && ranges))))) e in
-    let p2 = both (is_name name) (on && (is_call call && (room && (keys && ranges)))) p1.1 in
-    let p3 = both on (is_call call && (room && (keys && ranges))) p2.1 in
-    let p4 = both (is_call call) (room && (keys && ranges)) p3.1 in
-    let p5 = both room (keys && ranges) p4.1 in
-    let p6 = both keys ranges p5.1 in
-    record { current = p1.0; name = p2.0; on = p3.0; call = p4.0; room = p5.0; keys = p6.0; ranges = p6.1 }
+    let tries = nat_le (try_count d.plan.scripts + tries_of call.operation) MAX_ALL_TRIES in
+    let p1 = both (is_some d.current) (is_name name && (on && (behind && (is_call call && (room && (keys && (ranges && tries))))))) e in
+    let p2 = both (is_name name) (on && (behind && (is_call call && (room && (keys && (ranges && tries)))))) p1.1 in
+    let p3 = both on (behind && (is_call call && (room && (keys && (ranges && tries))))) p2.1 in
+    let p4 = both behind (is_call call && (room && (keys && (ranges && tries)))) p3.1 in
+    let p5 = both (is_call call) (room && (keys && (ranges && tries))) p4.1 in
+    let p6 = both room (keys && (ranges && tries)) p5.1 in
+    let p7 = both keys (ranges && tries) p6.1 in
+    let p8 = both ranges tries p7.1 in
+    record { current = p1.0; name = p2.0; on = p3.0; second = p4.0; call = p5.0; room = p6.0; keys = p7.0; ranges = p8.0; tries = p8.1 }

@@ -59,6 +59,7 @@ keyword_at-keyword_word (keywords.Call verbs.Put) = refl
 keyword_at-keyword_word (keywords.Call verbs.Get) = refl
 keyword_at-keyword_word (keywords.Call verbs.Sweep) = refl
 keyword_at-keyword_word (keywords.Call verbs.IfEqual) = refl
+keyword_at-keyword_word (keywords.Call verbs.WaitFor) = refl
 
 same_some : {X : Type 0} (x y : X) → Some x ≡ Some y → x ≡ y
 same_some x y e = cc

@@ -10,6 +10,7 @@ mod PutCounts
 pub mod References
 pub mod CallForms
 mod CallWords
+mod Awaits
 mod FirstFailing
 pub mod OneReading
 pub mod SameLine

@@ -25,17 +25,18 @@ use Rattle.sync_types.specs.declared.pool_call.PoolCall.{PoolCall}
 use Rattle.sync_types.specs.declared.pool_call.PoolCall.TheVariants as pool_calls
 use Rattle.script_calls.specs.declared.call.Call.{Call}
 use Rattle.script_calls.specs.declared.call.ComposedCall.{ComposedCall}
-use Rattle.script_calls.specs.declared.call.ComposedCall.TheVariants.{IfEqual}
+use Rattle.script_calls.specs.declared.call.ComposedCall.TheVariants.{IfEqual, WaitFor}
 use Rattle.script_calls.specs.declared.call.Operation.{Operation}
 use Rattle.script_calls.specs.declared.call.Operation.TheVariants as operations
 use Rattle.sync_types.specs.declared.map_object.MapCall.{MapCall}
 use Rattle.sync_types.specs.declared.map_object.MapCall.TheVariants as map_calls
 use Rattle.workload.specs.declared.keyword.Verb.{Verb}
 use Rattle.workload.specs.declared.keyword.Verb.TheVariants as verbs
-use Rattle.workload.specs.declared.limits.TheConstants.{MAX_AMOUNT, MAX_CODE, MAX_LINE, MAX_PASSES, MAX_WORKERS}
+use Rattle.workload.specs.declared.limits.TheConstants.{MAX_AMOUNT, MAX_CODE, MAX_LINE, MAX_PASSES, MAX_TRIES, MAX_WORKERS}
 use Rattle.sync_types.specs.declared.value.TheConstants.{MAX_VALUE}
 use Rattle.workload.specs.declared.object.ObjectKind.{ObjectKind}
 use Rattle.workload.specs.declared.object.ObjectKind.TheVariants as kinds
+use Rattle.workload.specs.declared.object.ObjectLine.{ObjectLine}
 use Rattle.workload.specs.declared.object.ObjectWord.{ObjectWord}
 use Rattle.workload.specs.declared.object.ObjectWord.TheVariants as words
 use Rattle.workload.specs.declared.line.Line.{Line}
@@ -43,13 +44,14 @@ use Rattle.workload.specs.declared.line.Line.TheVariants as lines
 use Rattle.workload.specs.declared.turn.Turn.{Turn}
 use Rattle.workload.specs.declared.turn.Turn.TheVariants as turns
 use Rattle.workload.specs.KeywordWords.{object_word, verb_word}
-use Rattle.workload.specs.NumberWords.{number_word}
+use Rattle.workload.specs.NumberWords.{number_word, is_tries}
 use Rattle.workload.specs.CallWords.{group_operands, pool_operands, composed_operands, verb_of, operands_of, map_values, map_operands, atomic_operands}
 use Rattle.workload.specs.Words.{spelled, first_spelled, kind_parameters, turn_word}
-use Rattle.workload.specs.Plan.{word_of, is_amount, has_call}
+use Rattle.workload.specs.Plan.{word_of, is_amount, has_call, has_among}
 use Rattle.workload.specs.declared.object.Declared.{Declared}
 use Rattle.workload.proofs.CallWords.{narrow, amount_small}
-use Rattle.workload.specs.Draft.{Draft, declared, may_follow, names_object, is_call, is_operation, is_map_call, is_group_call, is_pool_call, is_composed_call, is_kind, is_reference, names_reference, is_value, is_item}
+use Rattle.workload.proofs.Awaits.{held}
+use Rattle.workload.specs.Draft.{Draft, declared, may_follow, names_object, names_second, is_call, is_operation, is_map_call, is_group_call, is_pool_call, is_composed_call, is_kind, is_reference, names_reference, is_value, is_item}
 use Rattle.workload.proofs.Follows.{object_follows, schedule_follows, call_follows}
 use Rattle.workload.proofs.Numbers.{numerals}
 use Rattle.workload.specs.Lines.{lines_of, words_of, is_clean, is_printable, is_filled}
@@ -302,6 +304,13 @@ composed_operands_fit k (IfEqual v n) on h =
     let first = number_is_word k v on in
     let second = one_decimal n MAX_PASSES (both (nat_lt 0 n) (nat_le n MAX_PASSES) h).1 (omega arith) in
     (pair (is_word (number_word v)) (list_all is_word (decimal n ∷ [])) first.0 second.0, omega (arith, first.1, second.1))
+composed_operands_fit k (WaitFor a v n) on h = absurd cc
+
+wait_operands_fit : (k : AtomicKind) (v : Number) (n : ℕ) → is_of k v ≡ true → is_tries n ≡ true → (list_all is_word (number_word v ∷ decimal n ∷ []) ≡ true) × (widths (number_word v ∷ decimal n ∷ []) ≤ 80)
+wait_operands_fit k v n on h =
+    let first = number_is_word k v on in
+    let second = one_decimal n MAX_TRIES (both (nat_lt 0 n) (nat_le n MAX_TRIES) h).1 (omega arith) in
+    (pair (is_word (number_word v)) (list_all is_word (decimal n ∷ [])) first.0 second.0, omega (arith, first.1, second.1))
 
 parameters_fit : (k : ObjectKind) → is_kind k ≡ true → (list_all is_word (kind_parameters k) ≡ true) × (widths (kind_parameters k) ≤ 21)
 parameters_fit (kinds.WaitGroup n) h = one_decimal n MAX_AMOUNT h (omega arith)
@@ -320,21 +329,35 @@ references_fit d k (Some name) named h =
     let first = name_is_word name (both (is_name name) (is_reference k (declared d name)) named).0 in
     (pair (is_word name) (list_all is_word (kind_parameters k)) first.0 numbers.0, omega (arith, first.1, numbers.1))
 
-operands_fit : (kind : ObjectKind) (o : Operation) → has_call kind o ≡ true → is_operation o ≡ true → (list_all is_word (operands_of o) ≡ true) × (widths (operands_of o) ≤ 80)
-operands_fit kind (operations.Map c) on h = map_operands_fit c h
-operands_fit kind operations.Range on h = (refl, omega arith)
-operands_fit (kinds.Atomic k) (operations.Atomic c) on h = atomic_operands_fit k c on
-operands_fit kind (operations.Mutex c) on h = (refl, omega arith)
-operands_fit kind (operations.RwMutex c) on h = (refl, omega arith)
-operands_fit kind (operations.Cond c) on h = (refl, omega arith)
-operands_fit kind (operations.WaitGroup c) on h = group_operands_fit c h
-operands_fit kind operations.Once on h = (refl, omega arith)
-operands_fit kind operations.OnceFunc on h = (refl, omega arith)
-operands_fit kind operations.OnceValue on h = (refl, omega arith)
-operands_fit kind (operations.Pool c) on h = pool_operands_fit c h
-operands_fit (kinds.Atomic k) (operations.Composed c) on h = composed_operands_fit k c on h
-operands_fit kind (operations.Atomic c) on h = absurd cc
-operands_fit kind (operations.Composed c) on h = absurd cc
+alone_fit : (kind : ObjectKind) (o : Operation) → has_call kind o ≡ true → is_operation o ≡ true → (list_all is_word (operands_of o) ≡ true) × (widths (operands_of o) ≤ 80)
+alone_fit kind (operations.Map c) on h = map_operands_fit c h
+alone_fit kind operations.Range on h = (refl, omega arith)
+alone_fit (kinds.Atomic k) (operations.Atomic c) on h = atomic_operands_fit k c on
+alone_fit kind (operations.Mutex c) on h = (refl, omega arith)
+alone_fit kind (operations.RwMutex c) on h = (refl, omega arith)
+alone_fit kind (operations.Cond c) on h = (refl, omega arith)
+alone_fit kind (operations.WaitGroup c) on h = group_operands_fit c h
+alone_fit kind operations.Once on h = (refl, omega arith)
+alone_fit kind operations.OnceFunc on h = (refl, omega arith)
+alone_fit kind operations.OnceValue on h = (refl, omega arith)
+alone_fit kind (operations.Pool c) on h = pool_operands_fit c h
+alone_fit (kinds.Atomic k) (operations.Composed c) on h = composed_operands_fit k c on h
+alone_fit kind (operations.Atomic c) on h = absurd cc
+alone_fit kind (operations.Composed c) on h = absurd cc
+
+operands_fit : (objects : List ObjectLine) (kind : ObjectKind) (o : Operation) → has_among objects kind o ≡ true → is_operation o ≡ true → (list_all is_word (operands_of o) ≡ true) × (widths (operands_of o) ≤ 80)
+operands_fit objects (kinds.Cond m) (operations.Composed (WaitFor a v n)) on h =
+    let atomic = held objects a v on in
+    wait_operands_fit atomic.2 v n atomic.4 h
+operands_fit objects kind o on h = alone_fit kind o on h
+
+-- what stands behind the name of a call's object: a second name, and operands
+behind_fit : (d : Draft) (o : Operation) (second : Option (List ℕ)) → names_second d o second ≡ true → (list_all is_word (operands_of o) ≡ true) × (widths (operands_of o) ≤ 80)
+    → (list_all is_word (option_to_list second ++ operands_of o) ≡ true) × (widths (option_to_list second ++ operands_of o) ≤ 113)
+behind_fit d o None named operands = (operands.0, omega (arith, operands.1))
+behind_fit d o (Some name) named operands =
+    let first = name_is_word name (both (is_name name) _ named).0 in
+    (pair (is_word name) (list_all is_word (operands_of o)) first.0 operands.0, omega (arith, first.1, operands.1))
 
 verb_fits : (v : Verb) → (is_word (verb_word v) ≡ true) × (length (verb_word v) ≤ 20)
 verb_fits verbs.Load = (refl, omega arith)
@@ -367,16 +390,19 @@ verb_fits verbs.Put = (refl, omega arith)
 verb_fits verbs.Get = (refl, omega arith)
 verb_fits verbs.Sweep = (refl, omega arith)
 verb_fits verbs.IfEqual = (refl, omega arith)
+verb_fits verbs.WaitFor = (refl, omega arith)
 
-call_fits : (o : Option Declared) (name : List ℕ) (c : Call) → names_object o c ≡ true → is_name name ≡ true → is_call c ≡ true → FitsLine (verb_word (verb_of c.operation) ∷ name ∷ operands_of c.operation)
-call_fits None name c on named h = absurd cc
-call_fits (Some found) name c on named h =
+call_fits : (d : Draft) (o : Option Declared) (name : List ℕ) (second : Option (List ℕ)) (c : Call) → names_object d.plan.objects o c ≡ true → names_second d c.operation second ≡ true → is_name name ≡ true → is_call c ≡ true
+    → FitsLine (verb_word (verb_of c.operation) ∷ name ∷ option_to_list second ++ operands_of c.operation)
+call_fits d None name second c on behind named h = absurd cc
+call_fits d (Some found) name second c on behind named h =
+    let words = option_to_list second ++ operands_of c.operation in
     let first = verb_fits (verb_of c.operation) in
-    let second = name_is_word name named in
-    let others = operands_fit found.kind c.operation (both (eqb found.place c.object) (has_call found.kind c.operation) on).1 h in
+    let front = name_is_word name named in
+    let others = behind_fit d c.operation second behind (operands_fit d.plan.objects found.kind c.operation (both (eqb found.place c.object) (has_among d.plan.objects found.kind c.operation) on).1 h) in
     record {
-      all = pair (is_word (verb_word (verb_of c.operation))) (list_all is_word (name ∷ operands_of c.operation)) first.0 (pair (is_word name) (list_all is_word (operands_of c.operation)) second.0 others.0);
-      short = omega (arith, length-join (verb_word (verb_of c.operation)) (name ∷ operands_of c.operation), first.1, second.1, others.1);
+      all = pair (is_word (verb_word (verb_of c.operation))) (list_all is_word (name ∷ words)) first.0 (pair (is_word name) (list_all is_word words) front.0 others.0);
+      short = omega (arith, length-join (verb_word (verb_of c.operation)) (name ∷ words), first.1, front.1, others.1);
     }
 
 object_word_fits : (w : ObjectWord) → (is_word (object_word w) ≡ true) × (length (object_word w) ≤ 20)
@@ -400,7 +426,7 @@ abbrev pub IsNarrow : Line → Type 0
 IsNarrow (lines.Object o r) = Unit {0}
 IsNarrow (lines.Worker w) = Unit {0}
 IsNarrow (lines.Schedule ts) = length ts ≤ 8
-IsNarrow (lines.Call n c) = Unit {0}
+IsNarrow (lines.Call n r c) = Unit {0}
 
 -- a line that may follow fits
 pub line_fits : (d : Draft) (l : Line) → d.plan.workers ≤ MAX_WORKERS → may_follow d l ≡ true → IsNarrow l → FitsLine (spelled l)
@@ -427,9 +453,9 @@ line_fits d (lines.Schedule ts) few f narrow =
       all = pair true (list_all is_word (map turn_word ts)) refl items.0;
       short = omega (arith, length-join (codes "schedule") (map turn_word ts), items.1, narrow);
     }
-line_fits d (lines.Call n c) few f narrow =
-    let h = call_follows d n c f in
-    call_fits (declared d n) n c h.on h.name h.call
+line_fits d (lines.Call n r c) few f narrow =
+    let h = call_follows d n r c f in
+    call_fits d (declared d n) n r c h.on h.second h.name h.call
 
 -- the first line fits
 pub filled_pair : (workers : ℕ) → workers < 2 ^ 64 → FitsLine (first_spelled workers)

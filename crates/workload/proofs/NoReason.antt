@@ -1,17 +1,16 @@
 -- A line that is read has no reason to be refused.
 use Rattle.std.proofs.Common.{◌≡◌, ℕ, ℤ, ◌++◌, ◌+◌, ◌^◌, ◌<◌, ◌≤◌, Bool, true, false, cond, eqb, List, [], ◌∷◌, map, length, Option, Some, None, refl, sym, ap, subst, ◌∙◌, arith, ⊎_elim}
-use Rattle.std.specs.Prelude.{nat_lt, nat_le, is_some, count_by}
+use Rattle.std.specs.Prelude.{nat_lt, nat_le}
 use Rattle.std.specs.List.{list_all, flat_map}
 use Rattle.std.specs.Fmt.{decimal, signed_decimal}
 use Rattle.std.specs.Option.{option_to_list}
 use Rattle.std.proofs.lemmas.Bool.{eqb-true, ltb-true, leb-true, lt-ltb, le-leb}
 use Rattle.std.proofs.lemmas.List.{length-map}
-use Rattle.sync_types.specs.Name.{is_name}
 use Rattle.script_calls.specs.declared.call.Call.{Call}
 use Rattle.sync_types.specs.declared.atomic_object.AtomicKind.TheVariants as types
 use Rattle.workload.specs.declared.keyword.Keyword.{Keyword}
 use Rattle.workload.specs.declared.keyword.Keyword.TheVariants as keywords
-use Rattle.workload.specs.declared.limits.TheConstants.{MAX_AMOUNT, MAX_CODE, MAX_CALLS, MAX_KEYS, MAX_RANGES, MAX_TURNS, MAX_WORKERS}
+use Rattle.workload.specs.declared.limits.TheConstants.{MAX_AMOUNT, MAX_CODE, MAX_RANGES, MAX_TURNS, MAX_WORKERS}
 use Rattle.sync_types.specs.declared.value.TheConstants.{MAX_VALUE}
 use Rattle.workload.specs.declared.object.Declared.{Declared}
 use Rattle.workload.specs.declared.object.ObjectKind.{ObjectKind}
@@ -24,21 +23,21 @@ use Rattle.workload.specs.declared.reason.Reason.{Reason}
 use Rattle.workload.specs.declared.reason.Reason.TheVariants.{BadNumber, LimitReached}
 use Rattle.workload.specs.declared.turn.Turn.{Turn}
 use Rattle.workload.specs.declared.turn.Turn.TheVariants as turns
-use Rattle.workload.specs.Plan.{Plan, word_of, reference_of, is_target, has_call}
+use Rattle.workload.specs.Plan.{Plan, word_of, reference_of, is_target, has_among}
 use Rattle.workload.specs.Lines.{lines_of, words_of, is_significant}
 use Rattle.workload.specs.NumberWords.{is_number, is_number_to, is_amount_word}
 use Rattle.workload.specs.CallWords.{verb_of, operands_of}
 use Rattle.workload.specs.Words.{keyword_of, arguments_of, kind_parameters, turn_word}
-use Rattle.workload.specs.Draft.{Draft, count_of, limit_of, is_kind, names_reference, declared, may_follow, names_object, is_call, is_item, keys_of, call_count, key_count, is_range, range_count}
-use Rattle.workload.specs.Checks.{Check, first_failing, form_of, form_checks, parameters_of, parameters_checks, reference_checks, is_mutex, is_int64, ranges_in, worker_checks, item_checks, line_checks, word_checks, reason_of}
+use Rattle.workload.specs.Draft.{Draft, count_of, limit_of, is_kind, names_reference, declared, may_follow, names_object, is_item, keys_of, range_count, tries_of}
+use Rattle.workload.specs.Checks.{Check, first_failing, call_form, form_checks, parameters_of, parameters_checks, reference_checks, is_mutex, is_int64, ranges_in, worker_checks, item_checks, line_checks, word_checks, reason_of}
 use Rattle.workload.specs.Reads.{Continues, IsRead, ReadsOn, Reads, FirstFault, IsRefused}
 use Rattle.workload.proofs.Passing.{both}
-use Rattle.workload.proofs.Follows.{object_follows, schedule_follows, call_follows}
+use Rattle.workload.proofs.Follows.{object_follows, schedule_follows, CallFollows, call_follows}
 use Rattle.workload.proofs.Numbers.{is_number-decimal, number_of-decimal}
 use Rattle.workload.proofs.FirstFailing.{passes_first, form_passes}
 use Rattle.workload.proofs.CallWords.{amount_passes}
 use Rattle.workload.proofs.References.{Refers, some_reference, no_reference}
-use Rattle.workload.proofs.CallForms.{value_passes, call_form, ranges_of}
+use Rattle.workload.proofs.CallForms.{value_passes, call_passes, ranges_of}
 use Rattle.workload.proofs.Keywords.{keyword_at-keyword_word}
 use Rattle.workload.proofs.OneReading.{IsSmall, read_small, same_read, some_is}
 
@@ -72,21 +71,20 @@ items_all_pass workers (t ∷ ts) few p =
     let parts = both (is_item workers t) (list_all (is_item workers) ts) p in
     passes_first (item_checks workers (turn_word t)) (flat_map (item_checks workers) (map turn_word ts)) (item_passes workers t few parts.0) ∙ items_all_pass workers ts few parts.1
 
-form_of_call : (d : Draft) (found : Declared) (c : Call) → has_call found.kind c.operation ≡ true → is_call c ≡ true → nat_lt (call_count d.plan.scripts) MAX_CALLS ≡ true → nat_le (key_count d.plan.scripts (keys_of c)) MAX_KEYS ≡ true
-    → nat_le (range_count d.plan.scripts + count_by is_range (c ∷ [])) MAX_RANGES ≡ true
-    → first_failing (form_checks d (verb_of c.operation) (form_of (verb_of c.operation) (word_of found.kind)) (operands_of c.operation)) ≡ None
-form_of_call d found c on fits room keys ranges =
-    let few : nat_le (range_count d.plan.scripts + ranges_in (verb_of c.operation)) MAX_RANGES ≡ true = ap (λ (n : ℕ). nat_le (range_count d.plan.scripts + n) MAX_RANGES) (sym (ranges_of c.operation)) ∙ ranges in
-    form_passes d (verb_of c.operation) (form_of (verb_of c.operation) (word_of found.kind)) (operands_of c.operation) (keys_of c) (call_form found.kind c.operation on fits) ∙ rw (room, keys, few) refl
+form_of_call : (d : Draft) (found : Declared) (n : List ℕ) (r : Option (List ℕ)) (c : Call) → has_among d.plan.objects found.kind c.operation ≡ true → CallFollows d n r c
+    → first_failing (form_checks d (verb_of c.operation) (call_form d (verb_of c.operation) (word_of found.kind) (option_to_list r ++ operands_of c.operation)) (option_to_list r ++ operands_of c.operation)) ≡ None
+form_of_call d found n r c on h =
+    let verb = verb_of c.operation in
+    let words = option_to_list r ++ operands_of c.operation in
+    let few : nat_le (range_count d.plan.scripts + ranges_in verb) MAX_RANGES ≡ true = ap (λ (n : ℕ). nat_le (range_count d.plan.scripts + n) MAX_RANGES) (sym (ranges_of c.operation)) ∙ h.ranges in
+    form_passes d verb (call_form d verb (word_of found.kind) words) words (keys_of c) (tries_of c.operation) (call_passes d found.kind r c.operation on h.second h.call) ∙ rw (h.room, h.keys, few, h.tries) refl
 
-call_passes : (d : Draft) (o : Option Declared) (n : List ℕ) (c : Call) → declared d n ≡ o → names_object o c ≡ true → is_some d.current ≡ true → is_name n ≡ true → is_call c ≡ true
-    → nat_lt (call_count d.plan.scripts) MAX_CALLS ≡ true → nat_le (key_count d.plan.scripts (keys_of c)) MAX_KEYS ≡ true
-    → nat_le (range_count d.plan.scripts + count_by is_range (c ∷ [])) MAX_RANGES ≡ true
-    → first_failing (line_checks d (Some (keywords.Call (verb_of c.operation))) (n ∷ operands_of c.operation)) ≡ None
-call_passes d None n c is on current name fits room keys ranges = absurd cc
-call_passes d (Some found) n c is on current name fits room keys ranges =
-    let has = (both (eqb found.place c.object) (has_call found.kind c.operation) on).1 in
-    rw (current, name, is) (form_of_call d found c has fits room keys ranges)
+object_passes : (d : Draft) (o : Option Declared) (n : List ℕ) (r : Option (List ℕ)) (c : Call) → declared d n ≡ o → names_object d.plan.objects o c ≡ true → CallFollows d n r c
+    → first_failing (line_checks d (Some (keywords.Call (verb_of c.operation))) (n ∷ option_to_list r ++ operands_of c.operation)) ≡ None
+object_passes d None n r c is on h = absurd cc
+object_passes d (Some found) n r c is on h =
+    let has = (both (eqb found.place c.object) (has_among d.plan.objects found.kind c.operation) on).1 in
+    rw (h.current, h.name, is) (form_of_call d found n r c has h)
 
 -- what the words behind an object's name need
 abbrev Fits : Draft → ObjectWord → List (List ℕ) → Type 0
@@ -147,9 +145,9 @@ line_passes d (lines.Schedule ts) few f =
     let limit : List Check = (nat_le (length d.plan.schedule + length (map turn_word ts)) MAX_TURNS, LimitReached) ∷ [] in
     rw some (passes_first (flat_map (item_checks d.plan.workers) (map turn_word ts)) limit (items_all_pass d.plan.workers ts few h.items))
     ∙ ap (λ (b : Bool). cond b None (Some LimitReached)) (ap (λ (n : ℕ). nat_le (length d.plan.schedule + n) MAX_TURNS) (length-map ts turn_word) ∙ h.room)
-line_passes d (lines.Call n c) few f =
-    let h = call_follows d n c f in
-    call_passes d (declared d n) n c refl h.on h.current h.name h.call h.room h.keys h.ranges
+line_passes d (lines.Call n r c) few f =
+    let h = call_follows d n r c f in
+    object_passes d (declared d n) n r c refl h.on h
 
 words_pass : (before : Option Draft) (words : List (List ℕ)) (after : Option Draft) → IsSmall before → Continues before words after → first_failing (word_checks before words) ≡ None
 words_pass None words after small h =

@@ -26,7 +26,7 @@ pub line_small : (d : Draft) (line : Line) → d.plan.workers ≤ MAX_WORKERS �
 line_small d (lines.Object o to) h = h
 line_small d (lines.Worker w) h = h
 line_small d (lines.Schedule ts) h = h
-line_small d (lines.Call n c) h = h
+line_small d (lines.Call n r c) h = h
 
 says_small : (before : Option Draft) (words : List (List ℕ)) (after : Option Draft) → IsSmall before → Continues before words after → IsSmall after
 says_small None words after small h = subst IsSmall (sym h.4) h.2

@@ -8,12 +8,13 @@ use Rattle.std.proofs.lemmas.Bool.{eqb-true, ltb-true, leb-true}
 use Rattle.std.proofs.lemmas.Fmt.{decimal_injective}
 use Rattle.script_calls.specs.declared.call.Call.{Call}
 use Rattle.script_calls.specs.declared.call.ComposedCall.{ComposedCall}
-use Rattle.script_calls.specs.declared.call.ComposedCall.TheVariants.{IfEqual}
+use Rattle.script_calls.specs.declared.call.ComposedCall.TheVariants.{IfEqual, WaitFor}
 use Rattle.script_calls.specs.declared.call.Operation.{Operation}
 use Rattle.script_calls.specs.declared.call.Operation.TheVariants as operations
 use Rattle.sync_types.specs.declared.map_object.MapCall.{MapCall}
 use Rattle.sync_types.specs.declared.map_object.MapCall.TheVariants as map_calls
 use Rattle.sync_types.specs.declared.atomic_object.AtomicKind.{AtomicKind}
+use Rattle.sync_types.specs.declared.atomic_object.Number.{Number}
 use Rattle.sync_types.specs.declared.atomic_object.AtomicCall.{AtomicCall}
 use Rattle.sync_types.specs.declared.atomic_object.AtomicCall.TheVariants as atomic_calls
 use Rattle.sync_types.specs.declared.wait_call.CondCall.{CondCall}
@@ -24,7 +25,7 @@ use Rattle.sync_types.specs.declared.lock_call.MutexCall.{MutexCall}
 use Rattle.sync_types.specs.declared.lock_call.MutexCall.TheVariants as mutex_calls
 use Rattle.sync_types.specs.declared.lock_call.RwMutexCall.{RwMutexCall}
 use Rattle.sync_types.specs.declared.lock_call.RwMutexCall.TheVariants as rw_mutex_calls
-use Rattle.sync_types.specs.SequentialAtomic.{is_atomic_call}
+use Rattle.sync_types.specs.SequentialAtomic.{is_of, is_atomic_call}
 use Rattle.workload.specs.declared.keyword.Verb.{Verb}
 use Rattle.workload.specs.declared.keyword.Verb.TheVariants as verbs
 use Rattle.workload.specs.declared.limits.TheConstants.{MAX_AMOUNT, MAX_CODE, MAX_WORKERS}
@@ -32,22 +33,24 @@ use Rattle.sync_types.specs.declared.value.TheConstants.{MAX_VALUE}
 use Rattle.workload.specs.declared.object.Declared.{Declared}
 use Rattle.workload.specs.declared.object.ObjectKind.{ObjectKind}
 use Rattle.workload.specs.declared.object.ObjectKind.TheVariants as kinds
+use Rattle.workload.specs.declared.object.ObjectLine.{ObjectLine}
 use Rattle.workload.specs.declared.line.Line.{Line}
 use Rattle.workload.specs.declared.line.Line.TheVariants as lines
 use Rattle.workload.specs.declared.turn.Turn.{Turn}
 use Rattle.workload.specs.declared.turn.Turn.TheVariants as turns
-use Rattle.workload.specs.Plan.{word_of, is_amount, reference_of, has_call}
+use Rattle.workload.specs.Plan.{word_of, is_amount, reference_of, has_call, has_among}
 use Rattle.workload.specs.KeywordWords.{keyword_word}
-use Rattle.workload.specs.NumberWords.{is_number}
+use Rattle.workload.specs.NumberWords.{is_number, is_tries, number_of, number_word}
 use Rattle.workload.specs.CallWords.{verb_of, map_verb, atomic_verb, mutex_verb, rw_mutex_verb, cond_verb, group_verb, pool_verb, composed_verb, operands_of, map_operands, atomic_operands, group_operands, pool_operands, composed_operands}
 use Rattle.workload.specs.Words.{keyword_of, arguments_of, spelled, kind_parameters, turn_word}
-use Rattle.workload.specs.Draft.{Draft, declared, may_follow, names_object, is_call, is_operation, is_map_call, is_group_call, is_pool_call, is_composed_call, is_kind, names_reference, is_item}
+use Rattle.workload.specs.Draft.{Draft, declared, may_follow, names_object, names_second, is_call, is_operation, is_map_call, is_group_call, is_pool_call, is_composed_call, is_kind, names_reference, is_item}
 use Rattle.workload.proofs.Passing.{both}
 use Rattle.workload.proofs.Follows.{object_follows, schedule_follows, call_follows}
 use Rattle.workload.proofs.References.{Refers, some_reference, no_reference}
 use Rattle.workload.proofs.Numbers.{is_number-decimal}
 use Rattle.workload.proofs.Keywords.{same_keyword}
-use Rattle.workload.proofs.CallWords.{map_call_at, map_call_spelled, atomic_call_at, atomic_call_spelled, signed_of, amount_spelled, group_call_at, group_call_spelled, pool_call_at, pool_call_spelled, composed_call_at, composed_call_spelled}
+use Rattle.workload.proofs.CallWords.{map_call_at, map_call_spelled, atomic_call_at, atomic_call_spelled, signed_of, amount_spelled, group_call_at, group_call_spelled, pool_call_at, pool_call_spelled, composed_call_at, composed_call_spelled, number_read, number_spelled, tries_back}
+use Rattle.workload.proofs.Awaits.{Awaits, awaits, alone_second, no_second}
 
 some_is : {X : Type 0} (x y : X) → Some x ≡ Some y → x ≡ y
 some_is x y e = cc
@@ -154,6 +157,16 @@ no_test (atomic_calls.Add x) (IfEqual v n) e = cc
 no_test (atomic_calls.And x) (IfEqual v n) e = cc
 no_test (atomic_calls.Or x) (IfEqual v n) e = cc
 no_test (atomic_calls.CompareAndSwap x y) (IfEqual v n) e = cc
+no_test c (WaitFor a v n) e = no_wait c e
+  where
+    no_wait : (c : AtomicCall) → atomic_verb c ≡ verbs.WaitFor → ⊥
+    no_wait atomic_calls.Load e = cc
+    no_wait (atomic_calls.Store x) e = cc
+    no_wait (atomic_calls.Swap x) e = cc
+    no_wait (atomic_calls.Add x) e = cc
+    no_wait (atomic_calls.And x) e = cc
+    no_wait (atomic_calls.Or x) e = cc
+    no_wait (atomic_calls.CompareAndSwap x y) e = cc
 
 -- no call of a map's calls is spelled as `range`
 no_range : (c : MapCall (List ℕ)) → map_verb c ≡ verbs.Range → ⊥
@@ -168,40 +181,96 @@ no_range (map_calls.CompareAndDelete k v) e = cc
 no_range map_calls.Clear e = cc
 
 -- a name gives the object of a call
-named : (o : Option Declared) (c d : Call) → names_object o c ≡ true → names_object o d ≡ true → c.object ≡ d.object
-named None c d p q = absurd cc
-named (Some found) c d p q =
-    sym (eqb-true found.place c.object (both (eqb found.place c.object) (has_call found.kind c.operation) p).0)
-    ∙ eqb-true found.place d.object (both (eqb found.place d.object) (has_call found.kind d.operation) q).0
+named : (objects : List ObjectLine) (o : Option Declared) (c d : Call) → names_object objects o c ≡ true → names_object objects o d ≡ true → c.object ≡ d.object
+named objects None c d p q = absurd cc
+named objects (Some found) c d p q =
+    sym (eqb-true found.place c.object (both (eqb found.place c.object) (has_among objects found.kind c.operation) p).0)
+    ∙ eqb-true found.place d.object (both (eqb found.place d.object) (has_among objects found.kind d.operation) q).0
 
-same_operation : (kind : ObjectKind) (a b : Operation) → has_call kind a ≡ true → has_call kind b ≡ true → is_operation a ≡ true → is_operation b ≡ true → verb_of a ≡ verb_of b → operands_of a ≡ operands_of b → a ≡ b
-same_operation kinds.Map (operations.Map c) (operations.Map d) on_c on_d p q v e = ap (λ (x : MapCall (List ℕ)). operations.Map x) (same_map_call c d p q v e)
-same_operation kinds.Map operations.Range operations.Range on_c on_d p q v e = refl
-same_operation kinds.Map (operations.Map c) operations.Range on_c on_d p q v e = absurd (no_range c v)
-same_operation kinds.Map operations.Range (operations.Map d) on_c on_d p q v e = absurd (no_range d (sym v))
-same_operation (kinds.Atomic k) (operations.Atomic c) (operations.Atomic d) on_c on_d p q v e = ap (λ (x : AtomicCall). operations.Atomic x) (same_atomic_call k c d on_c on_d v e)
-same_operation kinds.Mutex (operations.Mutex c) (operations.Mutex d) on_c on_d p q v e = ap (λ (x : MutexCall). operations.Mutex x) (same_mutex_call c d v)
-same_operation kinds.RwMutex (operations.RwMutex c) (operations.RwMutex d) on_c on_d p q v e = ap (λ (x : RwMutexCall). operations.RwMutex x) (same_rw_mutex_call c d v)
-same_operation (kinds.Cond m) (operations.Cond c) (operations.Cond d) on_c on_d p q v e = ap (λ (x : CondCall). operations.Cond x) (same_cond_call c d v)
-same_operation (kinds.WaitGroup n) (operations.WaitGroup c) (operations.WaitGroup d) on_c on_d p q v e = ap (λ (x : WaitGroupCall). operations.WaitGroup x) (same_group_call c d p q v e)
-same_operation (kinds.Once a z) operations.Once operations.Once on_c on_d p q v e = refl
-same_operation (kinds.OnceFunc n) operations.OnceFunc operations.OnceFunc on_c on_d p q v e = refl
-same_operation (kinds.OnceValue n) operations.OnceValue operations.OnceValue on_c on_d p q v e = refl
-same_operation kinds.Pool (operations.Pool c) (operations.Pool d) on_c on_d p q v e = ap (λ (x : PoolCall). operations.Pool x) (same_pool_call c d p q v e)
-same_operation (kinds.Atomic k) (operations.Composed c) (operations.Composed d) on_c on_d p q v e = ap (λ (x : ComposedCall). operations.Composed x) (same_composed_call k c d on_c on_d p q v e)
-same_operation (kinds.Atomic k) (operations.Atomic c) (operations.Composed d) on_c on_d p q v e = absurd (no_test c d v)
-same_operation (kinds.Atomic k) (operations.Composed c) (operations.Atomic d) on_c on_d p q v e = absurd (no_test d c (sym v))
-same_operation kind a b on_c on_d p q v e = absurd cc
+same_alone : (kind : ObjectKind) (a b : Operation) → has_call kind a ≡ true → has_call kind b ≡ true → is_operation a ≡ true → is_operation b ≡ true → verb_of a ≡ verb_of b → operands_of a ≡ operands_of b → a ≡ b
+same_alone kinds.Map (operations.Map c) (operations.Map d) on_c on_d p q v e = ap (λ (x : MapCall (List ℕ)). operations.Map x) (same_map_call c d p q v e)
+same_alone kinds.Map operations.Range operations.Range on_c on_d p q v e = refl
+same_alone kinds.Map (operations.Map c) operations.Range on_c on_d p q v e = absurd (no_range c v)
+same_alone kinds.Map operations.Range (operations.Map d) on_c on_d p q v e = absurd (no_range d (sym v))
+same_alone (kinds.Atomic k) (operations.Atomic c) (operations.Atomic d) on_c on_d p q v e = ap (λ (x : AtomicCall). operations.Atomic x) (same_atomic_call k c d on_c on_d v e)
+same_alone kinds.Mutex (operations.Mutex c) (operations.Mutex d) on_c on_d p q v e = ap (λ (x : MutexCall). operations.Mutex x) (same_mutex_call c d v)
+same_alone kinds.RwMutex (operations.RwMutex c) (operations.RwMutex d) on_c on_d p q v e = ap (λ (x : RwMutexCall). operations.RwMutex x) (same_rw_mutex_call c d v)
+same_alone (kinds.Cond m) (operations.Cond c) (operations.Cond d) on_c on_d p q v e = ap (λ (x : CondCall). operations.Cond x) (same_cond_call c d v)
+same_alone (kinds.WaitGroup n) (operations.WaitGroup c) (operations.WaitGroup d) on_c on_d p q v e = ap (λ (x : WaitGroupCall). operations.WaitGroup x) (same_group_call c d p q v e)
+same_alone (kinds.Once a z) operations.Once operations.Once on_c on_d p q v e = refl
+same_alone (kinds.OnceFunc n) operations.OnceFunc operations.OnceFunc on_c on_d p q v e = refl
+same_alone (kinds.OnceValue n) operations.OnceValue operations.OnceValue on_c on_d p q v e = refl
+same_alone kinds.Pool (operations.Pool c) (operations.Pool d) on_c on_d p q v e = ap (λ (x : PoolCall). operations.Pool x) (same_pool_call c d p q v e)
+same_alone (kinds.Atomic k) (operations.Composed c) (operations.Composed d) on_c on_d p q v e = ap (λ (x : ComposedCall). operations.Composed x) (same_composed_call k c d on_c on_d p q v e)
+same_alone (kinds.Atomic k) (operations.Atomic c) (operations.Composed d) on_c on_d p q v e = absurd (no_test c d v)
+same_alone (kinds.Atomic k) (operations.Composed c) (operations.Atomic d) on_c on_d p q v e = absurd (no_test d c (sym v))
+same_alone kind a b on_c on_d p q v e = absurd cc
 
-same_call : (o : Option Declared) (c d : Call) → names_object o c ≡ true → names_object o d ≡ true → is_call c ≡ true → is_call d ≡ true → verb_of c.operation ≡ verb_of d.operation → operands_of c.operation ≡ operands_of d.operation → c ≡ d
-same_call None c d on_c on_d p q v e = absurd cc
-same_call (Some found) c d on_c on_d p q v e =
-    let operation = same_operation found.kind c.operation d.operation
-    (both (eqb found.place c.object) (has_call found.kind c.operation) on_c).1
-    (both (eqb found.place d.object) (has_call found.kind d.operation) on_d).1
-    p q v e in
-    ap (λ (n : ℕ). record { object = n; operation = c.operation }) (named (Some found) c d on_c on_d)
-    ∙ ap (λ (x : Operation). record { object = d.object; operation = x }) operation
+-- ---- second names
+
+-- the words behind the name, where none of them is a name
+without : (r s : Option (List ℕ)) (xs ys : List (List ℕ)) → r ≡ None → s ≡ None → option_to_list r ++ xs ≡ option_to_list s ++ ys → xs ≡ ys
+without r s xs ys p q e = sym (ap (λ (x : Option (List ℕ)). option_to_list x ++ xs) p) ∙ e ∙ ap (λ (x : Option (List ℕ)). option_to_list x ++ ys) q
+
+-- what the words behind an object's name say
+abbrev behind : Option (List ℕ) → Operation → List (List ℕ)
+behind second o = option_to_list second ++ operands_of o
+
+-- two of operations that an object has alone
+alone_same : (d : Draft) (kind : ObjectKind) (a b : Operation) (r s : Option (List ℕ)) → has_call kind a ≡ true → has_call kind b ≡ true → names_second d a r ≡ true → names_second d b s ≡ true → is_operation a ≡ true → is_operation b ≡ true
+    → verb_of a ≡ verb_of b → behind r a ≡ behind s b → (a ≡ b) × (r ≡ s)
+alone_same d kind a b r s on_a on_b f g p q v e =
+    let none = no_second d a r (alone_second kind a on_a).0 f in
+    let absent = no_second d b s (alone_second kind b on_b).0 g in
+    (same_alone kind a b on_a on_b p q v (without r s (operands_of a) (operands_of b) none absent e), none ∙ sym absent)
+
+-- two of `waitfor`
+wait_same : (d : Draft) (i j : ℕ) (x y : Number) (m n : ℕ) (r s : Option (List ℕ)) → Awaits d i x r → Awaits d j y s → is_tries m ≡ true → is_tries n ≡ true
+    → option_to_list r ++ number_word x ∷ decimal m ∷ [] ≡ option_to_list s ++ number_word y ∷ decimal n ∷ [] → (operations.Composed (WaitFor i x m) ≡ operations.Composed (WaitFor j y n)) × (r ≡ s)
+wait_same d i j x y m n r s f g p q e =
+    let words = heads f.name g.name (number_word x ∷ decimal m ∷ []) (number_word y ∷ decimal n ∷ [])
+    (sym (ap (λ (z : Option (List ℕ)). option_to_list z ++ number_word x ∷ decimal m ∷ []) f.is) ∙ e ∙ ap (λ (z : Option (List ℕ)). option_to_list z ++ number_word y ∷ decimal n ∷ []) g.is) in
+    let found = same_atomic i j f.kind g.kind (some_is _ _ (sym f.found ∙ ap (declared d) words.0 ∙ g.found)) in
+    let numbers = heads (number_word x) (number_word y) (decimal m ∷ []) (decimal n ∷ []) words.1 in
+    let tries : m ≡ n = sym (tries_back m p) ∙ ap number_of (heads (decimal m) (decimal n) [] [] numbers.1).0 ∙ tries_back n q in
+    let fits : is_of g.kind x ≡ true = subst (λ (k : AtomicKind). is_of k x ≡ true) found.1 f.fits in
+    let value : x ≡ y = sym (number_spelled g.kind x fits) ∙ ap (number_read g.kind) numbers.0 ∙ number_spelled g.kind y g.fits in (
+      ap (λ (k : ℕ). operations.Composed (WaitFor k x m)) found.0
+          ∙ ap (λ (z : Number). operations.Composed (WaitFor j z m)) value
+          ∙ ap (λ (k : ℕ). operations.Composed (WaitFor j y k)) tries,
+      f.is ∙ ap (λ (z : List ℕ). Some z) words.0 ∙ sym g.is,
+    )
+  where
+    same_atomic : (i j : ℕ) (k l : AtomicKind) → ◌≡◌ {A = Declared} (record { place = i; kind = kinds.Atomic k }) (record { place = j; kind = kinds.Atomic l }) → (i ≡ j) × (k ≡ l)
+    same_atomic i j k l e = (ap (λ (x : Declared). x.place) e, same_type k l (ap (λ (x : Declared). x.kind) e))
+      where
+        same_type : (k l : AtomicKind) → kinds.Atomic k ≡ kinds.Atomic l → k ≡ l
+        same_type k l e = cc
+
+-- no call of a cond's calls is spelled as `waitfor`
+no_wait : (c : CondCall) → cond_verb c ≡ verbs.WaitFor → ⊥
+no_wait cond_calls.Wait e = cc
+no_wait cond_calls.Signal e = cc
+no_wait cond_calls.Broadcast e = cc
+
+same_operation : (d : Draft) (kind : ObjectKind) (a b : Operation) (r s : Option (List ℕ)) → has_among d.plan.objects kind a ≡ true → has_among d.plan.objects kind b ≡ true → names_second d a r ≡ true → names_second d b s ≡ true
+    → is_operation a ≡ true → is_operation b ≡ true → verb_of a ≡ verb_of b → behind r a ≡ behind s b → (a ≡ b) × (r ≡ s)
+same_operation d (kinds.Cond k) (operations.Composed (WaitFor i x m)) (operations.Composed (WaitFor j y n)) r s on_a on_b f g p q v e = wait_same d i j x y m n r s (awaits d i x m r on_a f) (awaits d j y n s on_b g) p q e
+same_operation d (kinds.Cond k) (operations.Composed (WaitFor i x m)) (operations.Cond c) r s on_a on_b f g p q v e = absurd (no_wait c (sym v))
+same_operation d (kinds.Cond k) (operations.Cond c) (operations.Composed (WaitFor j y n)) r s on_a on_b f g p q v e = absurd (no_wait c v)
+same_operation d (kinds.Cond k) (operations.Cond c) (operations.Cond b) r s on_a on_b f g p q v e = alone_same d (kinds.Cond k) (operations.Cond c) (operations.Cond b) r s on_a on_b f g p q v e
+same_operation d (kinds.Cond k) a b r s on_a on_b f g p q v e = absurd cc
+same_operation d kind a b r s on_a on_b f g p q v e = alone_same d kind a b r s on_a on_b f g p q v e
+
+same_call : (d : Draft) (o : Option Declared) (b c : Call) (r s : Option (List ℕ)) → names_object d.plan.objects o b ≡ true → names_object d.plan.objects o c ≡ true → names_second d b.operation r ≡ true → names_second d c.operation s ≡ true
+    → is_call b ≡ true → is_call c ≡ true → verb_of b.operation ≡ verb_of c.operation → behind r b.operation ≡ behind s c.operation → (b ≡ c) × (r ≡ s)
+same_call d None b c r s on_b on_c f g p q v e = absurd cc
+same_call d (Some found) b c r s on_b on_c f g p q v e =
+    let has = λ (call : Call) (on : names_object d.plan.objects (Some found) call ≡ true). (both (eqb found.place call.object) (has_among d.plan.objects found.kind call.operation) on).1 in
+    let same = same_operation d found.kind b.operation c.operation r s (has b on_b) (has c on_c) f g p q v e in (
+      ap (λ (n : ℕ). record { object = n; operation = b.operation }) (named d.plan.objects (Some found) b c on_b on_c) ∙ ap (λ (x : Operation). record { object = c.object; operation = x }) same.0,
+      same.1,
+    )
 
 -- ---- objects
 
@@ -210,10 +279,6 @@ number_is most m n p q small e = decimal_injective m n (omega (arith, leb-true m
 
 amount_is : (y z : ℤ) → is_amount y ≡ true → is_amount z ≡ true → signed_decimal y ∷ [] ≡ signed_decimal z ∷ [] → y ≡ z
 amount_is y z p q e = sym (amount_spelled y p) ∙ ap signed_of (heads (signed_decimal y) (signed_decimal z) [] [] e).0 ∙ amount_spelled z q
-
--- the words behind the name, where none of them is a name
-without : (r s : Option (List ℕ)) (xs ys : List (List ℕ)) → r ≡ None → s ≡ None → option_to_list r ++ xs ≡ option_to_list s ++ ys → xs ≡ ys
-without r s xs ys p q e = sym (ap (λ (x : Option (List ℕ)). option_to_list x ++ xs) p) ∙ e ∙ ap (λ (x : Option (List ℕ)). option_to_list x ++ ys) q
 
 -- where the first of them is a name, it is the same, and so is the place of what it names
 named_alike : (d : Draft) (k l : ObjectKind) (i j : ℕ) (r s : Option (List ℕ)) (xs ys : List (List ℕ)) → Refers d k i r → Refers d l j s → option_to_list r ++ xs ≡ option_to_list s ++ ys → (i ≡ j) × (r ≡ s) × (xs ≡ ys)
@@ -277,13 +342,14 @@ same_arguments d (lines.Worker i) (lines.Worker j) few f g k e =
     ap (λ (n : ℕ). lines.Worker n) (decimal_injective i j (omega (arith, ltb-true i d.plan.workers f)) (omega (arith, ltb-true j d.plan.workers g)) (heads (decimal i) (decimal j) [] [] e).0)
 same_arguments d (lines.Schedule ts) (lines.Schedule us) few f g k e =
     ap (λ (xs : List Turn). lines.Schedule xs) (same_turns d.plan.workers ts us few (schedule_follows d ts f).items (schedule_follows d us g).items e)
-same_arguments d (lines.Call n c) (lines.Call m b) few f g k e =
-    let words = heads n m (operands_of c.operation) (operands_of b.operation) e in
-    let first = call_follows d n c f in
-    let second = call_follows d m b g in
-    let on : names_object (declared d n) b ≡ true = subst (λ (x : List ℕ). names_object (declared d x) b ≡ true) (sym words.0) second.on in
+same_arguments d (lines.Call n r c) (lines.Call m s b) few f g k e =
+    let words = heads n m (behind r c.operation) (behind s b.operation) e in
+    let first = call_follows d n r c f in
+    let second = call_follows d m s b g in
+    let on : names_object d.plan.objects (declared d n) b ≡ true = subst (λ (x : List ℕ). names_object d.plan.objects (declared d x) b ≡ true) (sym words.0) second.on in
     let verb : verb_of c.operation ≡ verb_of b.operation = cc in
-    ap (λ (x : List ℕ). lines.Call x c) words.0 ∙ ap (λ (x : Call). lines.Call m x) (same_call (declared d n) c b first.on on first.call second.call verb words.1)
+    let same = same_call d (declared d n) c b r s first.on on first.second second.second first.call second.call verb words.1 in
+    ap (λ (x : List ℕ). lines.Call x r c) words.0 ∙ ap (λ (x : Option (List ℕ)). lines.Call m x c) same.1 ∙ ap (λ (x : Call). lines.Call m s x) same.0
 same_arguments d l m few f g k e = absurd cc
 
 -- the words determine the line

@@ -151,11 +151,14 @@ abbrev pub reference_checks : Draft → (ObjectKind → Bool) → List ℕ → L
 reference_checks d test word =
     (is_name word, BadName) ∷ (is_some (declared d word), UnknownName) ∷ (option_map_or (λ found. test found.kind) (declared d word) false, WrongKind) ∷ []
 
--- The operands of a `waitfor` behind the cond's name, by the object that the first of them names: an atomic, a number of its type, and a number of waits.
--- Where the first is refused, the second's type doesn't matter
+-- The number that a `waitfor` waits for, by the kind of the object that its first operand names: one of the atomic's type. Any other kind is refused before
+abbrev pub awaited_number : ObjectKind → Operand
+awaited_number (kinds.Atomic kind) = operands.Number kind
+awaited_number kind = operands.Value
+
+-- the operands of a `waitfor` behind the cond's name, by the object that the first of them names: an atomic, a number of its type, and a number of waits
 abbrev pub wait_for_form : Option Declared → List Operand
-wait_for_form (Some (record { place = place; kind = kinds.Atomic kind })) = operands.Atomic ∷ operands.Number kind ∷ operands.Tries ∷ []
-wait_for_form found = operands.Atomic ∷ operands.Value ∷ operands.Tries ∷ []
+wait_for_form found = operands.Atomic ∷ option_map_or (λ object. awaited_number object.kind) found operands.Value ∷ operands.Tries ∷ []
 
 -- by the words of the operands
 abbrev pub wait_for_words : Draft → List (List ℕ) → List Operand

@@ -136,7 +136,7 @@ fn ranges_in(call: &Call) -> usize
 }
 
 /// How many waits a call may make: those of a `waitfor`.
-fn tries_in(call: &Call) -> usize
+pub fn tries_in(call: &Call) -> usize
     ensures { result ≡ tries_of call.now.operation }
 {
     match &call.operation {

@@ -1,13 +1,14 @@
 //! Laws of the grammar.
-ghost use Rattle.std.specs.Prelude.{◌≡◌, ◌↔◌, ◌⊎◌, ◌<◌, ◌≤◌, ℕ, ◌+◌, ◌-◌, ◌*◌, ◌^◌, [], ◌∷◌, ◌++◌, true, List, Some, None, count_by, length, slice_get, take, drop};
+ghost use Rattle.std.specs.Prelude.{◌≡◌, ◌↔◌, ◌⊎◌, ◌<◌, ◌≤◌, ℕ, ◌+◌, ◌-◌, ◌*◌, ◌^◌, [], ◌∷◌, ◌++◌, true, List, Option, Some, None, count_by, length, slice_get, take, drop};
+ghost use Rattle.std.specs.Option.{option_to_list};
 ghost use Rattle.std.specs.List.{list_any, position_from};
 ghost use Rattle.std.specs.Str.{bytes_eq};
 ghost use Rattle.std.specs.Fmt.{decimal};
 ghost use Rattle.sync_types.specs.declared.name.TheConstants.{MAX_NAME};
 ghost use Rattle.workload.specs.Canonical.{canonical, eights};
 ghost use Rattle.workload.specs.CallWords.{verb_of, operands_of};
-ghost use Rattle.workload.specs.Checks.{Check, first_failing, form_of, form_words, keys_among, ranges_in};
-ghost use Rattle.workload.specs.Draft.{all_keys, distinct_count, is_operation, is_range_operation, operation_keys};
+ghost use Rattle.workload.specs.Checks.{Check, first_failing, call_form, form_words, keys_among, tries_among, ranges_in};
+ghost use Rattle.workload.specs.Draft.{Draft, all_keys, distinct_count, is_operation, is_range_operation, names_second, operation_keys, tries_of};
 ghost use Rattle.workload.specs.Keys.{keys_in, number_in, key_number, key_name};
 ghost use Rattle.workload.specs.Readable.{IsReadable};
 ghost use Rattle.script_calls.specs.declared.call.Call.{Call};
@@ -18,12 +19,12 @@ ghost use Rattle.workload.specs.declared.keyword.Keyword.{Keyword};
 ghost use Rattle.workload.specs.declared.object.ObjectKind.{ObjectKind};
 ghost use Rattle.workload.specs.declared.reason.Reason.{Reason};
 ghost use Rattle.workload.specs.declared.turn.Turn.{Turn};
-ghost use Rattle.workload.specs.Plan.{Plan, word_of, has_call};
+ghost use Rattle.workload.specs.Plan.{Plan, word_of, has_among};
 ghost use Rattle.workload.specs.Reads.{Reads, IsRefused};
 
 use crate::limits::{
-    MAX_AMOUNT, MAX_ATOMICS, MAX_CALLS, MAX_CODE, MAX_INPUT, MAX_KEYS, MAX_LINE, MAX_MAPS,
-    MAX_OTHERS, MAX_PASSES, MAX_RANGES, MAX_TURNS, MAX_WORKERS,
+    MAX_ALL_TRIES, MAX_AMOUNT, MAX_ATOMICS, MAX_CALLS, MAX_CODE, MAX_INPUT, MAX_KEYS, MAX_LINE,
+    MAX_MAPS, MAX_OTHERS, MAX_PASSES, MAX_RANGES, MAX_TRIES, MAX_TURNS, MAX_WORKERS,
 };
 use sync_types::MAX_VALUE;
 
@@ -93,11 +94,16 @@ pub fn checks_go_in_order()
     ensures passes { (xs ys : List Check) → first_failing xs ≡ None → first_failing (xs ++ ys) ≡ first_failing ys }
 {}
 
-/// A call that its object has, with its numbers in range, passes the checks of the words that it is printed as. The keys
-/// among these words are its own, and its word says whether it is a `range`.
+/// A call that its object has among those of the draft, with its numbers in range and its second name, if it has one, that of
+/// the second object: it passes the checks of the words that it is printed as. The keys among these words and the number of
+/// waits that they say are its own, and its word says whether it is a `range`.
 pub fn calls_pass_their_checks()
-    ensures passes { (kind : ObjectKind) (operation : Operation) → has_call kind operation ≡ true → is_operation operation ≡ true → first_failing (form_words (form_of (verb_of operation) (word_of kind)) (operands_of operation)) ≡ None }
-    ensures keys { (kind : ObjectKind) (operation : Operation) → has_call kind operation ≡ true → is_operation operation ≡ true → keys_among (form_of (verb_of operation) (word_of kind)) (operands_of operation) ≡ operation_keys operation }
+    ensures passes { (draft : Draft) (kind : ObjectKind) (second : Option (List ℕ)) (operation : Operation) → has_among draft.plan.objects kind operation ≡ true → names_second draft operation second ≡ true → is_operation operation ≡ true
+        → first_failing (form_words draft (call_form draft (verb_of operation) (word_of kind) (option_to_list second ++ operands_of operation)) (option_to_list second ++ operands_of operation)) ≡ None }
+    ensures keys { (draft : Draft) (kind : ObjectKind) (second : Option (List ℕ)) (operation : Operation) → has_among draft.plan.objects kind operation ≡ true → names_second draft operation second ≡ true → is_operation operation ≡ true
+        → keys_among (call_form draft (verb_of operation) (word_of kind) (option_to_list second ++ operands_of operation)) (option_to_list second ++ operands_of operation) ≡ operation_keys operation }
+    ensures tries { (draft : Draft) (kind : ObjectKind) (second : Option (List ℕ)) (operation : Operation) → has_among draft.plan.objects kind operation ≡ true → names_second draft operation second ≡ true → is_operation operation ≡ true
+        → tries_among (call_form draft (verb_of operation) (word_of kind) (option_to_list second ++ operands_of operation)) (option_to_list second ++ operands_of operation) ≡ tries_of operation }
     ensures ranges { (operation : Operation) → count_by is_range_operation (operation ∷ []) ≡ ranges_in (verb_of operation) }
 {}
 
@@ -107,6 +113,7 @@ pub fn limits()
     ensures workers { (MAX_WORKERS ≡ 32) × (MAX_CALLS ≡ 20000) × (MAX_RANGES ≡ 64) × (MAX_TURNS ≡ 100000) }
     ensures objects { (MAX_MAPS ≡ 16) × (MAX_ATOMICS ≡ 64) × (MAX_OTHERS ≡ 32) × (MAX_KEYS ≡ 4096) }
     ensures passes { MAX_PASSES ≡ 1000 }
+    ensures tries { (MAX_TRIES ≡ 1000) × (MAX_ALL_TRIES ≡ 20000) }
     ensures numbers { (MAX_AMOUNT ≡ 10000) × (MAX_CODE ≡ 1000) × (MAX_VALUE ≡ 2 ^ 63 - 1) }
 {}
 

@@ -10,7 +10,7 @@ use Rattle.workload.proofs.draft.Draft.with_call.Goals as goal
 
 pub overflow_add-result : goal.overflow_add-result
 overflow_add-result c =
-    let room = (call_follows c.args.self c.args.name c.args.call c.requires).room in
+    let room = (call_follows c.args.self c.args.name c.args.second c.args.call c.requires).room in
     omega (arith, ltb-true _ _ room, c.self.invariant.calls, ap (λ d. call_count d.plan.scripts) c.self.view_is)
 
 pub invariant_of-result : goal.invariant_of-result
@@ -18,7 +18,7 @@ invariant_of-result c =
     let d = c.self.inside in
     let plan : Plan = record { workers = d.workers; objects = d.objects; scripts = d.scripts; schedule = d.schedule } in
     let worker = c.in-Some.worker in
-    let indexed = subst (λ w. IsIndexed plan w d.names d.keys d.calls d.ranges) c.in-Some.is c.self.invariant in
-    let follows = subst (λ draft. may_follow draft (lines.Call c.args.name c.args.call) ≡ true) (sym c.self.view_is) c.requires in
-    let at : may_follow (record { plan = plan; current = Some worker }) (lines.Call c.args.name c.args.call) ≡ true = subst (λ w. may_follow (record { plan = plan; current = w }) (lines.Call c.args.name c.args.call) ≡ true) c.in-Some.is follows in
-    rw (c.ranges_in-more_ranges.ensures, c.in_ok-push_at.ensures.ok, c.in_ok-insert_keys.ensures) (indexed_call plan worker d.names d.keys d.calls d.ranges c.args.name c.args.call indexed at)
+    let indexed = subst (λ w. IsIndexed plan w d.names d.keys d.calls d.ranges d.tries) c.in-Some.is c.self.invariant in
+    let follows = subst (λ draft. may_follow draft (lines.Call c.args.name c.args.second c.args.call) ≡ true) (sym c.self.view_is) c.requires in
+    let at : may_follow (record { plan = plan; current = Some worker }) (lines.Call c.args.name c.args.second c.args.call) ≡ true = subst (λ w. may_follow (record { plan = plan; current = w }) (lines.Call c.args.name c.args.second c.args.call) ≡ true) c.in-Some.is follows in
+    rw (c.ranges_in-more_ranges.ensures, c.tries_in-more_tries.ensures, c.in_ok-push_at.ensures.ok, c.in_ok-insert_keys.ensures) (indexed_call plan worker d.names d.keys d.calls d.ranges d.tries c.args.name c.args.second c.args.call indexed at)
