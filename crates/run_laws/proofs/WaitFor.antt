@@ -3,15 +3,10 @@ use Rattle.std.proofs.Common.{◌≡◌, ◌≢◌, ◌↔◌, ℕ, zero, suc, B
 use Rattle.std.specs.List.{AllByRecursion, flat_map}
 use Rattle.std.proofs.lemmas.Bool.{false≢true, true≢false}
 use Rattle.std.proofs.lemmas.Option.{none-some, same_Some}
-use Rattle.sync_types.specs.declared.atomic_object.AtomicCall.TheVariants.{Load}
-use Rattle.sync_types.specs.declared.atomic_object.AtomicReply.TheVariants.{Held}
 use Rattle.sync_types.specs.declared.atomic_object.Number.{Number}
 use Rattle.sync_types.specs.SequentialAtomic.{is_same}
 use Rattle.sync_model.specs.declared.item.Item.{Item}
 use Rattle.sync_model.specs.declared.item.SharedCall.{SharedCall}
-use Rattle.sync_model.specs.declared.item.SharedCall.TheVariants as calls
-use Rattle.sync_model.specs.declared.item.SharedReply.{SharedReply}
-use Rattle.sync_model.specs.declared.item.SharedReply.TheVariants as answers
 use Rattle.sync_model.specs.SharedHistory.{IsReply, contents_at}
 use Rattle.workload.specs.Plan.{Plan}
 use Rattle.run_record.specs.declared.made.Made.{Made}
