@@ -8,7 +8,7 @@ ghost use Rattle.sync_types.specs.declared.name.TheConstants.{MAX_NAME};
 ghost use Rattle.workload.specs.Canonical.{canonical, eights};
 ghost use Rattle.workload.specs.CallWords.{verb_of, operands_of};
 ghost use Rattle.workload.specs.Checks.{Check, first_failing, call_form, form_words, keys_among, tries_among, ranges_in};
-ghost use Rattle.workload.specs.Draft.{Draft, all_keys, distinct_count, is_operation, is_range_operation, names_second, operation_keys, tries_of};
+ghost use Rattle.workload.specs.Draft.{Draft, all_keys, declared, distinct_count, is_operation, is_range_operation, names_second, operation_keys, tries_of};
 ghost use Rattle.workload.specs.Keys.{keys_in, number_in, key_number, key_name};
 ghost use Rattle.workload.specs.Readable.{IsReadable};
 ghost use Rattle.script_calls.specs.declared.call.Call.{Call};
@@ -16,7 +16,9 @@ ghost use Rattle.script_calls.specs.declared.call.Operation.{Operation};
 ghost use Rattle.workload.specs.KeywordWords.{keyword_at, keyword_word};
 ghost use Rattle.workload.specs.NumberWords.{is_number, number_of};
 ghost use Rattle.workload.specs.declared.keyword.Keyword.{Keyword};
+ghost use Rattle.workload.specs.declared.object.Declared.{Declared};
 ghost use Rattle.workload.specs.declared.object.ObjectKind.{ObjectKind};
+ghost use Rattle.workload.specs.declared.object.ObjectLine.{ObjectLine};
 ghost use Rattle.workload.specs.declared.reason.Reason.{Reason};
 ghost use Rattle.workload.specs.declared.turn.Turn.{Turn};
 ghost use Rattle.workload.specs.Plan.{Plan, word_of, has_among};
@@ -92,6 +94,11 @@ pub fn numbers()
 pub fn checks_go_in_order()
     ensures fails { (xs ys : List Check) (reason : Reason) → first_failing xs ≡ Some reason → first_failing (xs ++ ys) ≡ Some reason }
     ensures passes { (xs ys : List Check) → first_failing xs ≡ None → first_failing (xs ++ ys) ≡ first_failing ys }
+{}
+
+/// A name that is declared finds an object of this kind at this place.
+pub fn names_find_their_objects()
+    ensures { (draft : Draft) (name : List ℕ) (found : Declared) → declared draft name ≡ Some found → (object : ObjectLine) × (slice_get draft.plan.objects found.place ≡ Some object) × (object.kind ≡ found.kind) }
 {}
 
 /// A call that its object has among those of the draft, with its numbers in range and its second name, if it has one, that of

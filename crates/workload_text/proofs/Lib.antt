@@ -5,3 +5,5 @@ mod LineLemmas
 mod ReadLemmas
 pub mod CallWords
 mod ChainLemmas
+mod WaitLemmas
+mod PlainForms

@@ -4,12 +4,15 @@ use Rattle.std.specs.Option.{option_to_list}
 use Rattle.sync_types.specs.Name.{is_name}
 use Rattle.std.specs.List.{list_all, flat_map}
 use Rattle.script_calls.specs.declared.call.Operation.{Operation}
+use Rattle.sync_types.specs.declared.atomic_object.AtomicKind.{AtomicKind}
 use Rattle.workload.specs.declared.fault.LineFault.{LineFault}
 use Rattle.workload.specs.declared.fault.LineFault.TheVariants as faults
 use Rattle.workload.specs.declared.keyword.Keyword.{Keyword}
 use Rattle.workload.specs.declared.keyword.Operand.{Operand}
 use Rattle.workload.specs.declared.keyword.Verb.{Verb}
+use Rattle.workload.specs.declared.keyword.Verb.TheVariants as verbs
 use Rattle.workload.specs.declared.object.ObjectKind.{ObjectKind}
+use Rattle.workload.specs.declared.object.ObjectKind.TheVariants as kinds
 use Rattle.workload.specs.declared.object.ObjectWord.{ObjectWord}
 use Rattle.workload.specs.declared.turn.Turn.{Turn}
 use Rattle.workload.specs.declared.limits.TheConstants.{MAX_WORKERS}
@@ -17,10 +20,10 @@ use Rattle.workload.specs.declared.line.Line.{Line}
 use Rattle.workload.specs.KeywordWords.{keyword_at}
 use Rattle.workload.specs.CallWords.{verb_of, operands_of}
 use Rattle.workload.specs.Words.{spelled, first_spelled, keyword_of, arguments_of, kind_parameters, turn_word}
-use Rattle.workload.specs.Plan.{word_of, has_operation}
+use Rattle.workload.specs.Plan.{word_of, has_operation, has_among}
 use Rattle.workload.specs.Lines.{is_short, is_clean, words_of, is_significant}
-use Rattle.workload.specs.Draft.{Draft, declared, may_follow, names_reference, is_kind, is_operation, is_item}
-use Rattle.workload.specs.Checks.{Check, first_failing, line_checks, form_of, form_words, parameter_words, reference_checks, item_checks, first_checks, checks_of}
+use Rattle.workload.specs.Draft.{Draft, started, declared, may_follow, names_reference, names_second, is_kind, is_operation, is_item}
+use Rattle.workload.specs.Checks.{Check, first_failing, line_checks, form_of, form_words, call_form, wait_for_words, is_atomic, parameter_words, reference_checks, item_checks, first_checks, checks_of}
 
 -- the fault is the first check that fails, unless memory ran out
 abbrev pub IsFault : List Check → LineFault → Type 0
@@ -41,9 +44,13 @@ IsLine draft word arguments result =
     (λ line. (may_follow draft line ≡ true) × (word ∷ arguments ≡ spelled line))
     (IsFault (line_checks draft (keyword_at word) arguments))
 
+-- a draft that declares nothing. By it operands are checked that name no object, for which any draft does
+abbrev pub blank : Draft
+blank = started 0
+
 -- words of this form, which are these keys and then numbers spelled so, or the first check of them that fails
 abbrev pub IsOperands : {X : Type 0} → (X → Type 0) → List Operand → List (List ℕ) → Result X LineFault → Type 0
-IsOperands Is form words result = MatchResult result (λ x. Is x × (first_failing (form_words (Some form) words) ≡ None)) (IsFault (form_words (Some form) words))
+IsOperands Is form words result = MatchResult result (λ x. Is x × (first_failing (form_words blank (Some form) words) ≡ None)) (IsFault (form_words blank (Some form) words))
 
 -- an operation of this verb with these operands, in range, that objects of this word have
 abbrev pub IsCallOf : ObjectWord → Verb → List (List ℕ) → Operation → Type 0
@@ -52,7 +59,23 @@ IsCallOf word verb words operation =
 
 -- such an operation, or the first check that fails
 abbrev pub IsCall : ObjectWord → Verb → List (List ℕ) → Result Operation LineFault → Type 0
-IsCall word verb words result = MatchResult result (IsCallOf word verb words) (IsFault (form_words (form_of verb word) words))
+IsCall word verb words result = MatchResult result (IsCallOf word verb words) (IsFault (form_words blank (form_of verb word) words))
+
+-- an operation of this verb that an object of this kind has in the draft, with the name of a second object, if it has one, and these words behind the name of the first
+abbrev pub IsCallIn : Draft → ObjectKind → Verb → List (List ℕ) → Option (List ℕ) × Operation → Type 0
+IsCallIn d kind verb words said =
+    (verb_of said.1 ≡ verb) × (option_to_list said.0 ++ operands_of said.1 ≡ words) × (is_operation said.1 ≡ true) × (names_second d said.1 said.0 ≡ true) × (has_among d.plan.objects kind said.1 ≡ true)
+
+-- such an operation, or the first check that fails
+abbrev pub IsCallOn : Draft → ObjectKind → Verb → List (List ℕ) → Result (Option (List ℕ) × Operation) LineFault → Type 0
+IsCallOn d kind verb words result = MatchResult result (IsCallIn d kind verb words) (IsFault (form_words d (call_form d verb (word_of kind) words) words))
+
+-- the name of an atomic, and a `waitfor` of it
+abbrev pub IsWait : Draft → List (List ℕ) → Result (List ℕ × Operation) LineFault → Type 0
+IsWait d words result =
+    MatchResult result
+    (λ said. (mutex : ℕ) → IsCallIn d (kinds.Cond mutex) verbs.WaitFor words (Some said.0, said.1))
+    (IsFault (form_words d (Some (wait_for_words d words)) words))
 
 -- the name and the place of an object of this kind that is declared, or the first check that fails
 abbrev pub IsReferenceTo : Draft → ObjectKind → (ObjectKind → Bool) → List ℕ → Result (List ℕ × ℕ) LineFault → Type 0
@@ -60,6 +83,13 @@ IsReferenceTo d kind test word result =
     MatchResult result
     (λ found. (found.0 ≡ word) × (is_name word ≡ true) × (declared d word ≡ Some (record { place = found.1; kind = kind })))
     (IsFault (reference_checks d test word))
+
+-- the name, the place and the type of an atomic that is declared, or the first check that fails
+abbrev pub IsAtomicOf : Draft → List ℕ → Result (List ℕ × ℕ × AtomicKind) LineFault → Type 0
+IsAtomicOf d word result =
+    MatchResult result
+    (λ found. (found.0 ≡ word) × (is_name word ≡ true) × (declared d word ≡ Some (record { place = found.1; kind = kinds.Atomic found.2 })))
+    (IsFault (reference_checks d is_atomic word))
 
 -- what these words say behind an object's name, with the name of the object to which it refers, or the first check that fails
 abbrev pub IsKindOf : Draft → ObjectWord → List (List ℕ) → Result (ObjectKind × Option (List ℕ)) LineFault → Type 0

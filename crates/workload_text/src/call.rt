@@ -1,6 +1,7 @@
-//! Which call an operation is.
+//! Which call an operation is, and which objects it names beside its own.
 ghost use Rattle.std.specs.Prelude.{◌≡◌};
 ghost use Rattle.workload.specs.CallWords.{map_verb, atomic_verb, mutex_verb, rw_mutex_verb, cond_verb, group_verb, pool_verb, composed_verb, verb_of};
+ghost use Rattle.workload.specs.Plan.{second_of};
 
 use script_calls::{ComposedCall, Operation};
 use sync_types::{
@@ -104,6 +105,7 @@ pub fn composed_verb(call: ComposedCall) -> Verb
 {
     match call {
         ComposedCall::IfEqual { .. } => Verb::IfEqual,
+        ComposedCall::WaitFor { .. } => Verb::WaitFor,
     }
 }
 
@@ -124,5 +126,15 @@ pub fn verb(operation: &Operation) -> Verb
         Operation::OnceValue => Verb::Value,
         Operation::Pool(call) => pool_verb(*call),
         Operation::Composed(call) => composed_verb(*call),
+    }
+}
+
+/// The place of a second object that an operation names: the atomic that a `waitfor` loads.
+pub fn second(operation: &Operation) -> Option<usize>
+    ensures { result ≡ second_of operation.now }
+{
+    match operation {
+        Operation::Composed(ComposedCall::WaitFor { atomic, .. }) => Some(*atomic),
+        _ => None,
     }
 }

@@ -7,10 +7,11 @@ ghost use Rattle.workload.specs.NumberWords.{is_passes, number_word};
 ghost use Rattle.workload.specs.Plan.{is_amount};
 ghost use Rattle.workload.specs.Checks.{bits_form, first_failing, form_words};
 ghost use Rattle.sync_types.specs.declared.value.TheConstants.{MAX_VALUE};
-ghost use Rattle.workload_text.specs.LineResult.{IsFault, IsOperands, IsCall};
+ghost use Rattle.workload_text.specs.LineResult.{blank, IsFault, IsOperands, IsCall, IsWait, IsCallOn};
 
+use crate::object_reading::read_atomic;
 use crate::word_reading::{
-    read_amount, read_name, read_none, read_number, read_passes, read_value,
+    read_amount, read_name, read_none, read_number, read_passes, read_tries, read_value,
 };
 use script_calls::{ComposedCall, Operation};
 use std::alloc::Global;
@@ -18,10 +19,11 @@ use sync_types::{
     AtomicCall, AtomicKind, CondCall, MAX_VALUE, MapCall, MutexCall, Name, Number, PoolCall,
     RwMutexCall, WaitGroupCall,
 };
+use workload::draft::Draft;
 use workload::fault::LineFault;
 use workload::keyword::{Operand, Verb};
-use workload::laws::checks_go_in_order;
-use workload::object::ObjectWord;
+use workload::laws::{checks_go_in_order, names_find_their_objects};
+use workload::object::{ObjectKind, ObjectWord};
 use workload::reason::Reason;
 
 /// A call that has no operands.
@@ -150,7 +152,7 @@ fn read_test(kind: AtomicKind, words: &[&[u8]]) -> Result<(Number, u32), LineFau
 
 /// A number for `add`, `and` or `or`, which a bool hasn't.
 fn read_bits(kind: AtomicKind, words: &[&[u8]]) -> Result<Number, LineFault>
-    ensures { MatchResult result (λ n. (has_bits kind ≡ true) × (is_of kind n ≡ true) × (map (λ word. word.now) words.now ≡ number_word n ∷ []) × (first_failing (form_words (bits_form kind) (map (λ word. word.now) words.now)) ≡ None)) (IsFault (form_words (bits_form kind) (map (λ word. word.now) words.now))) }
+    ensures { MatchResult result (λ n. (has_bits kind ≡ true) × (is_of kind n ≡ true) × (map (λ word. word.now) words.now ≡ number_word n ∷ []) × (first_failing (form_words blank (bits_form kind) (map (λ word. word.now) words.now)) ≡ None)) (IsFault (form_words blank (bits_form kind) (map (λ word. word.now) words.now))) }
 {
     match kind {
         AtomicKind::Bool => Err(LineFault::Refused(Reason::WrongKind)),
@@ -244,7 +246,7 @@ fn read_pool_call(verb: Verb, words: &[&[u8]]) -> Result<Operation, LineFault>
 }
 
 /// A call on an object of this word.
-pub fn read_operation(
+fn read_operation(
     alloc: Global,
     word: ObjectWord,
     verb: Verb,
@@ -282,5 +284,61 @@ pub fn read_operation(
             _ => Err(LineFault::Refused(Reason::WrongKind)),
         },
         ObjectWord::Pool => read_pool_call(verb, words),
+    }
+}
+
+/// The name of an atomic, a value of its type, and how many waits may be made.
+fn read_wait(alloc: Global, draft: &Draft, words: &[&[u8]]) -> Result<(Name, Operation), LineFault>
+    ensures { IsWait draft.now (map (λ word. word.now) words.now) result }
+{
+    checks_go_in_order();
+    names_find_their_objects();
+    let [atomic, value, tries] = words else {
+        return Err(LineFault::Refused(Reason::WrongNumberOfWords));
+    };
+    let (name, atomic, kind) = read_atomic(alloc, draft, atomic)?;
+    let value = read_number(kind, value)?;
+    let tries = read_tries(tries)?;
+    Ok((
+        name,
+        Operation::Composed(ComposedCall::WaitFor {
+            atomic,
+            value,
+            tries,
+        }),
+    ))
+}
+
+/// A `waitfor` on an object of this kind, with the name of its atomic.
+fn read_wait_for(
+    alloc: Global,
+    draft: &Draft,
+    kind: ObjectKind,
+    words: &[&[u8]],
+) -> Result<(Option<Name>, Operation), LineFault>
+    ensures { IsCallOn draft.now kind Verb.WaitFor (map (λ word. word.now) words.now) result }
+{
+    match kind {
+        ObjectKind::Cond { .. } => {
+            let (atomic, call) = read_wait(alloc, draft, words)?;
+            Ok((Some(atomic), call))
+        }
+        _ => Err(LineFault::Refused(Reason::WrongKind)),
+    }
+}
+
+/// A call on an object of this kind, with the name of a second object, if it names one.
+pub fn read_call_on(
+    alloc: Global,
+    draft: &Draft,
+    kind: ObjectKind,
+    verb: Verb,
+    words: &[&[u8]],
+) -> Result<(Option<Name>, Operation), LineFault>
+    ensures { IsCallOn draft.now kind verb (map (λ word. word.now) words.now) result }
+{
+    match verb {
+        Verb::WaitFor => read_wait_for(alloc, draft, kind, words),
+        _ => Ok((None, read_operation(alloc, kind.word(), verb, words)?)),
     }
 }

@@ -1,23 +1,24 @@
 //! The words of a call in a line of the report, as a workload's text spells them.
-ghost use Rattle.std.specs.Prelude.{◌∷◌, map};
+ghost use Rattle.std.specs.Prelude.{◌∷◌, map, slice_get};
+ghost use Rattle.std.specs.Option.{option_to_list};
 ghost use Rattle.workload.specs.KeywordWords.{verb_word};
 ghost use Rattle.workload.specs.NumberWords.{number_word};
 ghost use Rattle.workload.specs.CallWords.{verb_of, operands_of};
-ghost use Rattle.workload.specs.Canonical.{behind_spaces};
+ghost use Rattle.workload.specs.Canonical.{behind_spaces, name_of, second_name};
 ghost use Rattle.workload_text.specs.Numbers.{numbers_in};
 ghost use Rattle.workload_text.specs.Adding.{Adds, HasRoom};
 ghost use Rattle.workload_text.specs.ReportLines.{call_words};
 
-use crate::call::verb;
+use crate::call::{second, verb};
 use crate::line::{push_atomic_word, push_word};
 use crate::operands::{Numbers, operands_of};
 use script_calls::{Call, Operation};
 use workload::ObjectLine;
 use workload::object::name_at;
 
-/// The most bytes that the words of a call have in a line: a word of up to 9 bytes, two names and two
-/// numbers, each behind a space.
-pub const WORDS_ROOM: usize = 118;
+/// The most bytes that the words of a call have in a line: a word of up to 9 bytes, the names of the call's object, of a
+/// second one and of a key, and two numbers, each behind a space.
+pub const WORDS_ROOM: usize = 151;
 
 /// Adds the word of an operation behind a space.
 #[tactic(auto, using(crate::proofs::CallWords::verb_short))]
@@ -55,12 +56,23 @@ fn push_operands(line: &mut Vec<u8>, operation: &Operation)
     push_numbers(line, numbers);
 }
 
+/// Adds the names of a call's objects, each behind a space.
+fn push_names(line: &mut Vec<u8>, objects: &[ObjectLine], call: &Call)
+    requires { HasRoom line.old 66 }
+    ensures { Adds line.old line.new (behind_spaces (name_of (slice_get objects.now call.now.object) ∷ option_to_list (second_name objects.now call.now.operation))) 66 }
+{
+    push_word(line, name_at(objects, call.object));
+    if let Some(place) = second(&call.operation) {
+        push_word(line, name_at(objects, place));
+    }
+}
+
 /// Adds the words of a call, each behind a space.
 pub fn push_call(line: &mut Vec<u8>, objects: &[ObjectLine], call: &Call)
     requires { HasRoom line.old WORDS_ROOM }
     ensures { Adds line.old line.new (behind_spaces (call_words objects.now call.now)) WORDS_ROOM }
 {
     push_verb(line, &call.operation);
-    push_word(line, name_at(objects, call.object));
+    push_names(line, objects, call);
     push_operands(line, &call.operation);
 }

@@ -3,7 +3,7 @@ ghost use Rattle.std.specs.Prelude.{◌≡◌, [], map, length};
 ghost use Rattle.sync_types.specs.declared.atomic_object.AtomicKind.TheVariants as AtomicKind;
 ghost use Rattle.workload.specs.Plan.{word_of};
 ghost use Rattle.workload.specs.Checks.{parameters_of, is_mutex, is_int64};
-ghost use Rattle.workload_text.specs.LineResult.{IsReferenceTo, IsKindOf};
+ghost use Rattle.workload_text.specs.LineResult.{IsReferenceTo, IsAtomicOf, IsKindOf};
 ghost use Rattle.workload.specs.declared.object.ObjectKind.TheVariants as ObjectKind;
 
 use crate::word_reading::{read_amount, read_name, read_none, read_number_to};
@@ -45,6 +45,27 @@ fn read_int64(alloc: Global, draft: &Draft, word: &[u8]) -> Result<(Name, usize)
                 kind: ObjectKind::Atomic(AtomicKind::Int64),
             },
         ) => Ok((name, place)),
+        Some(_) => Err(LineFault::Refused(Reason::WrongKind)),
+    }
+}
+
+/// An atomic that is declared before: its name, its place and its type.
+pub fn read_atomic(
+    alloc: Global,
+    draft: &Draft,
+    word: &[u8],
+) -> Result<(Name, usize, AtomicKind), LineFault>
+    ensures { IsAtomicOf draft.now word.now result }
+{
+    let name = read_name(alloc, word)?;
+    match draft.declared(word) {
+        None => Err(LineFault::Refused(Reason::UnknownName)),
+        Some(
+            Declared {
+                place,
+                kind: ObjectKind::Atomic(kind),
+            },
+        ) => Ok((name, place, kind)),
         Some(_) => Err(LineFault::Refused(Reason::WrongKind)),
     }
 }

@@ -1,4 +1,4 @@
-//! What the line of a call says behind its object's name: a key, and up to two numbers.
+//! What the line of a call says behind the names of its objects: a key, and up to two numbers.
 ghost use Rattle.std.specs.Prelude.{◌≡◌, ◌++◌, map};
 ghost use Rattle.std.specs.Fmt.{decimal};
 ghost use Rattle.std.specs.Option.{option_to_list, option_copied};
@@ -10,14 +10,15 @@ use script_calls::{ComposedCall, Operation};
 use sync_types::{AtomicCall, MapCall, Name, Number, PoolCall, WaitGroupCall};
 
 /// The numbers of a call, in order. A value of a map and an item of a pool are of the type `Uint64` here,
-/// an amount for a wait group is of `Int32`, and the number of calls that an `ifeq` passes over of `Uint32`.
+/// an amount for a wait group is of `Int32`, and the number of calls that an `ifeq` passes over or of waits that a
+/// `waitfor` may make is of `Uint32`.
 #[derive(Clone, Copy)]
 pub enum Numbers {
     /// The call has no number.
     Empty,
     /// It has one.
     One(Number),
-    /// It has two: the old one and the new one of a `cas`, or those of an `ifeq`.
+    /// It has two: the old one and the new one of a `cas`, or those of an `ifeq` or a `waitfor`.
     Two(Number, Number),
 }
 
@@ -74,12 +75,13 @@ fn pool_numbers(call: PoolCall) -> Numbers
     }
 }
 
-/// The value that an atomic is compared with, and how many calls are passed over.
+/// The value that an atomic is compared with, and how many calls are passed over or waits may be made.
 fn composed_numbers(call: ComposedCall) -> Numbers
     ensures { map number_word (numbers_in result) ≡ composed_operands call }
 {
     match call {
         ComposedCall::IfEqual { value, passes } => Numbers::Two(value, Number::Uint32(passes)),
+        ComposedCall::WaitFor { value, tries, .. } => Numbers::Two(value, Number::Uint32(tries)),
     }
 }
 

@@ -1,5 +1,5 @@
 //! The canonical text of a workload.
-ghost use Rattle.std.specs.Prelude.{◌≡◌, ◌∷◌, ◌++◌, [], map, IfOk, OnOk};
+ghost use Rattle.std.specs.Prelude.{◌≡◌, ◌∷◌, ◌++◌, [], map, slice_get, IfOk, OnOk};
 ghost use Rattle.std.specs.Fmt.{decimal, signed_decimal};
 ghost use Rattle.std.specs.Option.{option_to_list};
 ghost use Rattle.workload.specs.KeywordWords.{keyword_word};
@@ -8,10 +8,10 @@ ghost use Rattle.workload.specs.CallWords.{operands_of};
 ghost use Rattle.workload.specs.Words.{turn_word, kind_parameters, spelled};
 ghost use Rattle.workload.specs.declared.line.Line.TheVariants as Line;
 ghost use Rattle.workload.specs.Reads.{Reads};
-ghost use Rattle.workload.specs.Canonical.{text_line, call_line, object_line, reference_name, script_lines, eights, canonical_lines, canonical, behind_spaces, lines_text};
+ghost use Rattle.workload.specs.Canonical.{text_line, call_line, object_line, name_of, reference_name, second_name, script_lines, eights, canonical_lines, canonical, behind_spaces, lines_text};
 ghost use Rattle.workload_text.specs.Numbers.{numbers_in};
 
-use crate::call::verb;
+use crate::call::{second, verb};
 use crate::operands::{Numbers, operands_of};
 use script_calls::{Call, Operation};
 use std::alloc::{AllocError, Global};
@@ -91,12 +91,28 @@ fn put_operands(alloc: Global, text: &mut Vec<u8>, operation: &Operation) -> Res
     put_numbers(alloc, text, numbers)
 }
 
-/// Writes the line of a call on the object of a name.
-fn put_call(alloc: Global, text: &mut Vec<u8>, name: &[u8], call: &Call) -> Result<(), AllocError>
-    ensures { OnOk result (text.new.items ≡ text.old.items ++ text_line (spelled (Line.Call name.now call.now))) }
+/// Writes the names of a call's objects, each behind a space.
+fn put_names(text: &mut Vec<u8>, objects: &[ObjectLine], call: &Call) -> Result<(), AllocError>
+    ensures { OnOk result (text.new.items ≡ text.old.items ++ behind_spaces (name_of (slice_get objects.now call.now.object) ∷ option_to_list (second_name objects.now call.now.operation))) }
+{
+    put_word(text, name_at(objects, call.object))?;
+    match second(&call.operation) {
+        None => Ok(()),
+        Some(place) => put_word(text, name_at(objects, place)),
+    }
+}
+
+/// Writes the line of a call.
+fn put_call(
+    alloc: Global,
+    text: &mut Vec<u8>,
+    objects: &[ObjectLine],
+    call: &Call,
+) -> Result<(), AllocError>
+    ensures { OnOk result (text.new.items ≡ text.old.items ++ text_line (spelled (call_line objects.now call.now))) }
 {
     put_keyword(text, Keyword::Call(verb(&call.operation)))?;
-    put_word(text, name)?;
+    put_names(text, objects, call)?;
     put_operands(alloc, text, &call.operation)?;
     text.push(b'\n')?;
     Ok(())
@@ -193,7 +209,7 @@ fn put_calls(
     ensures { OnOk result (text.new.items ≡ text.old.items ++ lines_text (map (call_line objects.now) calls.now)) }
 {
     for call in calls {
-        put_call(alloc, text, name_at(objects, call.object), call)?;
+        put_call(alloc, text, objects, call)?;
     }
     Ok(())
 }

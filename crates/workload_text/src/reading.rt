@@ -2,22 +2,24 @@
 ghost use Rattle.std.specs.Prelude.{◌≡◌, ◌<◌, true, map, MatchResult, None};
 ghost use Rattle.std.specs.Fmt.{decimal};
 ghost use Rattle.workload.specs.Words.{turn_word};
-ghost use Rattle.workload.specs.Draft.{is_item, keys_of};
+ghost use Rattle.workload.specs.Draft.{is_item, keys_of, tries_of};
 ghost use Rattle.workload.specs.Checks.{worker_checks, item_checks, ranges_in, limit_checks, first_failing};
 ghost use Rattle.workload_text.specs.LineResult.{IsFault, IsTurns, IsWorkers, IsLineOf, IsLine};
 
-use crate::call_reading::read_operation;
+use crate::call_reading::read_call_on;
 use crate::number::{is_number, number};
 use crate::object_reading::{parameter_count, read_kind};
 use crate::word_reading::read_name;
 use script_calls::Call;
 use std::alloc::Global;
 use sync_types::{MAX_VALUE, Seq};
-use workload::draft::Draft;
+use workload::draft::{Draft, tries_in};
 use workload::fault::LineFault;
 use workload::keyword::{Keyword, Verb, read_keyword};
 use workload::laws::{calls_pass_their_checks, checks_go_in_order, keywords};
-use workload::limits::{MAX_CALLS, MAX_KEYS, MAX_RANGES, MAX_TURNS, MAX_WORKERS};
+use workload::limits::{
+    MAX_ALL_TRIES, MAX_CALLS, MAX_KEYS, MAX_RANGES, MAX_TURNS, MAX_WORKERS,
+};
 use workload::line::Line;
 use workload::object::{ObjectLine, ObjectWord};
 use workload::reason::Reason;
@@ -57,13 +59,18 @@ fn read_turn(workers: u32, word: &[u8]) -> Result<Turn, LineFault>
 
 /// Whether one more call is within the limits.
 fn check_limits(draft: &Draft, verb: Verb, call: &Call) -> Result<(), LineFault>
-    ensures { MatchResult result (λ _. first_failing (limit_checks draft.now (keys_of call.now) (ranges_in verb)) ≡ None) (IsFault (limit_checks draft.now (keys_of call.now) (ranges_in verb))) }
+    ensures { MatchResult result (λ _. first_failing (limit_checks draft.now (keys_of call.now) (ranges_in verb) (tries_of call.now.operation)) ≡ None) (IsFault (limit_checks draft.now (keys_of call.now) (ranges_in verb) (tries_of call.now.operation))) }
 {
     let ranges = match verb {
         Verb::Range => draft.ranges().saturating_add(1),
         _ => draft.ranges(),
     };
-    if draft.calls() >= MAX_CALLS || draft.keys_with_call(call) > MAX_KEYS || ranges > MAX_RANGES {
+    let tries = draft.tries().saturating_add(tries_in(call));
+    if draft.calls() >= MAX_CALLS
+        || draft.keys_with_call(call) > MAX_KEYS
+        || ranges > MAX_RANGES
+        || tries > MAX_ALL_TRIES
+    {
         return Err(LineFault::Refused(Reason::LimitReached));
     }
     Ok(())
@@ -90,13 +97,13 @@ fn read_call(
     let Some(found) = draft.declared(name) else {
         return Err(LineFault::Refused(Reason::UnknownName));
     };
-    let operation = read_operation(alloc, found.kind.word(), verb, words)?;
+    let (second, operation) = read_call_on(alloc, draft, found.kind, verb, words)?;
     let call = Call {
         object: found.place,
         operation,
     };
     check_limits(draft, verb, &call)?;
-    Ok(Line::Call(object, call))
+    Ok(Line::Call(object, second, call))
 }
 
 /// A line that declares an object.

@@ -3,7 +3,7 @@ ghost use Rattle.std.specs.Prelude.{◌≡◌, ◌∷◌, [], ◌≤◌, true, m
 ghost use Rattle.std.specs.Fmt.{decimal, signed_decimal};
 ghost use Rattle.sync_types.specs.Name.{is_name};
 ghost use Rattle.sync_types.specs.SequentialAtomic.{is_of};
-ghost use Rattle.workload.specs.NumberWords.{is_number_to, is_amount_word, is_passes, is_passes_word, is_number_word, number_word};
+ghost use Rattle.workload.specs.NumberWords.{is_number_to, is_amount_word, is_passes, is_passes_word, is_tries, is_tries_word, is_number_word, number_word};
 ghost use Rattle.workload.specs.Plan.{is_amount};
 ghost use Rattle.workload.specs.Checks.{operand_check};
 ghost use Rattle.workload_text.specs.LineResult.{IsFault, IsOperands};
@@ -15,7 +15,7 @@ use sync_types::name::is_name;
 use sync_types::{AtomicKind, MAX_VALUE, Name, Number};
 use workload::fault::LineFault;
 use workload::keyword::Operand;
-use workload::limits::MAX_PASSES;
+use workload::limits::{MAX_PASSES, MAX_TRIES};
 use workload::reason::Reason;
 
 /// The name that a word is.
@@ -64,6 +64,16 @@ pub fn read_passes(word: &[u8]) -> Result<u32, LineFault>
 {
     match number(word, MAX_PASSES) {
         Some(passes) if passes > 0 => Ok(passes as u32),
+        _ => Err(LineFault::Refused(Reason::BadNumber)),
+    }
+}
+
+/// How many waits may be made.
+pub fn read_tries(word: &[u8]) -> Result<u32, LineFault>
+    ensures { MatchResult result (λ tries. (decimal tries ≡ word.now) × (is_tries tries ≡ true) × (is_tries_word word.now ≡ true)) (IsFault (operand_check Operand.Tries word.now ∷ [])) }
+{
+    match number(word, MAX_TRIES) {
+        Some(tries) if tries > 0 => Ok(tries as u32),
         _ => Err(LineFault::Refused(Reason::BadNumber)),
     }
 }
