@@ -140,7 +140,7 @@ module _ (plan : Plan) (x before place : ℕ) where
   whole_both other operation o target pair some idle out = absurd pair
 
 -- the line of the object at a place
-line_there : (plan : Plan) (objects : List ObjectState) (place : ℕ) (o : ObjectState) → map kind_of objects ≡ map (λ (line : ObjectLine). line.kind) plan.objects → slice_get objects place ≡ Some o
+pub line_there : (plan : Plan) (objects : List ObjectState) (place : ℕ) (o : ObjectState) → map kind_of objects ≡ map (λ (line : ObjectLine). line.kind) plan.objects → slice_get objects place ≡ Some o
     → (line : ObjectLine) × (slice_get plan.objects place ≡ Some line) × (kind_of o ≡ line.kind)
 line_there plan objects place o same at = by_line (slice_get plan.objects place) refl
   where

@@ -85,7 +85,7 @@ abbrev pub CanBe : {O : Type 0} → Part O → Type 0
 CanBe part = (items : List Made) × (answer : CallAnswer _) × part items answer
 
 -- and it may meet a halt
-abbrev CanHalt : {O : Type 0} → Part O → Type 0
+abbrev pub CanHalt : {O : Type 0} → Part O → Type 0
 CanHalt part = (items : List Made) × part items (Halted UnlockOfUnlockedMutex)
 
 halted : {O : Type 0} (part : Part O) → CanHalt part → CanBe part
@@ -94,7 +94,7 @@ halted part (items, spells) = (items, Halted UnlockOfUnlockedMutex, spells)
 read_halts : {O P : Type 0} (f : O → P) (part : Part O) → CanHalt part → CanHalt (read_as f part)
 read_halts f part (items, spells) = (items, (Halted UnlockOfUnlockedMutex, spells, refl))
 
-then_halts : {O P : Type 0} (first : Part O) (next : O → Part P) → CanHalt first → CanHalt (and_then first next)
+pub then_halts : {O P : Type 0} (first : Part O) (next : O → Part P) → CanHalt first → CanHalt (and_then first next)
 then_halts first next (items, spells) = (items, (items, [], Halted UnlockOfUnlockedMutex, sym (append-nil items), spells, (refl, refl)))
 
 stage_halts : {G O E R : Type 0} (event : E → ObjectEvent) (answer : R → ObjectReply) (event_of : G → ℕ → E) (meaning : G → R → Step G O) (object : ℕ) (stage : G) → CanHalt (stages event answer event_of meaning object stage)
@@ -135,7 +135,7 @@ group_can object group_calls.Wait false = group_whole object group_calls.Wait
 group_can object (group_calls.Add delta) waits = group_whole object (group_calls.Add delta)
 group_can object group_calls.Done waits = group_whole object group_calls.Done
 
-cond_can : (object other : ℕ) (call : CondCall) (has waits : Bool) → CanHalt (cond_left object other call has waits)
+pub cond_can : (object other : ℕ) (call : CondCall) (has waits : Bool) → CanHalt (cond_left object other call has waits)
 cond_can object other cond_calls.Wait has true = read_halts (λ locked. replies.Returned) (stages events.Mutex answered.Mutex mutex_event mutex_meaning other mutex_stage.Resume) (stage_halts events.Mutex answered.Mutex mutex_event mutex_meaning other mutex_stage.Resume)
 cond_can object other cond_calls.Wait true false = then_halts (stages events.Cond answered.Cond cond_event cond_meaning object cond_stage.Leave) _ (stage_halts events.Cond answered.Cond cond_event cond_meaning object cond_stage.Leave)
 cond_can object other cond_calls.Wait false false = then_halts (stages events.Cond answered.Cond cond_event cond_meaning object cond_stage.Ticket) _ (stage_halts events.Cond answered.Cond cond_event cond_meaning object cond_stage.Ticket)

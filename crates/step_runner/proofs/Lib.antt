@@ -67,3 +67,7 @@ mod WithinKeeps
 mod WithinLeft
 mod WithinLemmas
 mod WithinUses
+mod SpeltWithin
+mod WaitBegins
+mod WaitCan
+mod WaitSpelt

@@ -108,3 +108,25 @@ module _ (worker moment cond atomic : ℕ) (value : Number) (tries : ℕ) where
 
     pub led : Leading → (begun : ℕ) (objects : List ObjectState) → Before objects → Leads objects (wait_for_items worker moment cond atomic value tries begun objects) (wait_for_turn worker moment cond atomic value tries begun objects).0.0
     led leads begun objects before = takes Before Led Led (leading leads) begun objects before
+
+  -- what each turn of a wait keeps
+  pub turns_keep : (P : List ObjectState → Type 0) → ((objects : List ObjectState) → P objects → P (wait_turn objects).0) → (begun : ℕ) (objects : List ObjectState) → P objects
+      → P (wait_for_turn worker moment cond atomic value tries begun objects).0.0
+  turns_keep P turn begun objects is = led (λ objects. Unit {0}) (λ old made new. P old → P new) (record {
+    nowhere = λ objects is. is;
+    on = λ first middle last made later one two is. two (one is);
+    stays = λ objects before. tt;
+    turn = λ objects before. turn objects;
+    load = λ objects before is. is;
+  }) begun objects tt is
+
+  -- what is so of the items of each turn at objects, and of those of turns one after the other
+  pub all_items : (P : List Item → Type 0) → P [] → ((one two : List Item) → P one → P two → P (one ++ two)) → ((call : Call) (objects : List ObjectState) → P (items_at call worker moment objects)) → (begun : ℕ) (objects : List ObjectState)
+      → P (wait_for_items worker moment cond atomic value tries begun objects)
+  all_items P none more each begun objects = led (λ objects. Unit {0}) (λ old made new. P made) (record {
+    nowhere = λ objects. none;
+    on = λ first middle last made later one two. more made later one two;
+    stays = λ objects before. tt;
+    turn = λ objects before. each (wait_on cond) objects;
+    load = λ objects before. each (load_of atomic) objects;
+  }) begun objects tt

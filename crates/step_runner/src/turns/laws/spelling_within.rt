@@ -22,7 +22,10 @@ ghost use Rattle.step_runner.specs.Within.{IsIdle};
 use crate::turns::laws::spelling::{
     calls_are_entered_whole, items_are_their_workers, turns_spell_their_calls,
 };
-use crate::turns::laws::{turns_keep_kinds_and_machines, workers_stand_in_their_calls};
+use crate::turns::laws::{
+    machines_tell_where_callers_stand, maps_keep_to_the_keys_of_calls,
+    turns_keep_kinds_and_machines, workers_stand_in_their_calls,
+};
 
 /// The items of a worker's turn spell what was left of its call, up to what is left behind the turn. So a turn that completes the
 /// call spells all that was left, and its reply is read off the items. Another's turn leaves of the call what it was.
@@ -40,9 +43,10 @@ pub fn turns_spell_what_was_left()
         → EachAt (λ place. IsIdle worker) objects → EachAt (λ place. IsIdle worker) (turn_within call other moment begun objects).0.0 }
 {
     turns_keep_kinds_and_machines();
+    machines_tell_where_callers_stand();
     workers_stand_in_their_calls();
+    maps_keep_to_the_keys_of_calls();
     turns_spell_their_calls();
-    calls_are_entered_whole();
 }
 
 /// A worker that stands nowhere enters its next call with all of it left: whatever items spell what is left, spell the call. What is
