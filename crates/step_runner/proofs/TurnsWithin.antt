@@ -5,16 +5,13 @@ use Rattle.std.proofs.lemmas.Bool.{leb-false}
 use Rattle.std.proofs.lemmas.List.{append-nil}
 use Rattle.sync_types.specs.declared.atomic_object.Number.{Number}
 use Rattle.script_calls.specs.declared.call.Call.{Call}
-use Rattle.script_calls.specs.declared.call.ComposedCall.TheVariants.{WaitFor}
-use Rattle.script_calls.specs.declared.call.Operation.{Operation}
-use Rattle.script_calls.specs.declared.call.Operation.TheVariants as operations
 use Rattle.step_runner.specs.declared.turns.answer.Answer.{Answer}
 use Rattle.step_runner.specs.declared.turns.answer.Answer.TheVariants as answers
 use Rattle.step_runner.specs.declared.turns.object_state.ObjectState.{ObjectState}
 use Rattle.step_runner.specs.Completes.{IsCompleted}
 use Rattle.step_runner.specs.Items.{Item, items_at}
 use Rattle.step_runner.specs.TurnAtObjects.{turn_at}
-use Rattle.step_runner.specs.TurnWithin.{wait_on, load_of, is_met, Taken, begin_wait, tells, unless_last, unless_met, look, behind_wait, wait_for_turn, turn_within, unless_last_items, unless_met_items, look_items, behind_wait_items, wait_for_items, items_within}
+use Rattle.step_runner.specs.TurnWithin.{wait_on, load_of, is_met, Taken, begin_wait, tells, unless_last, unless_met, look, behind_wait, wait_for_turn, unless_last_items, unless_met_items, look_items, behind_wait_items, wait_for_items}
 
 -- the objects behind a turn with which a wait begins
 pub begun_objects : (begun : ℕ) (step : List ObjectState × Answer) → (begin_wait begun step).0.0 ≡ step.0
