@@ -1,7 +1,6 @@
 mod CallBounds
 mod EndLemmas
 mod MadeLemmas
-mod MetCalls
 mod OneTurnCalls
 mod Numbered
 mod PlacedRun
@@ -62,14 +61,13 @@ mod RwSpelled
 mod Spelled
 mod TurnOwn
 mod WaitSpelled
-mod SpeltWithin
-mod WaitBegins
-mod WaitCan
-mod WaitSpelt
-mod WithinTurns
 mod TurnsWithin
 mod WaitTurns
 mod WithinKeeps
 mod WithinLeft
 mod WithinLemmas
 mod WithinUses
+mod SpeltWithin
+mod WaitBegins
+mod WaitCan
+mod WaitSpelt

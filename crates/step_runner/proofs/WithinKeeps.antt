@@ -1,5 +1,5 @@
 -- What a turn before a call or within it keeps of keys, of room in pools and of where workers wait, and what it answers.
-use Rattle.std.proofs.Common.{◌≡◌, ℕ, suc, ◌≤◌, Bool, true, false, ◌&&◌, ◌==◌, List, [], map, Option, None, refl, sym, ◌∙◌, subst, arith}
+use Rattle.std.proofs.Common.{◌≡◌, ℕ, ◌≤◌, Bool, true, false, ◌&&◌, ◌==◌, List, [], map, Option, None, refl, sym, ◌∙◌, subst, arith}
 use Rattle.std.specs.Prelude.{if◌then◌else◌}
 use Rattle.std.proofs.lemmas.Bool.{false≢true}
 use Rattle.sync_types.specs.declared.atomic_object.Number.{Number}
@@ -26,7 +26,7 @@ use Rattle.step_runner.specs.Stands.{IsOutBut, waits_at, waits_behind}
 use Rattle.step_runner.specs.StandsWithin.{ReadyBy, IsReadyWithin, waits_by, waits_within}
 use Rattle.step_runner.specs.TurnAtObjects.{turn_at}
 use Rattle.step_runner.specs.TurnWithin.{wait_on, Taken, begin_wait, wait_for_turn, turn_by_operation, turn_within}
-use Rattle.step_runner.proofs.TurnsWithin.{Steps, takes, Leading, led, begun_objects}
+use Rattle.step_runner.proofs.TurnsWithin.{Steps, takes, begun_objects, turns_keep}
 use Rattle.step_runner.proofs.WithinLemmas.{Any, Both, Stays, both_stay, Kinds, begun_answer, begun_waits}
 
 -- ---- keys
@@ -105,13 +105,7 @@ module _ (law : RoomLaw) (worker moment : ℕ) (left : ℕ → ℕ) where
   by_room (operations.Composed (WaitFor atomic value tries)) object begun objects few room place o at =
       let taken = wait_for_turn worker moment object atomic value tries begun objects in
       subst (λ (n : ℕ). HasRoomFor n o) (sym (left_same taken.1 _ (left place) (no_put place object (operations.Composed (WaitFor atomic value tries)) refl)))
-      (led worker moment object atomic value tries Any (λ old made new. Room old → Room new) (record {
-        nowhere = λ objects room. room;
-        on = λ first middle last made later one two room. two (one room);
-        stays = λ objects before. tt;
-        turn = λ objects before. wait_room object objects;
-        load = λ objects before room. room;
-      }) begun objects tt room place o at)
+      (turns_keep worker moment object atomic value tries Room (wait_room object) begun objects room place o at)
   by_room operation object begun objects few room place o at = law worker moment left (record { object = object; operation = operation }) objects few room place o at
 
 pub within_room : RoomLaw → (worker moment begun : ℕ) (left : ℕ → ℕ) (call : Call) (objects : List ObjectState) → put_of call.object call ≤ left call.object → EachAt (λ place. HasRoomFor (left place)) objects
