@@ -334,7 +334,7 @@ module _ (plan : Plan) (are : AreKeys (keys_in plan.scripts)) (objects : AreObje
 
 scripts_few : (plan : Plan) → IsReadable plan → length plan.scripts < 2 ^ 64
 scripts_few plan readable =
-    let valid = and_parts (eqb (length plan.scripts) plan.workers) (list_all (list_all (λ call. is_on (slice_get plan.objects call.object) call)) plan.scripts && (list_all (is_turn plan.workers) plan.schedule && list_all (λ object. refers plan.objects object.kind) plan.objects)) readable.valid in
+    let valid = and_parts (eqb (length plan.scripts) plan.workers) (list_all (list_all (λ call. is_on plan.objects (slice_get plan.objects call.object) call)) plan.scripts && (list_all (is_turn plan.workers) plan.schedule && list_all (λ object. refers plan.objects object.kind) plan.objects)) readable.valid in
     omega (arith, eqb-true (length plan.scripts) plan.workers valid.0, readable.few_workers)
 
 pub report_tells : (plan : Plan) → IsNumbered (keys_in plan.scripts) → IsReadable plan → ReportTellsWhatIsLeft plan
