@@ -119,7 +119,7 @@ OwnLaw = (workers worker moment : ℕ) (call : Call) (objects : List ObjectState
     → IsOutBut (waits_behind (turn_at call worker moment objects).1 (waits_at (map kind_of objects) call)) worker (turn_at call worker moment objects).0
 
 -- one that is out everywhere is out but at any place
-out_anywhere : (but : Option ℕ) (worker : ℕ) (objects : List ObjectState) → IsOutBut None worker objects → IsOutBut but worker objects
+pub out_anywhere : (but : Option ℕ) (worker : ℕ) (objects : List ObjectState) → IsOutBut None worker objects → IsOutBut but worker objects
 out_anywhere but worker objects out place object at ne = out place object at (λ e. cc)
 
 completed_out : (a : Answer) (at : Option ℕ) (worker : ℕ) (objects : List ObjectState) → IsCompleted a → IsOutBut (waits_behind a at) worker objects → IsOutBut None worker objects

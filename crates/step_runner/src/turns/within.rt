@@ -7,7 +7,6 @@ ghost use Rattle.step_runner.specs.TurnAtObjects.{turn_at};
 ghost use Rattle.step_runner.specs.TurnWithin.{wait_on, is_met, tells, begin_wait, look, wait_for_turn, turn_within};
 
 use crate::turns::answer::Answer;
-use crate::turns::laws::turns_keep_kinds_and_machines;
 use crate::turns::object_state::ObjectState;
 use crate::turns::stages::Taker;
 use crate::turns::turn::{take_turn_at, take_wait_turn};
@@ -85,7 +84,6 @@ fn take_wait_for_turn(
     if begun == 0 {
         return look(objects, awaited, begun, taker);
     }
-    turns_keep_kinds_and_machines();
     match take_wait_turn(objects, awaited.cond, taker) {
         Answer::Completed(_) => look(objects, awaited, begun, taker),
         answer => (begun, answer),
