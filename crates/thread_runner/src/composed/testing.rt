@@ -38,7 +38,8 @@ fn met(value: Number, answer: CallAnswer) -> Answer<Result<bool, Misuse>>
     }
 }
 
-/// Loads the atomic at a place among the workload's objects, and answers whether it holds the number. It may wait for other callers.
+/// Loads the atomic at a place among the workload's objects, and answers whether it holds the number. It may wait for other
+/// callers.
 pub(crate) fn test_at<S: Shared, R: Wait>(
     rt: &R,
     catalog: &Catalog<S>,

@@ -32,7 +32,8 @@ fn is_unmet(tested: &Answer<Result<bool, Misuse>>) -> bool
 }
 
 // Tests the atomic at a place. While it doesn't hold the number, and fewer waits were made than these tries, it waits on the cond
-// at a place, whose mutex is at another one, and tests the atomic again. It answers the last test.
+// at a place, whose mutex is at another one, and tests the atomic again. It answers the last test. Nothing is taken off the calls
+// that a pass is good for, so the tries need no room there.
 fn wait_until<S: Shared, C: Clock, R: Wait>(
     rt: &R,
     worker: &Worker<S::Mark, C>,
@@ -76,8 +77,8 @@ fn wait_until<S: Shared, C: Clock, R: Wait>(
     test_at(rt, catalog, caller, atomic, value)
 }
 
-/// Waits on the cond at a place, whose mutex is at that one, until the atomic at the third one holds the number, and so often at most.
-/// It answers whether the atomic's last load found the number.
+/// Makes a `waitfor` on the cond at a place, whose mutex is at another one: it waits there until the atomic holds the number, but
+/// no more often than these tries. It answers whether the last load of the atomic found the number. It may wait for other callers.
 pub(crate) fn wait_for_at<S: Shared, C: Clock, R: Wait>(
     rt: &R,
     worker: &Worker<S::Mark, C>,
