@@ -124,6 +124,12 @@ turn_referring call worker moment objects object other target at some there =
 pub is_found : (objects : List ObjectState) (place : ℕ) (object found : ObjectState) → slice_get objects place ≡ Some object → found ≡ get_or objects place found → found ≡ object
 is_found objects place object found at is = is ∙ get_or_from_slice_get objects place object found at
 
+-- what is read of the object at the call's place is what that object refers to
+pub refers_as_read : (objects : List ObjectState) (place : ℕ) (object found : ObjectState) (read o : Option ℕ) → slice_get objects place ≡ Some object
+    → read ≡ reference_of (kind_of (get_or objects place found)) → read ≡ o → reference_of (kind_of object) ≡ o
+refers_as_read objects place object found read o at reads is =
+    ap (λ (o : ObjectState). reference_of (kind_of o)) (sym (get_or_from_slice_get objects place object found at)) ∙ sym reads ∙ is
+
 -- at two objects, the first of which stands beside the others meanwhile
 pub set_aside : (operation : Operation) (worker moment : ℕ) (objects : List ObjectState) (place other : ℕ) (beside object target found found_target new new_target : ObjectState) (answer : Answer) → other ≢ place
     → slice_get objects place ≡ Some object → slice_get objects other ≡ Some target → found ≡ get_or objects place found → found_target ≡ get_or (set objects place beside) other found_target

@@ -29,7 +29,7 @@ set_other (x ∷ xs) zero (suc k) next apart = refl
 set_other (x ∷ xs) (suc i) zero next apart = refl
 set_other (x ∷ xs) (suc i) (suc k) next apart = set_other xs i k next (λ same. apart (ap suc same))
 
-one_found : {X : Type 0} {a b : X} → Some a ≡ Some b → a ≡ b
+pub one_found : {X : Type 0} {a b : X} → Some a ≡ Some b → a ≡ b
 one_found e = cc
 
 -- what is so of each object behind a write, where it was so of each other one

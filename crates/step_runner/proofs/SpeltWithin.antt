@@ -39,7 +39,7 @@ use Rattle.step_runner.proofs.GoesOn.{CanBe}
 use Rattle.step_runner.proofs.WaitBegins.{wait_there, wait_kept, waited_then, left_unbegun, left_begun}
 use Rattle.step_runner.proofs.WaitCan.{waits_can, waited_can, read_can}
 use Rattle.step_runner.proofs.WaitSpelt.{TurnLaws, own_within}
-use Rattle.step_runner.proofs.WithinTurns.{turns_keep, all_items}
+use Rattle.step_runner.proofs.TurnsWithin.{turns_keep, all_items}
 
 abbrev pub call_of : ℕ → Operation → Call
 call_of place operation = record { object = place; operation = operation }

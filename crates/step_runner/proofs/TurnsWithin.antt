@@ -5,16 +5,13 @@ use Rattle.std.proofs.lemmas.Bool.{leb-false}
 use Rattle.std.proofs.lemmas.List.{append-nil}
 use Rattle.sync_types.specs.declared.atomic_object.Number.{Number}
 use Rattle.script_calls.specs.declared.call.Call.{Call}
-use Rattle.script_calls.specs.declared.call.ComposedCall.TheVariants.{WaitFor}
-use Rattle.script_calls.specs.declared.call.Operation.{Operation}
-use Rattle.script_calls.specs.declared.call.Operation.TheVariants as operations
 use Rattle.step_runner.specs.declared.turns.answer.Answer.{Answer}
 use Rattle.step_runner.specs.declared.turns.answer.Answer.TheVariants as answers
 use Rattle.step_runner.specs.declared.turns.object_state.ObjectState.{ObjectState}
 use Rattle.step_runner.specs.Completes.{IsCompleted}
 use Rattle.step_runner.specs.Items.{Item, items_at}
 use Rattle.step_runner.specs.TurnAtObjects.{turn_at}
-use Rattle.step_runner.specs.TurnWithin.{wait_on, load_of, is_met, Taken, begin_wait, tells, unless_last, unless_met, look, behind_wait, wait_for_turn, turn_within, unless_last_items, unless_met_items, look_items, behind_wait_items, wait_for_items, items_within}
+use Rattle.step_runner.specs.TurnWithin.{wait_on, load_of, is_met, Taken, begin_wait, tells, unless_last, unless_met, look, behind_wait, wait_for_turn, unless_last_items, unless_met_items, look_items, behind_wait_items, wait_for_items}
 
 -- the objects behind a turn with which a wait begins
 pub begun_objects : (begun : ℕ) (step : List ObjectState × Answer) → (begin_wait begun step).0.0 ≡ step.0
@@ -108,3 +105,25 @@ module _ (worker moment cond atomic : ℕ) (value : Number) (tries : ℕ) where
 
     pub led : Leading → (begun : ℕ) (objects : List ObjectState) → Before objects → Leads objects (wait_for_items worker moment cond atomic value tries begun objects) (wait_for_turn worker moment cond atomic value tries begun objects).0.0
     led leads begun objects before = takes Before Led Led (leading leads) begun objects before
+
+  -- what each turn of a wait keeps
+  pub turns_keep : (P : List ObjectState → Type 0) → ((objects : List ObjectState) → P objects → P (wait_turn objects).0) → (begun : ℕ) (objects : List ObjectState) → P objects
+      → P (wait_for_turn worker moment cond atomic value tries begun objects).0.0
+  turns_keep P turn begun objects is = led (λ objects. Unit {0}) (λ old made new. P old → P new) (record {
+    nowhere = λ objects is. is;
+    on = λ first middle last made later one two is. two (one is);
+    stays = λ objects before. tt;
+    turn = λ objects before. turn objects;
+    load = λ objects before is. is;
+  }) begun objects tt is
+
+  -- what is so of the items of each turn at objects, and of those of turns one after the other
+  pub all_items : (P : List Item → Type 0) → P [] → ((one two : List Item) → P one → P two → P (one ++ two)) → ((call : Call) (objects : List ObjectState) → P (items_at call worker moment objects)) → (begun : ℕ) (objects : List ObjectState)
+      → P (wait_for_items worker moment cond atomic value tries begun objects)
+  all_items P none more each begun objects = led (λ objects. Unit {0}) (λ old made new. P made) (record {
+    nowhere = λ objects. none;
+    on = λ first middle last made later one two. more made later one two;
+    stays = λ objects before. tt;
+    turn = λ objects before. each (wait_on cond) objects;
+    load = λ objects before. each (load_of atomic) objects;
+  }) begun objects tt

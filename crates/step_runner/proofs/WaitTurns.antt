@@ -40,13 +40,10 @@ use Rattle.step_runner.specs.Stages.{make, outcome_of, answer_by}
 use Rattle.step_runner.specs.TurnAtObjects.{cond_turn, with_both, turn_on_both, turn_at}
 use Rattle.step_runner.specs.TurnWithin.{wait_on}
 use Rattle.step_runner.proofs.AtObjects.{apart, turn_referring}
-use Rattle.step_runner.proofs.SpeltAtObjects.{set_there}
+use Rattle.step_runner.proofs.SpeltAtObjects.{set_there, one_found}
 use Rattle.step_runner.proofs.Writes.{get_other}
 
 -- ---- a cond and its mutex, among objects
-
-one_found : {X : Type 0} {a b : X} → Some a ≡ Some b → a ≡ b
-one_found e = cc
 
 pub record Waiting (cond : ℕ) (objects : List ObjectState) : Type 0 where
   pub c : notify.NotifyState

@@ -1,5 +1,5 @@
 -- What a turn before a call or within it keeps of keys, of room in pools and of where workers wait, and what it answers.
-use Rattle.std.proofs.Common.{◌≡◌, ℕ, suc, ◌≤◌, Bool, true, false, ◌&&◌, ◌==◌, List, [], map, Option, None, refl, sym, ◌∙◌, subst, arith}
+use Rattle.std.proofs.Common.{◌≡◌, ℕ, ◌≤◌, Bool, true, false, ◌&&◌, ◌==◌, List, [], map, Option, None, refl, sym, ◌∙◌, subst, arith}
 use Rattle.std.specs.Prelude.{if◌then◌else◌}
 use Rattle.std.proofs.lemmas.Bool.{false≢true}
 use Rattle.sync_types.specs.declared.atomic_object.Number.{Number}
@@ -26,7 +26,7 @@ use Rattle.step_runner.specs.Stands.{IsOutBut, waits_at, waits_behind}
 use Rattle.step_runner.specs.StandsWithin.{ReadyBy, IsReadyWithin, waits_by, waits_within}
 use Rattle.step_runner.specs.TurnAtObjects.{turn_at}
 use Rattle.step_runner.specs.TurnWithin.{wait_on, Taken, begin_wait, wait_for_turn, turn_by_operation, turn_within}
-use Rattle.step_runner.proofs.TurnsWithin.{Steps, takes, Leading, led, begun_objects}
+use Rattle.step_runner.proofs.TurnsWithin.{Steps, takes, begun_objects, turns_keep}
 use Rattle.step_runner.proofs.WithinLemmas.{Any, Both, Stays, both_stay, Kinds, begun_answer, begun_waits}
 
 -- ---- keys
@@ -105,13 +105,7 @@ module _ (law : RoomLaw) (worker moment : ℕ) (left : ℕ → ℕ) where
   by_room (operations.Composed (WaitFor atomic value tries)) object begun objects few room place o at =
       let taken = wait_for_turn worker moment object atomic value tries begun objects in
       subst (λ (n : ℕ). HasRoomFor n o) (sym (left_same taken.1 _ (left place) (no_put place object (operations.Composed (WaitFor atomic value tries)) refl)))
-      (led worker moment object atomic value tries Any (λ old made new. Room old → Room new) (record {
-        nowhere = λ objects room. room;
-        on = λ first middle last made later one two room. two (one room);
-        stays = λ objects before. tt;
-        turn = λ objects before. wait_room object objects;
-        load = λ objects before room. room;
-      }) begun objects tt room place o at)
+      (turns_keep worker moment object atomic value tries Room (wait_room object) begun objects room place o at)
   by_room operation object begun objects few room place o at = law worker moment left (record { object = object; operation = operation }) objects few room place o at
 
 pub within_room : RoomLaw → (worker moment begun : ℕ) (left : ℕ → ℕ) (call : Call) (objects : List ObjectState) → put_of call.object call ≤ left call.object → EachAt (λ place. HasRoomFor (left place)) objects
@@ -125,7 +119,7 @@ OwnLaw = (workers worker moment : ℕ) (call : Call) (objects : List ObjectState
     → IsOutBut (waits_behind (turn_at call worker moment objects).1 (waits_at (map kind_of objects) call)) worker (turn_at call worker moment objects).0
 
 -- one that is out everywhere is out but at any place
-out_anywhere : (but : Option ℕ) (worker : ℕ) (objects : List ObjectState) → IsOutBut None worker objects → IsOutBut but worker objects
+pub out_anywhere : (but : Option ℕ) (worker : ℕ) (objects : List ObjectState) → IsOutBut None worker objects → IsOutBut but worker objects
 out_anywhere but worker objects out place object at ne = out place object at (λ e. cc)
 
 completed_out : (a : Answer) (at : Option ℕ) (worker : ℕ) (objects : List ObjectState) → IsCompleted a → IsOutBut (waits_behind a at) worker objects → IsOutBut None worker objects
@@ -180,7 +174,7 @@ module _ (law : OwnLaw) (stays : Stays) (all : Kinds) (workers worker moment : �
 
   by_out : (operation : Operation) (begun : ℕ) (objects : List ObjectState) → ReadyBy workers worker call objects operation → map kind_of objects ≡ kinds → IsOutBut (waits_by kinds call operation begun) worker objects
       → IsOutBut (waits_behind (turn_by_operation call worker moment begun objects operation).1 (waits_by kinds call operation (turn_by_operation call worker moment begun objects operation).0.1)) worker
-          (turn_by_operation call worker moment begun objects operation).0.0
+      (turn_by_operation call worker moment begun objects operation).0.0
   by_out (operations.Composed (WaitFor atomic value tries)) begun objects ready of out =
       takes worker moment call.object atomic value tries (BothOf atomic value tries) (LookOut atomic value tries) (TurnOut atomic value tries) (out_steps atomic value tries) begun objects (ready, of) out
   by_out operation begun objects ready of out =

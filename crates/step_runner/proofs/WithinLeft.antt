@@ -1,5 +1,5 @@
 -- How many turns are left behind a turn before a call or within it, and whom it tells to go on.
-use Rattle.std.proofs.Common.{◌≡◌, ◌≢◌, ℕ, zero, suc, ◌+◌, ◌-◌, ◌*◌, ◌<◌, ◌≤◌, Bool, true, false, ◌||◌, List, [], ◌++◌, map, refl, sym, ap, ◌∙◌, subst, arith}
+use Rattle.std.proofs.Common.{◌≡◌, ◌≢◌, ℕ, zero, suc, ◌+◌, ◌-◌, ◌*◌, ◌<◌, ◌≤◌, Bool, true, false, ◌||◌, List, ◌++◌, map, refl, sym, ap, ◌∙◌, subst, arith}
 use Rattle.std.proofs.lemmas.Bool.{false≢true}
 use Rattle.std.proofs.lemmas.List.{append-nil}
 use Rattle.std.proofs.lemmas.List.Folds.{list_any-append}
@@ -13,13 +13,12 @@ use Rattle.workload.specs.declared.object.ObjectKind.{ObjectKind}
 use Rattle.step_runner.specs.declared.turns.answer.Answer.{Answer}
 use Rattle.step_runner.specs.declared.turns.answer.Answer.TheVariants as answers
 use Rattle.step_runner.specs.declared.turns.object_state.ObjectState.{ObjectState}
-use Rattle.step_runner.specs.Completes.{IsCompleted}
 use Rattle.step_runner.specs.Items.{Item, items_at, is_requeued, is_unlock, goes_back, unlocks}
 use Rattle.step_runner.specs.Objects.{kind_of}
 use Rattle.step_runner.specs.Ready.{IsReady}
 use Rattle.step_runner.specs.StandsWithin.{ReadyBy, IsReadyWithin, most_turns, turns_by_operation, turns_within}
 use Rattle.step_runner.specs.TurnAtObjects.{turn_at}
-use Rattle.step_runner.specs.TurnWithin.{wait_on, load_of, Taken, begin_wait, turn_by_operation, turn_within, items_by_operation, items_within}
+use Rattle.step_runner.specs.TurnWithin.{wait_on, Taken, begin_wait, turn_by_operation, turn_within, items_by_operation, items_within}
 use Rattle.step_runner.specs.TurnsLeft.{turns_left, TakesBy, is_told, TellsOwn}
 use Rattle.step_runner.proofs.TurnsWithin.{Steps, takes, Leading, led}
 use Rattle.step_runner.proofs.WithinLemmas.{Both, Stays, both_stay, Kinds, among, load_back, begun_waits}
@@ -153,7 +152,7 @@ module _ (law : OwnTakes) (most : MostLaw) (stays : Stays) (all : Kinds) (worker
 
 pub within_takes : OwnTakes → MostLaw → Stays → Kinds → (workers worker moment begun : ℕ) (call : Call) (objects : List ObjectState) → IsReadyWithin workers worker call objects
     → TakesBy (goes_back (items_within call worker moment begun objects)) (turns_within (map kind_of objects) call worker objects begun)
-        (turns_within (map kind_of objects) call worker (turn_within call worker moment begun objects).0.0 (turn_within call worker moment begun objects).0.1) (turn_within call worker moment begun objects).1
+    (turns_within (map kind_of objects) call worker (turn_within call worker moment begun objects).0.0 (turn_within call worker moment begun objects).0.1) (turn_within call worker moment begun objects).1
 within_takes law most stays all workers worker moment begun call objects ready = by_takes law most stays all workers worker moment (map kind_of objects) call call.operation begun objects ready refl
 
 -- ---- who is told to go on

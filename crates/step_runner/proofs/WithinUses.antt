@@ -1,5 +1,5 @@
 -- What a turn before a call or within it uses up: of what is left to do at the objects, and of the waits that the call may make.
-use Rattle.std.proofs.Common.{◌≡◌, ℕ, zero, suc, ◌+◌, ◌*◌, ◌<◌, ◌≤◌, List, [], sum_by, refl, ap, arith}
+use Rattle.std.proofs.Common.{◌≡◌, ℕ, zero, suc, ◌+◌, ◌<◌, ◌≤◌, List, sum_by, refl, ap, arith}
 use Rattle.sync_types.specs.declared.atomic_object.Number.{Number}
 use Rattle.script_calls.specs.declared.call.Call.{Call}
 use Rattle.script_calls.specs.declared.call.ComposedCall.TheVariants.{WaitFor}
@@ -119,7 +119,7 @@ module _ (law : MutexStands) (stays : Stays) (uses : Uses) (workers worker momen
 
   by_uses : (operation : Operation) (call : Call) (begun : ℕ) (objects : List ObjectState) → ReadyBy workers worker call objects operation
       → UsesWithin begun (turn_by_operation call worker moment begun objects operation).0.1 (sum_by object_left objects) (sum_by object_left (turn_by_operation call worker moment begun objects operation).0.0)
-          ((turn_by_operation call worker moment begun objects operation).0.0 ≡ objects) (turn_by_operation call worker moment begun objects operation).1
+      ((turn_by_operation call worker moment begun objects operation).0.0 ≡ objects) (turn_by_operation call worker moment begun objects operation).1
   by_uses (operations.Composed (WaitFor atomic value tries)) call begun objects ready =
       takes worker moment call.object atomic value tries (Both workers worker call.object atomic) (LookUses call.object atomic value tries) (TurnUses call.object atomic value tries) (use_steps call.object atomic value tries) begun objects ready
   by_uses operation call begun objects ready =
@@ -128,5 +128,5 @@ module _ (law : MutexStands) (stays : Stays) (uses : Uses) (workers worker momen
 
 pub within_uses : MutexStands → Stays → Uses → (workers worker moment begun : ℕ) (call : Call) (objects : List ObjectState) → IsReadyWithin workers worker call objects
     → UsesWithin begun (turn_within call worker moment begun objects).0.1 (sum_by object_left objects) (sum_by object_left (turn_within call worker moment begun objects).0.0) ((turn_within call worker moment begun objects).0.0 ≡ objects)
-        (turn_within call worker moment begun objects).1
+    (turn_within call worker moment begun objects).1
 within_uses law stays uses workers worker moment begun call objects ready = by_uses law stays uses workers worker moment call.operation call begun objects ready

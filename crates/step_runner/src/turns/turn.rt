@@ -8,6 +8,7 @@ ghost use Rattle.step_runner.specs.TurnAtObjects.{turn_on, turn_on_both, with_bo
 ghost use Rattle.step_runner.specs.TurnWithin.{wait_on};
 
 use crate::turns::answer::Answer;
+use crate::turns::laws::turns_keep_kinds_and_machines;
 use crate::turns::lock_turn::{take_mutex_turn, take_rw_mutex_turn};
 use crate::turns::object_state::ObjectState;
 use crate::turns::once_turn::{take_once_func_turn, take_once_turn, take_once_value_turn};
@@ -113,11 +114,13 @@ pub fn take_turn_at(
     }
 }
 
-/// Takes a turn of a wait on the cond at a place, by which no memory is wanted.
+/// Takes a turn of a wait on the cond at a place, which wants no memory. Behind it the worker is ready for another one.
 pub(crate) fn take_wait_turn(objects: &mut [ObjectState], cond: usize, taker: Taker) -> Answer
     requires { IsReady taker.workers taker.worker (wait_on cond) objects.old }
-    ensures { turn_at (wait_on cond) taker.worker taker.moment objects.old ≡ (objects.new, result) }
+    ensures turn { turn_at (wait_on cond) taker.worker taker.moment objects.old ≡ (objects.new, result) }
+    ensures ready { IsReady taker.workers taker.worker (wait_on cond) objects.new }
 {
+    turns_keep_kinds_and_machines();
     match objects[cond].refers_to() {
         None => Answer::Still,
         Some(mutex) => {

@@ -1,12 +1,12 @@
 //! The turn of a worker that stands before a call or within it, at the objects of a run. A `waitfor` is made of loads of its
 //! atomic and of turns of `wait`s on its cond: how many waits were begun tells whether the worker stands before it.
-ghost use Rattle.std.specs.Prelude.{◌≡◌, ◌<◌, ◌≤◌, nat_le, IfOk};
+ghost use Rattle.std.specs.Prelude.{◌≡◌, ◌<◌, ◌≤◌, IfOk};
 ghost use Rattle.step_runner.specs.Ready.{IsReady};
 ghost use Rattle.step_runner.specs.StandsWithin.{IsReadyWithin};
-ghost use Rattle.step_runner.specs.TurnWithin.{wait_on, is_met, tells, begin_wait, unless_last, unless_met, look, wait_for_turn, turn_within};
+ghost use Rattle.step_runner.specs.TurnAtObjects.{turn_at};
+ghost use Rattle.step_runner.specs.TurnWithin.{wait_on, is_met, tells, begin_wait, look, wait_for_turn, turn_within};
 
 use crate::turns::answer::Answer;
-use crate::turns::laws::turns_keep_kinds_and_machines;
 use crate::turns::object_state::ObjectState;
 use crate::turns::stages::Taker;
 use crate::turns::turn::{take_turn_at, take_wait_turn};
@@ -41,10 +41,15 @@ fn tells(met: bool) -> Answer
 }
 
 /// Begins one more wait: an event, after which the call hasn't returned, unless it is a misuse.
-fn begin_wait(objects: &mut [ObjectState], awaited: Awaited, begun: u32, taker: Taker) -> (u32, Answer)
+fn begin_wait(
+    objects: &mut [ObjectState],
+    awaited: Awaited,
+    begun: u32,
+    taker: Taker,
+) -> (u32, Answer)
     requires ready { IsReady taker.workers taker.worker (wait_on awaited.cond) objects.old }
     requires fewer { begun < awaited.tries }
-    ensures { unless_last taker.worker taker.moment awaited.cond awaited.atomic awaited.value awaited.tries false begun objects.old ≡ ((objects.new, result.0), result.1) }
+    ensures { begin_wait begun (turn_at (wait_on awaited.cond) taker.worker taker.moment objects.old) ≡ ((objects.new, result.0), result.1) }
 {
     match take_wait_turn(objects, awaited.cond, taker) {
         Answer::Misused(misuse) => (begun + 1, Answer::Misused(misuse)),
@@ -67,14 +72,18 @@ fn look(objects: &mut [ObjectState], awaited: Awaited, begun: u32, taker: Taker)
 
 /// Takes a turn before a `waitfor`, or within it, where the turn goes on with the wait that was begun last. A wait that returns is
 /// followed by a load, in the same turn.
-fn take_wait_for_turn(objects: &mut [ObjectState], awaited: Awaited, begun: u32, taker: Taker) -> (u32, Answer)
+fn take_wait_for_turn(
+    objects: &mut [ObjectState],
+    awaited: Awaited,
+    begun: u32,
+    taker: Taker,
+) -> (u32, Answer)
     requires { IsReady taker.workers taker.worker (wait_on awaited.cond) objects.old }
     ensures { wait_for_turn taker.worker taker.moment awaited.cond awaited.atomic awaited.value awaited.tries begun objects.old ≡ ((objects.new, result.0), result.1) }
 {
     if begun == 0 {
         return look(objects, awaited, begun, taker);
     }
-    turns_keep_kinds_and_machines();
     match take_wait_turn(objects, awaited.cond, taker) {
         Answer::Completed(_) => look(objects, awaited, begun, taker),
         answer => (begun, answer),
@@ -95,8 +104,19 @@ pub fn take_turn_within(
     ensures { IfOk result (λ taken. turn_within call.now taker.worker taker.moment begun objects.old ≡ ((objects.new, taken.0), taken.1)) }
 {
     match call.operation {
-        Operation::Composed(ComposedCall::WaitFor { atomic, value, tries }) => {
-            let awaited = Awaited { cond: call.object, atomic, value, tries };
+        Operation::Composed(
+            ComposedCall::WaitFor {
+                atomic,
+                value,
+                tries,
+            },
+        ) => {
+            let awaited = Awaited {
+                cond: call.object,
+                atomic,
+                value,
+                tries,
+            };
             Ok(take_wait_for_turn(objects, awaited, begun, taker))
         }
         _ => {

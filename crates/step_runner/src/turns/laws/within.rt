@@ -20,7 +20,7 @@ ghost use Rattle.step_runner.specs.TurnWithin.{turn_within, items_within};
 ghost use Rattle.step_runner.specs.TurnsLeft.{TakesBy, is_told, TellsOwn};
 
 use crate::turns::laws::{
-    few_turns_are_left_of_a_call, items_lead_from_turn_to_turn, machines_tell_where_callers_stand,
+    few_turns_are_left_of_a_call, machines_tell_where_callers_stand,
     maps_keep_to_the_keys_of_calls, numbers_stay_in_range, pools_have_room,
     some_calls_take_one_turn, turns_keep_kinds_and_machines, turns_use_something_up,
     workers_stand_in_their_calls,
@@ -122,5 +122,4 @@ pub fn items_lead_on()
         → slice_get (turn_within call worker moment begun objects).0.0 place ≡ Some new → LeadsTo old (on_object place (items_within call worker moment begun objects)) new }
 {
     turns_keep_kinds_and_machines();
-    items_lead_from_turn_to_turn();
 }

@@ -1,19 +1,9 @@
-use Rattle.std.proofs.Common.{◌≡◌, ℕ, List, Option, Some, None, get_or, set, sym, ap, ◌∙◌}
-use Rattle.std.specs.Prelude.{slice_get}
+use Rattle.std.proofs.Common.{◌≡◌, Some, None, get_or, set, sym, ap, ◌∙◌}
 use Rattle.std.proofs.lemmas.Option.{get_or_from_slice_get}
 use Rattle.std.proofs.lemmas.Result.{IfOk-weaker}
-use Rattle.workload.specs.Plan.{reference_of}
-use Rattle.step_runner.specs.declared.turns.object_state.ObjectState.{ObjectState}
-use Rattle.step_runner.specs.Objects.{kind_of}
 use Rattle.step_runner.specs.TurnAtObjects.{turn_on, turn_at, with_object}
-use Rattle.step_runner.proofs.AtObjects.{apart, turn_alone, turn_referring}
+use Rattle.step_runner.proofs.AtObjects.{apart, refers_as_read, turn_alone, turn_referring}
 use Rattle.step_runner.proofs.turns.turn.take_turn_at.Goals as goal
-
--- what is read of the object at the call's place is what that object refers to
-refers_as_read : (objects : List ObjectState) (place : ℕ) (object found : ObjectState) (read o : Option ℕ) → slice_get objects place ≡ Some object
-    → read ≡ reference_of (kind_of (get_or objects place found)) → read ≡ o → reference_of (kind_of object) ≡ o
-refers_as_read objects place object found read o at reads is =
-    ap (λ (o : ObjectState). reference_of (kind_of o)) (sym (get_or_from_slice_get objects place object found at)) ∙ sym reads ∙ is
 
 pub take_turn_at_both-requires-clause-target : goal.take_turn_at_both-requires-clause-target
 take_turn_at_both-requires-clause-target c =
