@@ -33,6 +33,7 @@ use Rattle.step_runner.proofs.Numbered.{NamesAside}
 use Rattle.step_runner.proofs.StartLemmas.{each_start}
 use Rattle.step_runner.proofs.TurnLemmas.{both, both_true, Takes, takes_by, turn_cases, moved, begun_own, begun_other, replied_begun_other, replied_other, valid_scripts}
 use Rattle.step_runner.proofs.RunLemmas.{GoesOn, moment_valid, Kept, items_keep, run_keeps}
+use Rattle.step_runner.proofs.WithinKeeps.{out_anywhere}
 
 -- what the law of turns says
 pub record TurnStands : Type 0 where
@@ -108,10 +109,6 @@ pub record Standing (plan : Plan) (s : State) : Type 0 where
   pub of : IsStateOf plan s
   pub out : (worker : ℕ) → IsOutBut (awaited plan worker s) worker s.objects
   pub forms : all_have_forms plan.scripts s.replies ≡ true
-
--- one that is out everywhere is out but at any place
-out_anywhere : (but : Option ℕ) (worker : ℕ) (objects : List ObjectState) → IsOutBut None worker objects → IsOutBut but worker objects
-out_anywhere but worker objects out place object at ne = out place object at (λ e. cc)
 
 module _ (laws : TurnStands) (plan : Plan) (by : ℕ) (s : State) (h : Standing plan s) where
   -- the worker that takes the turn, before it
