@@ -46,8 +46,7 @@ pub fn take_turn(
                 moment: state.moment,
             };
             let begun = state.begun[worker as usize];
-            let (begun, answer) =
-                take_turn_within(alloc, &mut state.objects, call, begun, taker)?;
+            let (begun, answer) = take_turn_within(alloc, &mut state.objects, call, begun, taker)?;
             state.settle(worker, call, begun, answer)
         }
     }
