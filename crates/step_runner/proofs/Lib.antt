@@ -1,3 +1,4 @@
+mod MetCalls
 mod CallBounds
 mod EndLemmas
 mod MadeLemmas

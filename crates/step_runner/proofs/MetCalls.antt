@@ -1,10 +1,10 @@
 -- A call that a worker has met stays met, at its number.
-use Rattle.std.proofs.Common.{◌≡◌, ◌≢◌, ℕ, zero, suc, ◌+◌, ◌≤◌, true, false, eqb, List, [], ◌∷◌, ◌++◌, take, length, get_or, Some, refl, sym, ap, ◌∙◌, subst, append_assoc, arith}
+use Rattle.std.proofs.Common.{◌≡◌, ℕ, zero, suc, ◌+◌, ◌≤◌, true, false, eqb, List, [], ◌∷◌, ◌++◌, take, length, get_or, Some, refl, sym, ap, ◌∙◌, arith}
 use Rattle.std.specs.Prelude.{slice_get}
 use Rattle.std.specs.Option.{option_map_or}
 use Rattle.std.proofs.lemmas.Bool.{eqb-true, eqb-false}
 use Rattle.std.proofs.lemmas.List.{get_or-set_same}
-use Rattle.script_calls.specs.Runs.{passed_over, left_of, made_of}
+use Rattle.script_calls.specs.Runs.{left_of, made_of}
 use Rattle.script_calls.specs.declared.call.Call.{Call}
 use Rattle.script_calls.specs.declared.call.ComposedCall.TheVariants.{WaitFor}
 use Rattle.script_calls.specs.declared.call.Operation.{Operation}
@@ -15,8 +15,8 @@ use Rattle.workload.specs.Plan.{Plan}
 use Rattle.workload.specs.declared.turn.Turn.{Turn}
 use Rattle.step_runner.specs.CallTurns.{calls_met, most_turns_for}
 use Rattle.step_runner.specs.StandsWithin.{most_turns}
-use Rattle.step_runner.specs.State.{State, with_moment, with_reply, IsStateOf}
-use Rattle.step_runner.specs.Turns.{left_for, next_call, turn_of, after_items}
+use Rattle.step_runner.specs.State.{State, with_reply, IsStateOf}
+use Rattle.step_runner.specs.Turns.{next_call, turn_of, after_items}
 use Rattle.step_runner.proofs.RunLemmas.{GoesOn, Kept, items_keep, moment_valid}
 use Rattle.step_runner.proofs.ScriptRuns.{GoesFurther, split_first}
 use Rattle.step_runner.proofs.TurnLemmas.{moved, replied_other, turn_cases}

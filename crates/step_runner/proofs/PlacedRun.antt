@@ -22,7 +22,7 @@ use Rattle.step_runner.specs.PlacedCalls as turns
 use Rattle.step_runner.specs.Ready.{IsReady}
 use Rattle.step_runner.specs.StandsWithin.{ReadyBy}
 use Rattle.step_runner.specs.TurnAtObjects.{turn_at}
-use Rattle.step_runner.specs.TurnWithin.{holds, is_met, items_by_operation, items_within, load_of, look_items, tells, turn_by_operation, turn_within, unless_met, unless_met_items, wait_for_items, wait_for_turn}
+use Rattle.step_runner.specs.TurnWithin.{holds, is_met, items_by_operation, items_within, load_of, tells, turn_by_operation, turn_within, unless_met, unless_met_items, wait_for_items, wait_for_turn}
 use Rattle.step_runner.specs.declared.step.Step.{Step}
 use Rattle.step_runner.specs.RunItems.{IsAnswered, IsMet, IsTested}
 use Rattle.step_runner.specs.State.{State, IsStateOf}
