@@ -1,5 +1,5 @@
 -- A list that a chain of iterators extends.
-use Rattle.std.proofs.Common.{◌≡◌, ◌++◌, List, map, Option, Result}
+use Rattle.std.proofs.Common.{◌≡◌, List, map, Option, Result}
 use Rattle.std.specs.Prelude.{OnOk, MatchResult}
 use Rattle.std.specs.Iterator.{Drains, Yields}
 use Rattle.std.proofs.lemmas.Iterator.{YieldsList}

@@ -7,12 +7,9 @@ use Rattle.workload.specs.declared.keyword.Operand.{Operand}
 use Rattle.workload.specs.declared.keyword.Operand.TheVariants as operands
 use Rattle.workload.specs.declared.keyword.Verb.{Verb}
 use Rattle.workload.specs.declared.keyword.Verb.TheVariants as verbs
-use Rattle.workload.specs.declared.object.ObjectKind.{ObjectKind}
-use Rattle.workload.specs.declared.object.ObjectKind.TheVariants as kinds
 use Rattle.workload.specs.declared.object.ObjectWord.{ObjectWord}
 use Rattle.workload.specs.declared.object.ObjectWord.TheVariants as words
 use Rattle.workload.specs.declared.reason.Reason.TheVariants.{WrongNumberOfWords}
-use Rattle.workload.specs.Plan.{word_of}
 use Rattle.workload.specs.Draft.{Draft}
 use Rattle.workload.specs.Checks.{Check, operand_check, operand_checks, form_words, form_of, call_form, map_form, atomic_form, bits_form, mutex_form, rw_mutex_form, cond_form, group_form, once_form, once_func_form, once_value_form, pool_form}
 use Rattle.workload_text.specs.LineResult.{IsFault, blank}

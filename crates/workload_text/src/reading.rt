@@ -17,9 +17,7 @@ use workload::draft::{Draft, tries_in};
 use workload::fault::LineFault;
 use workload::keyword::{Keyword, Verb, read_keyword};
 use workload::laws::{calls_pass_their_checks, checks_go_in_order, keywords};
-use workload::limits::{
-    MAX_ALL_TRIES, MAX_CALLS, MAX_KEYS, MAX_RANGES, MAX_TURNS, MAX_WORKERS,
-};
+use workload::limits::{MAX_ALL_TRIES, MAX_CALLS, MAX_KEYS, MAX_RANGES, MAX_TURNS, MAX_WORKERS};
 use workload::line::Line;
 use workload::object::{ObjectLine, ObjectWord};
 use workload::reason::Reason;
