@@ -1,7 +1,7 @@
-mod MetCalls
 mod CallBounds
 mod EndLemmas
 mod MadeLemmas
+mod MetCalls
 mod OneTurnCalls
 mod Numbered
 mod PlacedRun
