@@ -1,5 +1,5 @@
 -- The canonical text of a workload.
-use Rattle.std.specs.Prelude.{ℕ, zero, suc, ◌+◌, List, [], ◌∷◌, ◌++◌, map, Option, Some, None, slice_get}
+use Rattle.std.specs.Prelude.{ℕ, zero, suc, ◌+◌, Bool, true, false, List, [], ◌∷◌, ◌++◌, map, Option, Some, None, slice_get}
 use Rattle.std.specs.List.{flat_map, join_with_byte, onto_first}
 use Rattle.std.specs.Option.{option_map}
 use Rattle.script_calls.specs.declared.call.Call.{Call}
@@ -35,6 +35,12 @@ second_name objects operation = option_map (λ place. name_of (slice_get objects
 abbrev pub call_line : List ObjectLine → Call → Line
 call_line objects call = lines.Call (name_of (slice_get objects call.object)) (second_name objects call.operation) call
 
+-- a `dormant` line for each worker that waits to be started, from one on
+abbrev pub dormant_lines : ℕ → List Bool → List Line
+dormant_lines worker [] = []
+dormant_lines worker (true ∷ workers) = lines.Dormant worker ∷ dormant_lines (worker + 1) workers
+dormant_lines worker (false ∷ workers) = dormant_lines (worker + 1) workers
+
 -- a `worker` line for each worker, from one on, and its calls behind it
 abbrev pub script_lines : List ObjectLine → ℕ → List (List Call) → List Line
 script_lines objects worker [] = []
@@ -46,12 +52,13 @@ eights more [] = []
 eights zero (turn ∷ turns) = (turn ∷ []) ∷ eights 7 turns
 eights (suc more) (turn ∷ turns) = onto_first turn (eights more turns)
 
--- the lines behind the first: objects, scripts, schedule
+-- the lines behind the first: objects, workers that wait to be started, scripts, schedule
 abbrev pub canonical_lines : Plan → List Line
 canonical_lines plan =
     map (object_line plan.objects) plan.objects
+    ++ (dormant_lines 0 plan.dormant
     ++ (script_lines plan.objects 0 plan.scripts
-    ++ map (λ turns. lines.Schedule turns) (eights 7 plan.schedule))
+    ++ map (λ turns. lines.Schedule turns) (eights 7 plan.schedule)))
 
 -- the text of lines behind the first
 abbrev pub lines_text : List Line → List ℕ

@@ -26,7 +26,7 @@ use Rattle.workload.specs.declared.reason.Reason.{Reason}
 use Rattle.workload.specs.declared.reason.Reason.TheVariants.{NoWorkersLine, LineTooLong, BadByte, UnknownWord, WrongNumberOfWords, BadName, NameTaken, UnknownName, WrongKind, BadNumber, NoSuchWorker, CallOutsideWorker, LimitReached}
 use Rattle.workload.specs.Lines.{is_short, is_clean, words_of, is_significant}
 use Rattle.workload.specs.KeywordWords.{keyword_word, keyword_at}
-use Rattle.workload.specs.Plan.{word_of}
+use Rattle.workload.specs.Plan.{word_of, is_dormant}
 use Rattle.workload.specs.NumberWords.{is_number, is_number_to, is_amount_word, is_passes_word, is_tries_word, is_number_word, number_of}
 use Rattle.workload.specs.Draft.{Draft, declared, limit_of, count_of, call_count, key_count, range_count, try_count}
 
@@ -290,6 +290,7 @@ abbrev pub line_checks : Draft → Option Keyword → List (List ℕ) → List C
 line_checks d None words = (false, UnknownWord) ∷ []
 line_checks d (Some keywords.Workers) words = (false, NameTaken) ∷ []
 line_checks d (Some (keywords.Object word)) words = declaration_checks d word words
+line_checks d (Some keywords.Dormant) words = one_word words (λ word. worker_checks d.plan.workers word ++ (not (is_dormant d.plan (number_of word)), NameTaken) ∷ [])
 line_checks d (Some keywords.Worker) words = one_word words (worker_checks d.plan.workers)
 line_checks d (Some keywords.Schedule) words =
     (nat_lt 0 (length words), WrongNumberOfWords) ∷ flat_map (item_checks d.plan.workers) words ++ (nat_le (length d.plan.schedule + length words) MAX_TURNS, LimitReached) ∷ []

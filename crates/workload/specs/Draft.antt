@@ -27,7 +27,7 @@ use Rattle.workload.specs.declared.line.Line.{Line}
 use Rattle.workload.specs.declared.line.Line.TheVariants as lines
 use Rattle.workload.specs.declared.turn.Turn.{Turn}
 use Rattle.workload.specs.declared.turn.Turn.TheVariants as turns
-use Rattle.workload.specs.Plan.{Plan, word_of, reference_of, second_of, is_target, is_amount, has_among}
+use Rattle.workload.specs.Plan.{Plan, is_dormant, word_of, reference_of, second_of, is_target, is_amount, has_among}
 use Rattle.workload.specs.CallWords.{map_values}
 use Rattle.workload.specs.NumberWords.{is_passes, is_tries}
 
@@ -38,7 +38,7 @@ pub record Draft : Type 0 where
 
 -- the draft behind the first line
 abbrev pub started : ℕ → Draft
-started workers = record { plan = record { workers = workers; objects = []; scripts = replicate workers []; schedule = [] }; current = None }
+started workers = record { plan = record { workers = workers; objects = []; dormant = replicate workers false; scripts = replicate workers []; schedule = [] }; current = None }
 
 -- the script with one more call at its end
 abbrev pub with_call : Option ℕ → Call → List (List Call) → List (List Call)
@@ -48,6 +48,7 @@ with_call (Some worker) call scripts = set scripts worker (get_or scripts worker
 -- the draft with one more line
 abbrev pub with_line : Draft → Line → Draft
 with_line d (lines.Object object reference) = record d { plan = record d.plan { objects = d.plan.objects ++ object ∷ [] } }
+with_line d (lines.Dormant worker) = record d { plan = record d.plan { dormant = set d.plan.dormant worker true } }
 with_line d (lines.Worker worker) = record d { current = Some worker }
 with_line d (lines.Schedule schedule) = record d { plan = record d.plan { schedule = d.plan.schedule ++ schedule } }
 with_line d (lines.Call name second call) = record d { plan = record d.plan { scripts = with_call d.current call d.plan.scripts } }
@@ -203,6 +204,7 @@ abbrev pub may_follow : Draft → Line → Bool
 may_follow d (lines.Object object reference) =
     is_name object.name && (not (is_some (declared d object.name)) && (names_reference d object.kind reference && (is_kind object.kind
     && nat_lt (count_of (word_of object.kind) d.plan.objects) (limit_of (word_of object.kind)))))
+may_follow d (lines.Dormant worker) = nat_lt worker d.plan.workers && not (is_dormant d.plan worker)
 may_follow d (lines.Worker worker) = nat_lt worker d.plan.workers
 may_follow d (lines.Schedule schedule) =
     nat_lt 0 (length schedule) && (list_all (is_item d.plan.workers) schedule && nat_le (length d.plan.schedule + length schedule) MAX_TURNS)

@@ -64,6 +64,7 @@ verb_word verbs.WaitFor = codes "waitfor"
 abbrev pub keyword_word : Keyword → List ℕ
 keyword_word keywords.Workers = codes "workers"
 keyword_word (keywords.Object word) = object_word word
+keyword_word keywords.Dormant = codes "dormant"
 keyword_word keywords.Worker = codes "worker"
 keyword_word keywords.Schedule = codes "schedule"
 keyword_word (keywords.Call verb) = verb_word verb
@@ -83,7 +84,7 @@ call_verbs =
 
 -- the keywords other than calls
 abbrev pub other_keywords : List Keyword
-other_keywords = keywords.Schedule ∷ keywords.Worker ∷ keywords.Workers ∷ map (λ word. keywords.Object word) object_words
+other_keywords = keywords.Schedule ∷ keywords.Worker ∷ keywords.Workers ∷ keywords.Dormant ∷ map (λ word. keywords.Object word) object_words
 
 -- all that a line may begin with
 abbrev pub all_keywords : List Keyword

@@ -1,7 +1,7 @@
 -- What a workload is: its workers, its objects, each worker's script, and a schedule.
-use Rattle.std.specs.Prelude.{ℕ, ℤ, pos, negsuc, Bool, true, false, ◌&&◌, nat_lt, nat_le, ◌==◌, List, length, Option, Some, None, slice_get}
+use Rattle.std.specs.Prelude.{ℕ, ℤ, pos, negsuc, Bool, true, false, ◌&&◌, nat_lt, nat_le, ◌==◌, List, length, Option, Some, None, slice_get, get_or}
 use Rattle.std.specs.Option.{option_map_or}
-use Rattle.std.specs.List.{list_all}
+use Rattle.std.specs.List.{list_all, list_any}
 use Rattle.script_calls.specs.declared.call.Call.{Call}
 use Rattle.script_calls.specs.declared.call.ComposedCall.TheVariants.{IfEqual, WaitFor}
 use Rattle.script_calls.specs.declared.call.Operation.{Operation}
@@ -21,8 +21,16 @@ use Rattle.workload.specs.declared.turn.Turn.TheVariants as turns
 pub record Plan : Type 0 where
   pub workers : ℕ
   pub objects : List ObjectLine  -- in order of declaration
+  pub dormant : List Bool  -- for each worker, whether it waits to be started
   pub scripts : List (List Call)  -- one for each worker
   pub schedule : List Turn
+
+-- whether the worker waits to be started, and whether any does
+abbrev pub is_dormant : Plan → ℕ → Bool
+is_dormant plan worker = get_or plan.dormant worker false
+
+abbrev pub has_dormant : Plan → Bool
+has_dormant plan = list_any (λ waits. waits) plan.dormant
 
 -- the word of an object's line
 abbrev pub word_of : ObjectKind → ObjectWord
@@ -109,4 +117,5 @@ is_valid plan =
     (length plan.scripts == plan.workers)
     && (list_all (list_all (λ call. is_on plan.objects (slice_get plan.objects call.object) call)) plan.scripts
     && (list_all (is_turn plan.workers) plan.schedule
-    && list_all (λ object. refers plan.objects object.kind) plan.objects))
+    && (list_all (λ object. refers plan.objects object.kind) plan.objects
+    && (length plan.dormant == plan.workers))))

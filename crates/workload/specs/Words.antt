@@ -30,6 +30,7 @@ turn_word (turns.Moment moment) = 64 ∷ decimal moment
 -- the keyword that a line begins with
 abbrev pub keyword_of : Line → Keyword
 keyword_of (lines.Object object reference) = keywords.Object (word_of object.kind)
+keyword_of (lines.Dormant worker) = keywords.Dormant
 keyword_of (lines.Worker worker) = keywords.Worker
 keyword_of (lines.Schedule schedule) = keywords.Schedule
 keyword_of (lines.Call name second call) = keywords.Call (verb_of call.operation)
@@ -37,6 +38,7 @@ keyword_of (lines.Call name second call) = keywords.Call (verb_of call.operation
 -- the words of a line behind the first one
 abbrev pub arguments_of : Line → List (List ℕ)
 arguments_of (lines.Object object reference) = object.name ∷ option_to_list reference ++ kind_parameters object.kind
+arguments_of (lines.Dormant worker) = decimal worker ∷ []
 arguments_of (lines.Worker worker) = decimal worker ∷ []
 arguments_of (lines.Schedule schedule) = map turn_word schedule
 arguments_of (lines.Call name second call) = name ∷ option_to_list second ++ operands_of call.operation

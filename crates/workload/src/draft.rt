@@ -1,10 +1,11 @@
 //! What the lines of a text say so far.
-ghost use Rattle.std.specs.Prelude.{◌≡◌, ◌≤◌, ◌<◌, ◌+◌, ◌∷◌, [], true, length, nat_lt, is_some, count_by, replicate, IfOk, OnOk};
+ghost use Rattle.std.specs.Prelude.{◌≡◌, ◌≤◌, ◌<◌, ◌+◌, ◌∷◌, [], true, false, length, nat_lt, is_some, count_by, replicate, IfOk, OnOk};
 ghost use Rattle.std.specs.Option.{option_copied, option_to_list};
 ghost use Rattle.std.specs.FinMap.{insert};
 ghost use Rattle.sync_types.specs.Name.{is_name};
 ghost use Rattle.workload.specs.declared.limits.TheConstants.{MAX_WORKERS};
 ghost use Rattle.workload.specs.Index.{with_keys};
+ghost use Rattle.workload.specs.Plan.{is_dormant};
 ghost use Rattle.workload.specs.Draft.{started, with_line, may_follow, declared, count_of, count_together, limit_of, call_count, key_count, keys_of, is_range, range_count, tries_of, try_count};
 
 use crate::keys::Keys;
@@ -25,6 +26,7 @@ use sync_types::{Name, Seq};
 pub struct Draft {
     workers: u32,
     objects: Seq<ObjectLine>,
+    dormant: Vec<bool>,
     scripts: Seq<Seq<Call>>,
     schedule: Seq<Turn>,
     current: Option<u32>,
@@ -41,9 +43,9 @@ impl Model for Draft {
 
     ghost Value = { Draft };
 
-    ghost view = { λ d. record { plan = record { workers = d.workers; objects = d.objects; scripts = d.scripts; schedule = d.schedule }; current = d.current } };
+    ghost view = { λ d. record { plan = record { workers = d.workers; objects = d.objects; dormant = d.dormant.items; scripts = d.scripts; schedule = d.schedule }; current = d.current } };
 
-    ghost invariant = { λ d. IsIndexed (record { workers = d.workers; objects = d.objects; scripts = d.scripts; schedule = d.schedule }) d.current d.names d.keys d.calls d.ranges d.tries };
+    ghost invariant = { λ d. IsIndexed (record { workers = d.workers; objects = d.objects; dormant = d.dormant.items; scripts = d.scripts; schedule = d.schedule }) d.current d.names d.keys d.calls d.ranges d.tries };
 }
 
 /// As many empty scripts as there are workers.
@@ -55,6 +57,17 @@ fn empty_scripts(alloc: Global, workers: u32) -> Result<Seq<Seq<Call>>, AllocErr
         scripts.push(Seq::new(alloc))?;
     }
     Ok(scripts)
+}
+
+/// For each worker that it doesn't wait to be started.
+fn no_dormant(alloc: Global, workers: u32) -> Result<Vec<bool>, AllocError>
+    ensures { IfOk result (λ dormant. dormant.items ≡ replicate workers false) }
+{
+    let mut dormant = Vec::new(alloc);
+    for _ in 0..workers {
+        dormant.push(false)?;
+    }
+    Ok(dormant)
 }
 
 fn counts_together(word: ObjectWord, other: ObjectWord) -> bool
@@ -155,6 +168,7 @@ impl Draft {
         Ok(Draft {
             workers,
             objects: Seq::new(alloc),
+            dormant: no_dormant(alloc, workers)?,
             scripts: empty_scripts(alloc, workers)?,
             schedule: Seq::new(alloc),
             current: None,
@@ -171,6 +185,14 @@ impl Draft {
         ensures { result ≡ self.now.plan.workers }
     {
         self.workers
+    }
+
+    /// Whether a worker waits to be started.
+    pub fn is_dormant(&self, worker: u32) -> bool
+        requires { worker < self.now.plan.workers }
+        ensures { result ≡ is_dormant self.now.plan worker }
+    {
+        self.dormant[worker as usize]
     }
 
     /// Whether a `worker` line came.
@@ -255,6 +277,7 @@ impl Draft {
         let Draft {
             workers,
             mut objects,
+            dormant,
             scripts,
             schedule,
             current,
@@ -273,6 +296,7 @@ impl Draft {
         Ok(Draft {
             workers,
             objects,
+            dormant,
             scripts,
             schedule,
             current,
@@ -284,6 +308,39 @@ impl Draft {
         })
     }
 
+    fn with_dormant(self, worker: u32) -> Self
+        requires { may_follow self (Line.Dormant worker) ≡ true }
+        ensures { result ≡ with_line self (Line.Dormant worker) }
+    {
+        let Draft {
+            workers,
+            objects,
+            mut dormant,
+            scripts,
+            schedule,
+            current,
+            names,
+            keys,
+            calls,
+            ranges,
+            tries,
+        } = self;
+        dormant[worker as usize] = true;
+        Draft {
+            workers,
+            objects,
+            dormant,
+            scripts,
+            schedule,
+            current,
+            names,
+            keys,
+            calls,
+            ranges,
+            tries,
+        }
+    }
+
     fn with_worker(self, worker: u32) -> Self
         requires { may_follow self (Line.Worker worker) ≡ true }
         ensures { result ≡ with_line self (Line.Worker worker) }
@@ -291,6 +348,7 @@ impl Draft {
         let Draft {
             workers,
             objects,
+            dormant,
             scripts,
             schedule,
             current: _,
@@ -303,6 +361,7 @@ impl Draft {
         Draft {
             workers,
             objects,
+            dormant,
             scripts,
             schedule,
             current: Some(worker),
@@ -321,6 +380,7 @@ impl Draft {
         let Draft {
             workers,
             objects,
+            dormant,
             scripts,
             mut schedule,
             current,
@@ -334,6 +394,7 @@ impl Draft {
         Ok(Draft {
             workers,
             objects,
+            dormant,
             scripts,
             schedule,
             current,
@@ -358,6 +419,7 @@ impl Draft {
         let Draft {
             workers,
             objects,
+            dormant,
             mut scripts,
             schedule,
             current,
@@ -377,6 +439,7 @@ impl Draft {
         Ok(Draft {
             workers,
             objects,
+            dormant,
             scripts,
             schedule,
             current,
@@ -395,6 +458,7 @@ impl Draft {
     {
         match line {
             Line::Object(object, reference) => self.with_object(alloc, object, reference),
+            Line::Dormant(worker) => Ok(self.with_dormant(worker)),
             Line::Worker(worker) => Ok(self.with_worker(worker)),
             Line::Schedule(turns) => self.with_turns(turns.as_slice()),
             Line::Call(name, second, call) => self.with_call(alloc, name, second, call),
@@ -408,11 +472,14 @@ impl Draft {
         let Draft {
             workers,
             objects,
+            dormant,
             scripts,
             schedule,
             ..
         } = self;
         let keys = Keys::of_scripts(alloc, scripts.as_slice())?;
-        Ok(Workload::new(workers, objects, scripts, schedule, keys))
+        Ok(Workload::new(
+            workers, objects, dormant, scripts, schedule, keys,
+        ))
     }
 }

@@ -12,6 +12,8 @@ pub enum Keyword {
     Workers,
     /// An object.
     Object(ObjectWord),
+    /// Which worker waits to be started.
+    Dormant,
     /// Whose calls follow.
     Worker,
     /// Items of the schedule.
@@ -98,10 +100,11 @@ pub enum Parameter {
 }
 
 /// The keywords other than calls.
-const OTHERS: [Keyword; 17] = [
+const OTHERS: [Keyword; 18] = [
     Keyword::Schedule,
     Keyword::Worker,
     Keyword::Workers,
+    Keyword::Dormant,
     Keyword::Object(ObjectWord::Map),
     Keyword::Object(ObjectWord::Atomic(AtomicKind::Int32)),
     Keyword::Object(ObjectWord::Atomic(AtomicKind::Int64)),
@@ -167,6 +170,7 @@ impl Keyword {
         match self {
             Keyword::Workers => b"workers",
             Keyword::Object(word) => word.text(),
+            Keyword::Dormant => b"dormant",
             Keyword::Worker => b"worker",
             Keyword::Schedule => b"schedule",
             Keyword::Call(verb) => verb.text(),

@@ -9,6 +9,8 @@ use sync_types::{Name, Seq};
 pub enum Line {
     /// Declares an object, with the name of the object to which it refers, if it does.
     Object(ObjectLine, Option<Name>),
+    /// This worker waits to be started.
+    Dormant(u32),
     /// The calls that follow are this worker's.
     Worker(u32),
     /// More items of the schedule.

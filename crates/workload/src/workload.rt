@@ -1,7 +1,7 @@
 //! A workload that was read.
 ghost use Rattle.std.specs.Prelude.{◌≡◌, ◌<◌, true, get_or, []};
 ghost use Rattle.workload.specs.Keys.{keys_in};
-ghost use Rattle.workload.specs.Plan.{is_valid};
+ghost use Rattle.workload.specs.Plan.{is_dormant, has_dormant, is_valid};
 ghost use Rattle.workload.specs.Puts.{puts_at};
 ghost use Rattle.workload.specs.Readable.{IsReadable};
 
@@ -13,12 +13,13 @@ use script_calls::Call;
 use std::marker::Model;
 use sync_types::Seq;
 
-/// Workers, objects, a script for each worker and a schedule. Each number in it is in range: a call's
+/// Workers, of which some may wait to be started, objects, a script for each worker and a schedule. Each number in it is in range: a call's
 /// object is there and has the call, and a turn's worker is there. The keys of its calls have numbers.
 #[derive(Drop)]
 pub struct Workload {
     workers: u32,
     objects: Seq<ObjectLine>,
+    dormant: Vec<bool>,
     scripts: Seq<Seq<Call>>,
     schedule: Seq<Turn>,
     keys: Keys,
@@ -32,9 +33,9 @@ impl Model for Workload {
 
     ghost Value = { Plan };
 
-    ghost view = { λ w. record { workers = w.workers; objects = w.objects; scripts = w.scripts; schedule = w.schedule } };
+    ghost view = { λ w. record { workers = w.workers; objects = w.objects; dormant = w.dormant.items; scripts = w.scripts; schedule = w.schedule } };
 
-    ghost invariant = { λ w. IsReadable (record { workers = w.workers; objects = w.objects; scripts = w.scripts; schedule = w.schedule }) × (w.keys ≡ keys_in w.scripts) };
+    ghost invariant = { λ w. IsReadable (record { workers = w.workers; objects = w.objects; dormant = w.dormant.items; scripts = w.scripts; schedule = w.schedule }) × (w.keys ≡ keys_in w.scripts) };
 }
 
 impl Workload {
@@ -42,17 +43,19 @@ impl Workload {
     pub(crate) fn new(
         workers: u32,
         objects: Seq<ObjectLine>,
+        dormant: Vec<bool>,
         scripts: Seq<Seq<Call>>,
         schedule: Seq<Turn>,
         keys: Keys,
     ) -> Self
-        requires readable { IsReadable (record { workers = workers; objects = objects; scripts = scripts; schedule = schedule }) }
+        requires readable { IsReadable (record { workers = workers; objects = objects; dormant = dormant.items; scripts = scripts; schedule = schedule }) }
         requires keys { keys ≡ keys_in scripts }
-        ensures { result ≡ record { workers = workers; objects = objects; scripts = scripts; schedule = schedule } }
+        ensures { result ≡ record { workers = workers; objects = objects; dormant = dormant.items; scripts = scripts; schedule = schedule } }
     {
         Workload {
             workers,
             objects,
+            dormant,
             scripts,
             schedule,
             keys,
@@ -74,6 +77,30 @@ impl Workload {
         ensures valid { is_valid self.now ≡ true }
     {
         self.objects.as_slice()
+    }
+
+    /// Whether a worker waits to be started. One that is never started makes no call.
+    pub fn is_dormant(&self, worker: u32) -> bool
+        requires { worker < self.now.workers }
+        ensures dormant { result ≡ is_dormant self.now worker }
+        ensures valid { is_valid self.now ≡ true }
+    {
+        self.dormant[worker as usize]
+    }
+
+    /// For each worker, whether it waits to be started.
+    pub fn dormant(&self) -> &[bool]
+        ensures dormant { result.now ≡ self.now.dormant }
+        ensures valid { is_valid self.now ≡ true }
+    {
+        self.dormant.as_slice()
+    }
+
+    /// Whether any worker waits to be started.
+    pub fn has_dormant(&self) -> bool
+        ensures { result ≡ has_dormant self.now }
+    {
+        self.dormant.iter().any(|waits| *waits)
     }
 
     /// The calls of a worker, in order.
