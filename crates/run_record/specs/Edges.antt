@@ -3,6 +3,7 @@ use Rattle.std.specs.Prelude.{Bool, false}
 use Rattle.mutex_core.specs.Edges as mutex
 use Rattle.pool_core.specs.Edges as pool
 use Rattle.rw_core.specs.Edges as rw
+use Rattle.starts_core.specs.StartsEdges as starts
 use Rattle.wait_cores.specs.GroupEdges as group
 use Rattle.wait_cores.specs.NotifyEdges as notify
 use Rattle.wait_cores.specs.OnceEdges as once
@@ -20,6 +21,7 @@ frees (event.Once e) (reply.Once r) = once.once_releases e r
 frees (event.OnceFunc e) (reply.OnceFunc r) = once.once_releases e r
 frees (event.OnceValue e) (reply.OnceValue r) = once.once_releases e r
 frees (event.Pool e) (reply.Pool r) = pool.pool_releases e r
+frees (event.Starts e) (reply.Starts r) = starts.starts_releases e r
 frees event reply = false
 
 abbrev pub takes : ObjectEvent → ObjectReply → Bool
@@ -31,4 +33,5 @@ takes (event.Once e) (reply.Once r) = once.once_acquires e r
 takes (event.OnceFunc e) (reply.OnceFunc r) = once.once_acquires e r
 takes (event.OnceValue e) (reply.OnceValue r) = once.once_acquires e r
 takes (event.Pool e) (reply.Pool r) = pool.pool_acquires e r
+takes (event.Starts e) (reply.Starts r) = starts.starts_acquires e r
 takes event reply = false

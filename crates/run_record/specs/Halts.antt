@@ -1,5 +1,5 @@
 -- Which objects a misuse halts in a run with threads, and in which order; and the halts in a list.
-use Rattle.std.specs.Prelude.{◌≡◌, ℕ, ◌+◌, ◌<◌, List, [], ◌∷◌, ◌++◌, map}
+use Rattle.std.specs.Prelude.{◌≡◌, ℕ, ◌+◌, ◌<◌, cond, List, [], ◌∷◌, ◌++◌, map}
 use Rattle.std.specs.List.{range_with_len, flat_map}
 use Rattle.sync_model.specs.declared.journal.Deed.{Deed}
 use Rattle.sync_model.specs.declared.journal.Deed.TheVariants.{Event, Refused, Halt}
@@ -7,8 +7,8 @@ use Rattle.sync_types.specs.declared.misuse.Misuse.{Misuse}
 use Rattle.workload.specs.declared.object.ObjectKind.{ObjectKind}
 use Rattle.workload.specs.declared.object.ObjectKind.TheVariants as kinds
 use Rattle.workload.specs.declared.object.ObjectLine.{ObjectLine}
-use Rattle.workload.specs.Plan.{Plan}
-use Rattle.run_record.specs.Objects.{first_part}
+use Rattle.workload.specs.Plan.{Plan, has_dormant}
+use Rattle.run_record.specs.Objects.{first_part, starts_number}
 use Rattle.run_record.specs.Record.{ObjectEntry, stop, object_number}
 use Rattle.run_record.specs.declared.entered.ObjectEvent.{ObjectEvent}
 use Rattle.run_record.specs.declared.entered.ObjectReply.{ObjectReply}
@@ -27,11 +27,15 @@ abbrev pub halted_from : Plan → ℕ → List ObjectLine → List ℕ
 halted_from plan place [] = []
 halted_from plan place (line ∷ lines) = halted_at plan place line.kind ++ halted_from plan (place + 1) lines
 
--- Stop, and then these first objects of the workload, in order of declaration
-abbrev pub halted_with_stop : Plan → List ObjectLine → List ℕ
-halted_with_stop plan lines = stop ∷ halted_from plan 0 lines
+-- Starts, where there is one
+abbrev pub halted_starts : Plan → List ℕ
+halted_starts plan = cond (has_dormant plan) (starts_number plan ∷ []) []
 
--- Stop, and then all objects of the workload
+-- Stop, Starts, and then these first objects of the workload, in order of declaration
+abbrev pub halted_with_stop : Plan → List ObjectLine → List ℕ
+halted_with_stop plan lines = stop ∷ (halted_starts plan ++ halted_from plan 0 lines)
+
+-- Stop, Starts, and then all objects of the workload
 abbrev pub halted_numbers : Plan → List ℕ
 halted_numbers plan = halted_with_stop plan plan.objects
 

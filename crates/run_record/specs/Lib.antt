@@ -16,12 +16,14 @@ pub mod MutexKind
 pub mod Objects
 pub mod OnceKind
 pub mod Parts
+pub mod Plain
 pub mod PoolKind
 pub mod Ranges
 pub mod Record
 pub mod Returns
 pub mod Rounds
 pub mod Runs
+pub mod StartsKind
 pub mod RwMutexKind
 pub mod Tests
 pub mod WaitGroupKind

@@ -12,7 +12,7 @@ use Rattle.workload.specs.declared.object.ObjectKind.{ObjectKind}
 use Rattle.workload.specs.declared.object.ObjectKind.TheVariants as kinds
 use Rattle.workload.specs.declared.object.ObjectLine.{ObjectLine}
 use Rattle.workload.specs.Keys.{keys_in, key_number, key_name}
-use Rattle.workload.specs.Plan.{Plan}
+use Rattle.workload.specs.Plan.{Plan, has_dormant}
 use Rattle.run_record.specs.Record.{object_number}
 
 abbrev pub is_map : ObjectKind → Bool
@@ -46,9 +46,13 @@ pool_number objects place = count_by (λ object. is_pool object.kind) (take plac
 abbrev pub first_part : Plan → ℕ → ℕ
 first_part plan place = object_number (length plan.objects) + pool_number plan.objects place * plan.workers
 
--- how many objects a record of a run has: Stop, those of the workload, and the parts of its pools
+-- Where some workers wait to be started, Starts is an object too: the last one, behind the parts of all pools
+abbrev pub starts_number : Plan → ℕ
+starts_number plan = object_number (length plan.objects) + count_by (λ object. is_pool object.kind) plan.objects * plan.workers
+
+-- how many objects a record of a run has: Stop, those of the workload, the parts of its pools, and Starts where there is one
 abbrev pub object_count : Plan → ℕ
-object_count plan = object_number (length plan.objects) + count_by (λ object. is_pool object.kind) plan.objects * plan.workers
+object_count plan = starts_number plan + cond (has_dormant plan) 1 0
 
 -- the places of the objects of which this is true, in order, from a place on
 abbrev pub places_from : ℕ → (ObjectKind → Bool) → List ObjectLine → List ℕ

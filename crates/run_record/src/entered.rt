@@ -2,6 +2,7 @@
 use mutex_core::{MutexEvent, MutexReply};
 use pool_core::{PoolEvent, PoolReply};
 use rw_core::{RwEvent, RwReply};
+use starts_core::{StartEvent, StartReply};
 use wait_cores::{GroupEvent, GroupReply, NotifyEvent, NotifyReply, OnceEvent, OnceReply};
 
 /// An event on an object. A map and an atomic have none: their calls stand in the shared history.
@@ -18,6 +19,8 @@ pub enum ObjectEvent {
     /// Of a function made by `OnceValue`, which comes to its value.
     OnceValue(OnceEvent<u64>),
     Pool(PoolEvent<u64>),
+    /// Of Starts, which no workload declares.
+    Starts(StartEvent),
 }
 
 /// What an object answers to an event.
@@ -31,4 +34,5 @@ pub enum ObjectReply {
     OnceFunc(OnceReply<u32>),
     OnceValue(OnceReply<u64>),
     Pool(PoolReply<u64>),
+    Starts(StartReply),
 }

@@ -10,5 +10,6 @@ pub mod ranges;
 pub mod returns;
 pub mod runs;
 pub mod spelling;
+pub mod starts;
 pub mod waits;
 pub mod writers;

@@ -29,7 +29,7 @@ pub record Reaches (plan : Plan) (s : State) : Type 0 where
   pub is : items_of plan (plan.schedule ++ rounds count plan.workers) (start plan) ≡ (s, step)
   pub goes_on : is_misused step ≡ false
 
--- every script has ended
+-- every script has ended, but those of workers that were never started
 pub record IsDone (plan : Plan) (report : Report) : Type 0 where
   pub state : State
   pub reached : Reaches plan state

@@ -1,20 +1,28 @@
 -- How the items of a run fall into the calls of its scripts, in the words of a record.
-use Rattle.std.specs.Prelude.{◌≡◌, ℕ, ◌==◌, ◌&&◌, if◌then◌else◌, List, [], ◌∷◌, ◌++◌, map, filter, take, length, get_or, slice_get, Option, Some, None}
+use Rattle.std.specs.Prelude.{◌≡◌, ℕ, ◌==◌, ◌&&◌, Bool, true, false, cond, if◌then◌else◌, List, [], ◌∷◌, ◌++◌, map, filter, take, length, get_or, slice_get, Option, Some, None}
 use Rattle.std.specs.List.{range_with_len, flat_map}
 use Rattle.script_calls.specs.declared.call.Call.{Call}
 use Rattle.script_calls.specs.declared.call.Reply.{Reply}
 use Rattle.sync_types.specs.declared.misuse.Misuse.{Misuse}
 use Rattle.script_calls.specs.declared.outcome.Outcome.{Outcome}
+use Rattle.script_calls.specs.declared.outcome.Outcome.TheVariants.{Done, Misused, Deadlocked}
 use Rattle.script_calls.specs.Outcome.{left_by}
 use Rattle.script_calls.specs.Runs.{left_of, RunsAlong}
-use Rattle.workload.specs.Plan.{Plan}
+use Rattle.starts_core.specs.declared.starts.StartEvent.{StartEvent}
+use Rattle.starts_core.specs.declared.starts.StartEvent.TheVariants as starts
+use Rattle.starts_core.specs.declared.starts.StartReply.{StartReply}
+use Rattle.starts_core.specs.declared.starts.StartReply.TheVariants as told
+use Rattle.workload.specs.Plan.{Plan, is_dormant, has_dormant}
 use Rattle.workload.specs.declared.turn.Turn.{Turn}
 use Rattle.workload.specs.declared.turn.Turn.TheVariants as items
-use Rattle.run_record.specs.Lines.{SpeltCall, LineEnd, whole, misused, unfinished, Line, calls_made, items_of, replies_of, IsLineOf}
+use Rattle.run_record.specs.Lines.{SpeltCall, LineEnd, whole, misused, halted, unfinished, stayed, Stay, never, stopped, waits, Line, calls_made, items_of, replies_of, IsLineOf}
+use Rattle.run_record.specs.Objects.{starts_number}
 use Rattle.run_record.specs.Record.{shared_in}
+use Rattle.run_record.specs.declared.entered.ObjectEvent.TheVariants as events
+use Rattle.run_record.specs.declared.entered.ObjectReply.TheVariants as answered
 use Rattle.run_record.specs.declared.made.Made.{Made}
 use Rattle.step_runner.specs.Items.{Item}
-use Rattle.step_runner.specs.Recorded.{recorded_reply, recorded}
+use Rattle.step_runner.specs.Recorded.{recorded_reply, recorded, made_on}
 use Rattle.step_runner.specs.declared.step.Step.{Step}
 use Rattle.step_runner.specs.declared.step.Step.TheVariants as steps
 use Rattle.step_runner.specs.CallTurns.{stands_before}
@@ -26,13 +34,35 @@ use Rattle.step_runner.specs.Turns.{turn_of}
 abbrev pub by_worker : ℕ → List Item → List Item
 by_worker worker made = filter (λ item. item.caller == worker) made
 
--- its list, as a record has it
-abbrev pub list_of : Plan → List Item → ℕ → List Made
-list_of plan made worker = recorded plan 0 (by_worker worker made)
+-- what a worker makes on Starts
+abbrev pub made_on_starts : Plan → ℕ → StartEvent → StartReply → List Made
+made_on_starts plan worker event answer = made_on plan (starts_number plan) worker (events.Starts event) (answered.Starts answer) ∷ []
+
+-- Where some workers wait to be started: at the end of the run each that was never started leaves
+abbrev pub opening_items : Plan → ℕ → LineEnd → List Made
+opening_items plan worker (stayed never) = made_on_starts plan worker starts.Leave told.Never
+opening_items plan worker (stayed (stopped misuse)) = []
+opening_items plan worker (stayed waits) = []
+opening_items plan worker whole = []
+opening_items plan worker (misused misuse) = []
+opening_items plan worker (halted misuse) = []
+opening_items plan worker unfinished = []
+
+-- and each other worker ends with its last call, or before the first turn where it has none
+abbrev pub closing_items : Plan → ℕ → LineEnd → List Made
+closing_items plan worker whole = cond (has_dormant plan) (made_on_starts plan worker starts.End told.Done) []
+closing_items plan worker (misused misuse) = []
+closing_items plan worker (halted misuse) = []
+closing_items plan worker unfinished = []
+closing_items plan worker (stayed stay) = []
+
+-- its list, as a record has it, where it ends so
+abbrev pub list_of : Plan → List Item → ℕ → LineEnd → List Made
+list_of plan made worker ending = opening_items plan worker ending ++ (recorded plan 0 (by_worker worker made) ++ closing_items plan worker ending)
 
 -- those of all workers
-abbrev pub lists_of : Plan → List Item → List (List Made)
-lists_of plan made = map (list_of plan made) (range_with_len 0 plan.workers)
+abbrev pub lists_of : Plan → List Item → (ℕ → LineEnd) → List (List Made)
+lists_of plan made ending = map (λ worker. list_of plan made worker (ending worker)) (range_with_len 0 plan.workers)
 
 -- what a turn makes for a worker's call of this number, counted from 0: nothing, where it is another's, or the worker stands before another call
 abbrev pub part_by : Plan → ℕ → ℕ → ℕ → State → List Item
@@ -65,23 +95,38 @@ ending_by next (Some misuse) = misused misuse
 ending_by None None = whole
 ending_by (Some call) None = unfinished
 
+-- of one that waits to be started, by whether the run has ended
+abbrev pub stays_by : Bool → LineEnd
+stays_by over = stayed (cond over never waits)
+
 -- of a worker with these replies
-abbrev pub ending_of : {K : Type 0} → Plan → ℕ → List (Reply K) → Option Misuse → LineEnd
-ending_of plan worker given met = ending_by (slice_get (left_of (get_or plan.scripts worker []) given) 0) met
+abbrev pub ending_of : {K : Type 0} → Plan → Bool → ℕ → List (Reply K) → Option Misuse → LineEnd
+ending_of plan over worker given met = cond (is_dormant plan worker) (stays_by over) (ending_by (slice_get (left_of (get_or plan.scripts worker []) given) 0) met)
+
+-- whether every worker that was live has ended
+abbrev pub is_over : Outcome → Bool
+is_over (Done left) = true
+is_over (Misused left misuse) = false
+is_over (Deadlocked left) = false
+
+-- how the lists of an outcome end, by the misuses that its workers met
+abbrev pub endings_of : Plan → Outcome → (ℕ → Option Misuse) → ℕ → LineEnd
+endings_of plan outcome met worker = ending_of plan (is_over outcome) worker (get_or (left_by outcome).replies worker []) (met worker)
 
 -- each line of an outcome ends so, by the worker's replies and the misuse that it met, and halts nothing
 abbrev pub EndAs : Plan → Outcome → (ℕ → Option Misuse) → List Line → Type 0
-EndAs plan outcome met lines = (worker : ℕ) (line : Line) → slice_get lines worker ≡ Some line → (line.ending ≡ ending_of plan worker (get_or (left_by outcome).replies worker []) (met worker)) × (line.halts ≡ [])
+EndAs plan outcome met lines = (worker : ℕ) (line : Line) → slice_get lines worker ≡ Some line → (line.ending ≡ endings_of plan outcome met worker) × (line.halts ≡ [])
 
 -- a worker's items fall into the calls of a run of its script: those that were completed, each spelt by its items, with these replies, and behind them at most one more. The items of
--- each call are those that its own turns made
-pub record Falls (plan : Plan) (worker : ℕ) (made : List Item) (made_for_call : ℕ → List Item) (given : List (Reply (List ℕ))) (met : Option Misuse) : Type 0 where
+-- each call are those that its own turns made. Where some workers wait to be started, what they make on Starts stands before and behind these
+pub record Falls (plan : Plan) (over : Bool) (worker : ℕ) (made : List Item) (made_for_call : ℕ → List Item) (given : List (Reply (List ℕ))) (met : Option Misuse) : Type 0 where
   pub line : Line
   pub runs : RunsAlong (get_or plan.scripts worker []) (calls_made line) line.rest
-  pub items : items_of line ≡ list_of plan made worker
+  pub items : items_of line ≡ list_of plan made worker line.ending
   pub replies : replies_of line ≡ map (recorded_reply plan) given
   pub is : IsLineOf plan worker line
   pub turns : (number : ℕ) (one : SpeltCall) → slice_get line.spelt number ≡ Some one → one.items ≡ recorded plan (count_before number line.spelt) (made_for_call number)
-  pub behind : line.last ≡ recorded plan (length (shared_in (flat_map (λ one. one.items) line.spelt))) (made_for_call (length line.spelt))
-  pub ends : line.ending ≡ ending_of plan worker given met
+  pub before : line.first ≡ opening_items plan worker line.ending
+  pub behind : line.last ≡ recorded plan (length (shared_in (flat_map (λ one. one.items) line.spelt))) (made_for_call (length line.spelt)) ++ closing_items plan worker line.ending
+  pub ends : line.ending ≡ ending_of plan over worker given met
   pub halts : line.halts ≡ []  -- a misuse ends the run at once

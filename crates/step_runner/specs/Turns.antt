@@ -1,12 +1,12 @@
 -- The run of a workload by its schedule: who takes a turn when.
-use Rattle.std.specs.Prelude.{ℕ, Bool, not, List, [], ◌∷◌, map, get_or, set, slice_get, Option, is_some}
+use Rattle.std.specs.Prelude.{ℕ, Bool, not, cond, List, [], ◌∷◌, map, get_or, set, slice_get, Option, is_some}
 use Rattle.std.specs.List.{list_all, range_with_len}
 use Rattle.std.specs.Option.{option_map_or}
 use Rattle.script_calls.specs.Runs.{left_of}
 use Rattle.script_calls.specs.declared.call.Call.{Call}
 use Rattle.workload.specs.declared.turn.Turn.{Turn}
 use Rattle.workload.specs.declared.turn.Turn.TheVariants as items
-use Rattle.workload.specs.Plan.{Plan}
+use Rattle.workload.specs.Plan.{Plan, is_dormant}
 use Rattle.step_runner.specs.declared.turns.answer.Answer.{Answer}
 use Rattle.step_runner.specs.declared.turns.answer.Answer.TheVariants as answers
 use Rattle.step_runner.specs.TurnWithin.{Taken, turn_within}
@@ -16,11 +16,11 @@ use Rattle.step_runner.specs.State.{State, with_reply, with_moment}
 
 -- ---- a turn
 
--- what is left of a worker's script behind its replies
+-- what is left of a worker's script behind its replies; of one that waits to be started nothing, since no call starts one
 abbrev pub left_for : Plan → ℕ → State → List Call
-left_for plan worker s = left_of (get_or plan.scripts worker []) (get_or s.replies worker [])
+left_for plan worker s = cond (is_dormant plan worker) [] (left_of (get_or plan.scripts worker []) (get_or s.replies worker []))
 
--- the call before which a worker stands, unless its script has ended
+-- the call before which a worker stands, unless its script has ended or it waits to be started
 abbrev pub next_call : Plan → ℕ → State → Option Call
 next_call plan worker s = slice_get (left_for plan worker s) 0
 
@@ -76,6 +76,6 @@ after_items plan items s = (items_of plan items s).0
 abbrev pub round : ℕ → List Turn
 round workers = map (λ worker. items.Worker worker) (range_with_len 0 workers)
 
--- whether every script has ended: no worker stands before a call
+-- whether every script has ended but those of workers that were never started: no worker stands before a call
 abbrev pub has_ended : Plan → State → Bool
 has_ended plan s = list_all (λ worker. not (is_some (next_call plan worker s))) (range_with_len 0 plan.workers)

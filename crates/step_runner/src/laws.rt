@@ -21,7 +21,7 @@ ghost use Rattle.pool_core.specs.declared.pool_event.PoolReply.{PoolReply};
 ghost use Rattle.workload.specs.Draft.{all_keys, distinct_count, tries_of};
 ghost use Rattle.workload.specs.declared.turn.Turn.{Turn};
 ghost use Rattle.workload.specs.Keys.{keys_in, key_number, key_name};
-ghost use Rattle.workload.specs.Plan.{Plan, is_valid};
+ghost use Rattle.workload.specs.Plan.{Plan, is_dormant, has_dormant, is_valid};
 ghost use Rattle.run_record.specs.Explains.{AreLines};
 ghost use Rattle.run_record.specs.Lines.{Line};
 ghost use Rattle.run_record.specs.Record.{Record};
@@ -42,7 +42,7 @@ ghost use Rattle.step_runner.specs.LeftToDo.{left_to_do};
 ghost use Rattle.step_runner.specs.MadeCalls.{made_calls, calls_of};
 ghost use Rattle.step_runner.specs.Outcomes.{rounds, is_misused, StepsTo};
 ghost use Rattle.step_runner.specs.RunItems.{all_made, IsAnswered, IsTested, IsMet, LeadTo};
-ghost use Rattle.step_runner.specs.Spelt.{lists_of, made_for, misuse_of, EndAs, Falls};
+ghost use Rattle.step_runner.specs.Spelt.{by_worker, lists_of, made_for, misuse_of, endings_of, EndAs, Falls};
 ghost use Rattle.step_runner.specs.State.{State, IsStateOf, start, with_moment};
 ghost use Rattle.step_runner.specs.Turns.{begun_by, next_call, turn_of, items_of, after_items, has_ended};
 ghost use Rattle.workload.specs.Forms.{all_have_forms, has_forms};
@@ -127,8 +127,8 @@ pub fn each_run_has_one_outcome()
     ensures exact { (plan : Plan) (outcome : Outcome) → is_valid plan ≡ true → turns plan ≡ outcome ↔ StepsTo plan outcome }
     ensures one { (plan : Plan) (outcome other : Outcome) → is_valid plan ≡ true → StepsTo plan outcome → StepsTo plan other → outcome ≡ other }
     ensures some { (plan : Plan) → is_valid plan ≡ true → StepsTo plan (turns plan) }
-    ensures complete { (plan : Plan) (report : Report) (worker : ℕ) → is_valid plan ≡ true → StepsTo plan (outcomes.Done report) → left_of (get_or plan.scripts worker []) (get_or report.replies worker []) ≡ [] }
-    ensures straight { (plan : Plan) (report : Report) → is_valid plan ≡ true → have_tests plan.scripts ≡ false → StepsTo plan (outcomes.Done report) → map length report.replies ≡ map length plan.scripts }
+    ensures complete { (plan : Plan) (report : Report) (worker : ℕ) → is_valid plan ≡ true → is_dormant plan worker ≡ false → StepsTo plan (outcomes.Done report) → left_of (get_or plan.scripts worker []) (get_or report.replies worker []) ≡ [] }
+    ensures straight { (plan : Plan) (report : Report) → is_valid plan ≡ true → have_tests plan.scripts ≡ false → has_dormant plan ≡ false → StepsTo plan (outcomes.Done report) → map length report.replies ≡ map length plan.scripts }
 {
     validity();
     events_use_something_up();
@@ -136,17 +136,25 @@ pub fn each_run_has_one_outcome()
     scripts::runs_do_not_hang_on_names::<Name, u32>();
 }
 
-/// Where every call is on a map, an atomic or a pool the run is Done. Where no call passes others over, each worker has
-/// as many replies as calls.
+/// Where every call is on a map, an atomic or a pool the run is Done. Where no call passes others over, and no worker waits to be
+/// started, each worker has as many replies as calls.
 pub fn scripts_of_one_turn_calls_end()
     ensures { (plan : Plan) → is_valid plan ≡ true → list_all (list_all (λ call. takes_one_turn call.operation)) plan.scripts ≡ true
-        → (report : Report) × StepsTo plan (outcomes.Done report) × (have_tests plan.scripts ≡ false → map length report.replies ≡ map length plan.scripts) }
+        → (report : Report) × StepsTo plan (outcomes.Done report) × (have_tests plan.scripts ≡ false → has_dormant plan ≡ false → map length report.replies ≡ map length plan.scripts) }
 {
     validity();
     events_use_something_up();
     one_turn_completes_some_calls();
     scripts::a_script_without_tests_is_its_own_run::<Name>();
 }
+
+/// A worker that waits to be started makes no call: it has no reply and makes no event, and a run doesn't wait for it. Where all wait,
+/// the run is Done at once.
+pub fn who_waits_to_be_started_makes_no_call()
+    ensures replies { (plan : Plan) (items : List Turn) (worker : ℕ) → is_dormant plan worker ≡ true → get_or (after_items plan items (start plan)).replies worker [] ≡ [] }
+    ensures items { (plan : Plan) (items : List Turn) (worker : ℕ) → is_dormant plan worker ≡ true → by_worker worker (all_made plan items (start plan)) ≡ [] }
+    ensures all { (plan : Plan) → is_valid plan ≡ true → list_all (λ waits. waits) plan.dormant ≡ true → has_ended plan (start plan) ≡ true }
+{}
 
 /// At no moment has a worker more replies than its script has calls.
 pub fn replies_stay_within_scripts()
@@ -236,9 +244,9 @@ pub fn a_waitfor_that_is_met_is_one_load()
 /// first items of at most one more call, or that call as a misuse: each list ends by the call before which its worker stands, and by the
 /// misuse that it met. It has no halt. So the lists of any record that has the run's items are lines of the outcome.
 pub fn the_items_of_each_call_spell_it()
-    ensures always { (plan : Plan) (items : List Turn) (worker : ℕ) → is_valid plan ≡ true → Falls plan worker (all_made plan items (start plan)) (λ number. made_for plan worker number items (start plan)) (get_or (after_items plan items (start plan)).replies worker []) (misuse_of plan worker items (start plan)) }
+    ensures always { (plan : Plan) (items : List Turn) (worker : ℕ) → is_valid plan ≡ true → Falls plan (has_ended plan (after_items plan items (start plan))) worker (all_made plan items (start plan)) (λ number. made_for plan worker number items (start plan)) (get_or (after_items plan items (start plan)).replies worker []) (misuse_of plan worker items (start plan)) }
     ensures outcomes { (plan : Plan) (outcome : Outcome) → is_valid plan ≡ true → StepsTo plan outcome
-        → (count : ℕ) × ((r : Record) → r.lists ≡ lists_of plan (all_made plan (plan.schedule ++ rounds count plan.workers) (start plan)) → (lines : List Line) × AreLines plan r outcome lines × EndAs plan outcome (λ worker. misuse_of plan worker (plan.schedule ++ rounds count plan.workers) (start plan)) lines) }
+        → (count : ℕ) × ((r : Record) → r.lists ≡ lists_of plan (all_made plan (plan.schedule ++ rounds count plan.workers) (start plan)) (endings_of plan outcome (λ worker. misuse_of plan worker (plan.schedule ++ rounds count plan.workers) (start plan))) → (lines : List Line) × AreLines plan r outcome lines × EndAs plan outcome (λ worker. misuse_of plan worker (plan.schedule ++ rounds count plan.workers) (start plan)) lines) }
 {
     validity();
     something_is_used_up();

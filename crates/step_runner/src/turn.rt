@@ -14,16 +14,19 @@ use std::alloc::{AllocError, Global};
 use sync_types::Name;
 use workload::Workload;
 
-/// The call before which a worker stands, unless its script has ended.
+/// The call before which a worker stands, unless its script has ended or it waits to be started.
 pub fn next_call<'a>(workload: &'a Workload, worker: u32, state: &State) -> Option<&'a Call>
     requires of { IsKeptFor workload.now state.now }
     requires worker { worker < workload.now.workers }
     ensures { option_copied result ≡ next_call workload.now worker state.now.state }
 {
+    if workload.is_dormant(worker) {
+        return None;
+    }
     workload.script(worker).get(state.place(worker))
 }
 
-/// Gives a worker one turn. Where its script has ended it makes no event.
+/// Gives a worker one turn. Where its script has ended, or it waits to be started, it makes no event.
 pub fn take_turn(
     alloc: Global,
     workload: &Workload,

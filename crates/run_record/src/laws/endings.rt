@@ -3,10 +3,10 @@ ghost use Rattle.std.specs.Prelude.{◌≡◌, ◌≢◌, ℕ, false, List, [], 
 ghost use Rattle.script_calls.specs.Outcome.{left_by};
 ghost use Rattle.script_calls.specs.Runs.{have_tests, left_of, made_of};
 ghost use Rattle.sync_model.specs.Journal.{by, halt_of};
-ghost use Rattle.workload.specs.Plan.{Plan};
-ghost use Rattle.run_record.specs.Explains.{AreLines, IsRecordOf, HasEnded, Explains};
+ghost use Rattle.workload.specs.Plan.{Plan, is_dormant, has_dormant};
+ghost use Rattle.run_record.specs.Explains.{AreLines, IsRecordOf, HasEnded, IsAtEnd, Explains};
 ghost use Rattle.run_record.specs.Halts.{halted_numbers, halts_in, halts_made};
-ghost use Rattle.run_record.specs.Lines.{Line, whole, misused, HaltsStop, HaltsEach};
+ghost use Rattle.run_record.specs.Lines.{Line, misused, stayed, never, HaltsStop, HaltsEach};
 ghost use Rattle.run_record.specs.Record.{Record, ObjectEntry, stop, journal_of, list_of};
 
 use crate::laws::runs::{
@@ -17,6 +17,7 @@ use pool_core::PoolCore;
 use protocols::laws::endings;
 use rw_core::RwCore;
 use script_calls::{Outcome, Report};
+use starts_core::StartsCore;
 use sync_model::Deed;
 use sync_types::Misuse;
 use wait_cores::{GroupCore, NotifyCore, OnceCore};
@@ -34,6 +35,7 @@ pub fn a_halt_follows_a_misuse()
     endings::<OnceCore<i64>>();
     endings::<OnceCore<u64>>();
     endings::<PoolCore>();
+    endings::<StartsCore>();
 }
 
 /// A worker that meets a misuse, and halts each object: the halts in its list are one of each, by that misuse and in their order
@@ -54,16 +56,17 @@ pub fn a_worker_that_meets_a_misuse_halts_each_object()
     endings::<OnceCore<i64>>();
     endings::<OnceCore<u64>>();
     endings::<PoolCore>();
+    endings::<StartsCore>();
 }
 
 /// Stop says how a run has ended in which all workers have ended, and each that met a misuse halted Stop by it. Where Stop isn't
-/// halted, every script is at its end: nobody met a misuse, and so nobody met a halt. Where Stop is halted, some worker met
+/// halted, every script is at its end, but those of workers that were never started: nobody met a misuse, and so nobody met a halt. Where Stop is halted, some worker met
 /// the misuse that halted it first.
 pub fn stop_says_how_a_run_ended()
     ensures done { (plan : Plan) (r : Record) (outcome : Outcome) (lines : List Line)
         → AreLines plan r outcome lines → IsRecordOf plan r → All (λ line. HasEnded line.ending) lines
         → ((worker : ℕ) (line : Line) → slice_get lines worker ≡ Some line → HaltsStop line)
-        → halt_of (journal_of r stop) ≡ None → All (λ line. line.ending ≡ whole) lines }
+        → halt_of (journal_of r stop) ≡ None → All (λ line. IsAtEnd line.ending) lines }
     ensures misused { (plan : Plan) (r : Record) (outcome : Outcome) (lines : List Line) (misuse : Misuse)
         → AreLines plan r outcome lines → IsRecordOf plan r → halt_of (journal_of r stop) ≡ Some misuse
         → (worker : ℕ) × (line : Line) × (slice_get lines worker ≡ Some line) × (line.ending ≡ misused misuse) }
@@ -75,6 +78,7 @@ pub fn stop_says_how_a_run_ended()
     endings::<OnceCore<i64>>();
     endings::<OnceCore<u64>>();
     endings::<PoolCore>();
+    endings::<StartsCore>();
 }
 
 /// An outcome that a record explains is Done exactly where no worker met a misuse, and never Deadlocked. Where it is Misused,
@@ -90,14 +94,16 @@ pub fn a_run_is_done_unless_it_was_misused()
     stop_says_how_a_run_ended();
 }
 
-/// A run that is done has answered each call that it made, once, and nothing is left of any script. Where no call may pass others
-/// over, these are all calls of all scripts.
+/// A run that is done has answered each call that it made, once, and nothing is left of any script but those of workers that were
+/// never started. Where no call may pass others over, and no worker waits to be started, these are all calls of all scripts.
 pub fn a_run_that_is_done_answers_each_call()
-    ensures left { (plan : Plan) (r : Record) (left : Report) (worker : ℕ) → Explains plan (Outcome.Done left) r
+    ensures left { (plan : Plan) (r : Record) (left : Report) (worker : ℕ) → is_dormant plan worker ≡ false → Explains plan (Outcome.Done left) r
         → left_of (get_or plan.scripts worker []) (get_or left.replies worker []) ≡ [] }
     ensures made { (plan : Plan) (r : Record) (outcome : Outcome) (worker : ℕ) → Explains plan outcome r
         → length (made_of (get_or plan.scripts worker []) (get_or (left_by outcome).replies worker [])) ≡ length (get_or (left_by outcome).replies worker []) }
-    ensures all { (plan : Plan) (r : Record) (left : Report) → have_tests plan.scripts ≡ false → Explains plan (Outcome.Done left) r
+    ensures started { (plan : Plan) (r : Record) (left : Report) (explains : Explains plan (Outcome.Done left) r) (worker : ℕ) (line : Line) → slice_get explains.lines worker ≡ Some line → line.ending ≢ stayed never
+        → left_of (get_or plan.scripts worker []) (get_or left.replies worker []) ≡ [] }
+    ensures all { (plan : Plan) (r : Record) (left : Report) → have_tests plan.scripts ≡ false → has_dormant plan ≡ false → Explains plan (Outcome.Done left) r
         → map length left.replies ≡ map length plan.scripts }
 {
     replies_tell_which_calls_were_made();

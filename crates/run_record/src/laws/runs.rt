@@ -1,9 +1,9 @@
 //! Which calls of a script a record has. Each law is the contract of a function that does nothing.
-ghost use Rattle.std.specs.Prelude.{◌≡◌, ◌≢◌, ◌↔◌, ℕ, ◌+◌, ◌<◌, false, List, [], ◌∷◌, ◌++◌, map, length, Some, slice_get, get_or};
+ghost use Rattle.std.specs.Prelude.{◌≡◌, ◌≢◌, ◌↔◌, ◌⊎◌, ℕ, ◌+◌, ◌<◌, true, false, List, [], ◌∷◌, ◌++◌, map, length, Some, slice_get, get_or};
 ghost use Rattle.std.specs.List.{flat_map};
 ghost use Rattle.script_calls.specs.Outcome.{left_by};
 ghost use Rattle.script_calls.specs.Runs.{passed_over, have_tests, left_of, made_of, places_from};
-ghost use Rattle.workload.specs.Plan.{Plan};
+ghost use Rattle.workload.specs.Plan.{Plan, has_dormant};
 ghost use Rattle.run_record.specs.Explains.{AreLines};
 ghost use Rattle.run_record.specs.Lines.{SpeltCall, Line, replies_of};
 ghost use Rattle.run_record.specs.Record.{Record, list_of};
@@ -34,13 +34,13 @@ pub fn replies_tell_which_calls_were_made()
 }
 
 /// A call that was passed over leaves no item. A worker's list has the items of its completed calls, those of the next call of what is
-/// left, where it has begun that, and its halts. Each completed call stands in the script at a place of its own, and the next one
+/// left, where it has begun that, and its halts; and what stands before and behind the script, where some workers wait to be started. Each completed call stands in the script at a place of its own, and the next one
 /// stands right behind it and those that it passes over: no call between is a completed one, and so none has items.
 pub fn a_call_that_was_passed_over_leaves_no_item()
     ensures list { (plan : Plan) (r : Record) (outcome : Outcome) (lines : List Line) (worker : ℕ) (line : Line)
-        → AreLines plan r outcome lines → slice_get lines worker ≡ Some line → list_of r worker ≡ flat_map (λ spelt. spelt.items) line.spelt ++ (line.last ++ line.halts) }
+        → AreLines plan r outcome lines → slice_get lines worker ≡ Some line → list_of r worker ≡ line.first ++ (flat_map (λ spelt. spelt.items) line.spelt ++ (line.last ++ line.halts)) }
     ensures last { (plan : Plan) (r : Record) (outcome : Outcome) (lines : List Line) (worker : ℕ) (line : Line)
-        → AreLines plan r outcome lines → slice_get lines worker ≡ Some line → line.last ≢ [] → (next : Call) × (behind : List Call) × (line.rest ≡ next ∷ behind) }
+        → AreLines plan r outcome lines → slice_get lines worker ≡ Some line → line.last ≢ [] → ((next : Call) × (behind : List Call) × (line.rest ≡ next ∷ behind)) ⊎ ((line.rest ≡ []) × (has_dormant plan ≡ true)) }
     ensures place { (plan : Plan) (r : Record) (outcome : Outcome) (lines : List Line) (worker : ℕ) (line : Line) (i : ℕ) (spelt : SpeltCall)
         → AreLines plan r outcome lines → slice_get lines worker ≡ Some line → slice_get line.spelt i ≡ Some spelt
         → (place : ℕ) × (slice_get (places_from 0 (get_or plan.scripts worker []) (replies_of line)) i ≡ Some place) × (slice_get (get_or plan.scripts worker []) place ≡ Some spelt.call) }
