@@ -1,14 +1,15 @@
 -- Objects as the workload declares them.
-use Rattle.std.specs.Prelude.{◌≡◌, ℕ, ◌+◌, ◌<◌, List, length, MatchOption, Some, slice_get}
+use Rattle.std.specs.Prelude.{◌≡◌, ℕ, ◌+◌, ◌<◌, true, List, length, MatchOption, Some, slice_get}
 use Rattle.pool_core.specs.PartMachine.{part_start}
 use Rattle.workload.specs.declared.object.ObjectKind.{ObjectKind}
 use Rattle.workload.specs.declared.object.ObjectKind.TheVariants as kinds
 use Rattle.workload.specs.declared.object.ObjectLine.{ObjectLine}
-use Rattle.workload.specs.Plan.{Plan}
+use Rattle.workload.specs.Plan.{Plan, has_dormant}
 use Rattle.workload.specs.Puts.{puts_at}
 use Rattle.ruled_object.specs.declared.object.Object.{Object}
 use Rattle.ruled_object.specs.Passes.{callers_of, start_of, IsHomeOf}
-use Rattle.run_record.specs.Objects.{first_part, object_count}
+use Rattle.run_record.specs.Objects.{first_part, object_count, starts_number}
+use Rattle.starts_core.specs.StartsMachine.{begun}
 use Rattle.run_record.specs.Record.{stop, object_number}
 use Rattle.thread_objects.specs.declared.object.AnyObject.{AnyObject}
 use Rattle.thread_objects.specs.declared.object.AnyObject.TheVariants as objects
@@ -50,9 +51,15 @@ module _ {N H : Type 0} (at : H → N → Type 0) (home : H) where
   IsPartOf plan place (objects.PoolPart o) = Began at home plan.workers (part_start (puts_at place plan.scripts)) o
   IsPartOf plan place object = ⊥
 
-  -- the objects of a run: Stop, those that the workload declares, in order of declaration, and the parts of its pools
+  -- it is Starts, of the workload's workers, of whom those wait to be started that it says
+  abbrev pub IsStartsOf : Plan → AnyObject N H → Type 0
+  IsStartsOf plan (objects.Starts o) = Began at home plan.workers (begun plan.dormant) o
+  IsStartsOf plan object = ⊥
+
+  -- the objects of a run: Stop, those that the workload declares, in order of declaration, the parts of its pools, and Starts where some workers wait to be started
   pub record AreDeclared (plan : Plan) (all : List (AnyObject N H)) : Type 0 where
     pub count : length all ≡ object_count plan
     pub stops : (object : AnyObject N H) → slice_get all stop ≡ Some object → IsStopOf plan.workers object
     pub each : (place : ℕ) (line : ObjectLine) (object : AnyObject N H) → slice_get plan.objects place ≡ Some line → slice_get all (object_number place) ≡ Some object → IsDeclared plan place line.kind object
     pub parts : (place part : ℕ) (line : ObjectLine) (object : AnyObject N H) → slice_get plan.objects place ≡ Some line → line.kind ≡ kinds.Pool → part < plan.workers → slice_get all (first_part plan place + part) ≡ Some object → IsPartOf plan place object
+    pub starts : (object : AnyObject N H) → has_dormant plan ≡ true → slice_get all (starts_number plan) ≡ Some object → IsStartsOf plan object

@@ -18,6 +18,7 @@ use Rattle.thread_objects.specs.OnceKind.{once}
 use Rattle.thread_objects.specs.OnceValueKind.{once_value}
 use Rattle.thread_objects.specs.PoolPartKind.{pool_part}
 use Rattle.thread_objects.specs.RwMutexKind.{rw_mutex}
+use Rattle.thread_objects.specs.StartsKind.{starts}
 use Rattle.thread_objects.specs.StopKind.{stop}
 use Rattle.thread_objects.specs.WaitGroupKind.{wait_group}
 
@@ -39,6 +40,7 @@ of_object fact (objects.Once o) = fact.each once o
 of_object fact (objects.OnceFunc o) = fact.each once_func o
 of_object fact (objects.OnceValue o) = fact.each once_value o
 of_object fact (objects.PoolPart o) = fact.each pool_part o
+of_object fact (objects.Starts o) = fact.each starts o
 
 -- the entries that a pass's worker made
 abbrev pub own_of : {N : Type 0} → AnyPass N → List ObjectEntry
@@ -52,6 +54,7 @@ own_of (passes.Once p) = own_in once p
 own_of (passes.OnceFunc p) = own_in once_func p
 own_of (passes.OnceValue p) = own_in once_value p
 own_of (passes.PoolPart p) = own_in pool_part p
+own_of (passes.Starts p) = own_in starts p
 
 -- the passes that are in a column
 abbrev pub passes_in : {N : Type 0} → AnyColumn N → List (AnyPass N)
@@ -65,3 +68,4 @@ passes_in (columns.Once ps) = map passes.Once ps.items
 passes_in (columns.OnceFunc ps) = map passes.OnceFunc ps.items
 passes_in (columns.OnceValue ps) = map passes.OnceValue ps.items
 passes_in (columns.PoolPart ps) = map passes.PoolPart ps.items
+passes_in (columns.Starts ps) = map passes.Starts ps.items

@@ -5,11 +5,16 @@ use Rattle.workload.specs.declared.object.ObjectKind.TheVariants as kinds
 use Rattle.workload.specs.declared.object.ObjectWord.{ObjectWord}
 use Rattle.workload.specs.Plan.{word_of}
 use Rattle.thread_objects.specs.declared.object.AnyObject.{AnyObject}
+use Rattle.thread_objects.specs.declared.object.AnyObject.TheVariants as objects
 use Rattle.thread_objects.specs.ByKind.{of_object}
 
 module _ {N H : Type 0} where
   abbrev pub IsStop : AnyObject N H → Type 0
   IsStop object = of_object (record { shared = ⊥; stop = λ o. Unit {0}; each = λ kind o. ⊥ }) object
+
+  abbrev pub IsStarts : AnyObject N H → Type 0
+  IsStarts (objects.Starts o) = Unit {0}
+  IsStarts object = ⊥
 
   -- it is of the kind that lines with this word declare, or a part of such a pool
   abbrev pub HasWord : ObjectWord → AnyObject N H → Type 0

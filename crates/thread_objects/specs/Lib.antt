@@ -16,6 +16,7 @@ pub mod Passes
 pub mod PoolPartKind
 pub mod Rows
 pub mod RwMutexKind
+pub mod StartsKind
 pub mod StopKind
 pub mod WaitGroupKind
 pub mod HaltOne

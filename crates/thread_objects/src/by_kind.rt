@@ -15,10 +15,10 @@ macro_rules! by_kind {
     };
 }
 
-/// The kinds that a workload declares, and those that it doesn't: Stop, and a part of a pool.
+/// The kinds that a workload declares, and those that it doesn't: Stop, a part of a pool, and Starts.
 macro_rules! all_kinds {
     ([$($kind:ident)*] $($all:tt)*) => {
-        arms!([Stop $($kind)* PoolPart] $($all)*)
+        arms!([Stop $($kind)* PoolPart Starts] $($all)*)
     };
 }
 

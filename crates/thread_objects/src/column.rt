@@ -4,6 +4,7 @@ use mutex_core::MutexCore;
 use pool_core::PartCore;
 use ruled_object::PassOf;
 use rw_core::RwCore;
+use starts_core::StartsCore;
 use wait_cores::{GroupCore, NotifyCore, OnceCore};
 
 /// The passes of the first workers to an object, of whatever kind: all of them before the workers start and once they have
@@ -21,4 +22,5 @@ pub enum AnyColumn<N> {
     OnceFunc(Vec<PassOf<OnceCore<u32>, N>>),
     OnceValue(Vec<PassOf<OnceCore<u64>, N>>),
     PoolPart(Vec<PassOf<PartCore, N>>),
+    Starts(Vec<PassOf<StartsCore, N>>),
 }

@@ -1,19 +1,20 @@
 //! What holds of the objects of a run. Each law is the contract of a function that does nothing.
-ghost use Rattle.std.specs.Prelude.{◌≡◌, ℕ, ◌+◌, ◌<◌, List, length, Some, slice_get};
+ghost use Rattle.std.specs.Prelude.{◌≡◌, ℕ, ◌+◌, ◌<◌, true, List, length, Some, slice_get};
 ghost use Rattle.workload.specs.declared.object.ObjectKind.{ObjectKind};
 ghost use Rattle.workload.specs.declared.object.ObjectKind.TheVariants.{Pool};
 ghost use Rattle.workload.specs.declared.object.ObjectWord.{ObjectWord};
 ghost use Rattle.workload.specs.declared.object.ObjectWord.TheVariants as words;
-ghost use Rattle.workload.specs.Plan.{Plan};
+ghost use Rattle.workload.specs.Plan.{Plan, has_dormant};
 ghost use Rattle.run_record.specs.Calls.{IsJournalOf};
-ghost use Rattle.run_record.specs.Objects.{first_part};
+ghost use Rattle.run_record.specs.Objects.{first_part, starts_number};
 ghost use Rattle.run_record.specs.Record.{ObjectEntry, stop, object_number};
+ghost use Rattle.run_record.specs.StartsKind.{IsStartsJournal};
 ghost use Rattle.thread_objects.specs.Catalog.{IsAt};
-ghost use Rattle.thread_objects.specs.AsDeclared.{AreDeclared, IsDeclared};
+ghost use Rattle.thread_objects.specs.AsDeclared.{AreDeclared, IsDeclared, IsStartsOf};
 ghost use Rattle.thread_objects.specs.ByKind.{passes_in};
 ghost use Rattle.thread_objects.specs.Columns.{IsColumnOf, IsJournalAt};
 ghost use Rattle.thread_objects.specs.Desks.{IsObjectAt};
-ghost use Rattle.thread_objects.specs.Kinds.{HasWord, IsOfKind, IsStop};
+ghost use Rattle.thread_objects.specs.Kinds.{HasWord, IsOfKind, IsStarts, IsStop};
 ghost use Rattle.thread_objects.specs.Passes.{IsSeatAt};
 
 use crate::column::AnyColumn;
@@ -37,6 +38,19 @@ pub fn objects_are_of_their_kinds<N: Note>()
 {
     parts_have_numbers_of_their_own();
 }
+
+/// Where some workers wait to be started, the last object of a run is Starts.
+pub fn starts_is_the_last_object<N: Note>()
+    ensures { (home : N.Home) (plan : Plan) (objects : List (AnyObject N N.Home)) → AreDeclared N.at home plan objects → has_dormant plan ≡ true
+        → (length objects ≡ starts_number plan + 1) × IsObjectAt IsStarts objects (starts_number plan) }
+{
+    parts_have_numbers_of_their_own();
+}
+
+/// The journal of Starts is one of the workload's workers.
+pub fn the_journal_of_starts_is_its_own<N: Note>()
+    ensures { (home : N.Home) (plan : Plan) (object : AnyObject N N.Home) (journal : List ObjectEntry) → IsStartsOf N.at home plan object → IsJournalAt object journal → IsStartsJournal plan.dormant journal }
+{}
 
 /// Each pass in an object's column is its worker's pass to the object.
 pub fn columns_are_of_passes_to_their_objects<N: Note>()

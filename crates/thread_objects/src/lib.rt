@@ -26,7 +26,7 @@ pub use column::AnyColumn;
 pub use crew::Crew;
 pub use gathering::journals;
 pub use halting::halt_any;
-pub use making::{make_object, make_part, make_stop};
+pub use making::{make_object, make_part, make_starts, make_stop};
 pub use object::AnyObject;
 pub use parts::{
     CallAnswer, Catalog, NoEvent, StopCore, Worker, add_at, atomic_at, call_map, call_range,

@@ -3,7 +3,7 @@ ghost use Rattle.std.specs.Prelude.{◌≡◌, ℕ, ◌<◌, ◌≤◌, true, []
 ghost use Rattle.workload.specs.declared.object.ObjectLine.{ObjectLine};
 ghost use Rattle.workload.specs.Draft.{is_kind};
 ghost use Rattle.workload.specs.Plan.{word_of};
-ghost use Rattle.thread_objects.specs.AsDeclared.{BeganAs, IsDeclared, IsPartOf, IsStopOf};
+ghost use Rattle.thread_objects.specs.AsDeclared.{BeganAs, IsDeclared, IsPartOf, IsStartsOf, IsStopOf};
 ghost use Rattle.thread_objects.specs.ByKind.{passes_in};
 ghost use Rattle.thread_objects.specs.Columns.{AreSeated, AreUntouched, IsColumnOf, IsUntouched};
 ghost use Rattle.thread_objects.specs.Passes.{owns_of};
@@ -16,6 +16,7 @@ use crate::object::AnyObject;
 use crate::seated::begin;
 use pool_core::PartCore;
 use ruled_object::{Object, PassOf};
+use starts_core::StartsCore;
 use std::alloc::{AllocError, Global};
 use sync_model::Note;
 use workload::{ObjectKind, Workload};
@@ -123,4 +124,24 @@ pub fn make_part<N: Note>(
     let core = PartCore::new(alloc, workload.puts_at(place))?;
     let (object, passes) = begin(alloc, crew, core, note)?;
     Ok((AnyObject::PoolPart(object), AnyColumn::PoolPart(passes)))
+}
+
+/// Starts, of which the workload says which workers wait to be started, and a pass of each worker to it. It keeps `note` for what calls
+/// leave. No other call takes memory.
+pub fn make_starts<N: Note>(
+    alloc: Global,
+    crew: &Crew<N>,
+    workload: &Workload,
+    note: N,
+) -> Result<(AnyObject<N>, AnyColumn<N>), AllocError>
+    requires workers { crew.now.workers ≡ workload.now.workers }
+    requires home { N.at crew.now.home.now note }
+    ensures starts { IfOk result (λ made. IsStartsOf N.at crew.now.home.now workload.now made.0) }
+    ensures column { IfOk result (λ made. IsColumnOf N.at crew.now.home.now crew.now.workers crew.now.workers made.0 made.1) }
+    ensures untouched { IfOk result (λ made. (worker : ℕ) → owns_of (passes_in made.1) worker ≡ []) }
+{
+    let _workers = workload.workers();
+    let core = StartsCore::new(alloc, workload.dormant())?;
+    let (object, passes) = begin(alloc, crew, core, note)?;
+    Ok((AnyObject::Starts(object), AnyColumn::Starts(passes)))
 }

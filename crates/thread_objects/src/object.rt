@@ -4,6 +4,7 @@ use mutex_core::MutexCore;
 use pool_core::PartCore;
 use ruled_object::Object;
 use rw_core::RwCore;
+use starts_core::StartsCore;
 use sync_model::Note;
 use wait_cores::{GroupCore, NotifyCore, OnceCore};
 
@@ -22,4 +23,6 @@ pub enum AnyObject<N: Note> {
     OnceValue(Object<OnceCore<u64>, N>),
     /// One part of a pool, which is an object of its own.
     PoolPart(Object<PartCore, N>),
+    /// On which workers are started. No workload declares it.
+    Starts(Object<StartsCore, N>),
 }

@@ -4,6 +4,7 @@ use mutex_core::MutexCore;
 use pool_core::PartCore;
 use ruled_object::PassOf;
 use rw_core::RwCore;
+use starts_core::StartsCore;
 use wait_cores::{GroupCore, NotifyCore, OnceCore};
 
 /// A worker's pass to an object of a run, of whatever kind.
@@ -20,4 +21,5 @@ pub enum AnyPass<N> {
     OnceFunc(PassOf<OnceCore<u32>, N>),
     OnceValue(PassOf<OnceCore<u64>, N>),
     PoolPart(PassOf<PartCore, N>),
+    Starts(PassOf<StartsCore, N>),
 }
