@@ -8,18 +8,18 @@
 -- * each call on a map or an atomic but a `range` is answered what the one-thread object answers at its place in the history, each
 --   once, never before what its worker had seen itself or through an edge; a `range` shows no key twice (`Lawful`);
 -- * each other object's journal follows its machine, and an acquiring entry knows what each releasing entry before it knew (`IsJournalOf`);
--- * the run is done where each script is at its end, and then the ends are what stands after the whole history; else it was
+-- * the run is done where each script is at its end, but those of workers that were never started, and then the ends are what stands after the whole history; else it was
 --   misused, and the misuse is the first that halted it (`Agrees`).
 --
 -- And `InOneOrder` says that each event on an object other than a map or an atomic has a number, which rises along each journal and
 -- along each worker's list: so no circle of such events leads from one to the next by journals and lists.
-use Rattle.std.specs.Prelude.{◌≡◌, ℕ, false, List, [], Option, Some, slice_get, get_or, map, length}
+use Rattle.std.specs.Prelude.{◌≡◌, ◌⊎◌, ℕ, true, false, List, [], Option, Some, slice_get, get_or, map, length}
 use Rattle.sync_outside.specs.Faults.{RoseBy}
 use Rattle.script_calls.specs.Runs.{have_tests, left_of}
 use Rattle.script_calls.specs.declared.outcome.Outcome.{Outcome}
 use Rattle.script_calls.specs.declared.outcome.Report.{Report}
 use Rattle.sync_types.specs.declared.misuse.Misuse.{Misuse}
-use Rattle.workload.specs.Plan.{Plan}
+use Rattle.workload.specs.Plan.{Plan, is_dormant, has_dormant}
 use Rattle.run_record.specs.Record.{Record}
 use Rattle.run_record.specs.Explains.{Explains}
 use Rattle.run_record.specs.InOneOrder.{InOneOrder}
@@ -39,9 +39,13 @@ Headline told old new status = ComesTo RunsTo told old new status
 abbrev pub RunsInJobs : ℕ → ℕ → Plan → Outcome → Type 0
 RunsInJobs ran ran_now plan outcome = RunsTo plan outcome × RoseBy plan.workers ran ran_now
 
--- nothing is left of any script, and where no call may pass others over each call has its reply
+-- nothing is left of the worker's script, or it waits to be started, and made no call
+abbrev pub WorkerEnded : Plan → Report → ℕ → Type 0
+WorkerEnded plan left worker = (left_of (get_or plan.scripts worker []) (get_or left.replies worker []) ≡ []) ⊎ ((is_dormant plan worker ≡ true) × (get_or left.replies worker [] ≡ []))
+
+-- every worker that was live has ended; and where no call may pass others over, and no worker waits to be started, each call has its reply
 abbrev pub HasEnded : Plan → Report → Type 0
-HasEnded plan left = ((worker : ℕ) → left_of (get_or plan.scripts worker []) (get_or left.replies worker []) ≡ []) × (have_tests plan.scripts ≡ false → map length left.replies ≡ map length plan.scripts)
+HasEnded plan left = ((worker : ℕ) → WorkerEnded plan left worker) × (have_tests plan.scripts ≡ false → has_dormant plan ≡ false → map length left.replies ≡ map length plan.scripts)
 
 -- the record explains this outcome, and some worker's list ends in this misuse
 abbrev pub HasMet : Plan → Outcome → Record → Misuse → Type 0

@@ -49,8 +49,8 @@ pub fn a_run_by_schedule_is_computed()
     one_reading();
 }
 
-/// What the headline says in short, where all is written. A run with threads that ends done left nothing of any script, and answered
-/// each call that it made once. One that ends misused tells a misuse that some worker met. None is told to be deadlocked. The events
+/// What the headline says in short, where all is written. In a run with threads that ends done every worker that was live has ended:
+/// nothing is left of any script but those of workers that were never started, and each call that was made was answered once. One that ends misused tells a misuse that some worker met. None is told to be deadlocked. The events
 /// of each stand in one order, and each reply is of a call that was made. Where the bytes are told, all this is so of the workload
 /// that they are read as.
 pub fn a_run_with_threads_is_explained()
