@@ -25,7 +25,7 @@ use Rattle.workload.specs.declared.turn.Turn.{Turn}
 use Rattle.workload.specs.declared.turn.Turn.TheVariants as turns
 use Rattle.workload.specs.Plan.{Plan, is_dormant, word_of, reference_of, is_target, has_among}
 use Rattle.workload.specs.Lines.{lines_of, words_of, is_significant}
-use Rattle.workload.specs.NumberWords.{is_number, is_number_to, is_amount_word}
+use Rattle.workload.specs.NumberWords.{is_number, is_number_to, is_amount_word, number_of}
 use Rattle.workload.specs.CallWords.{verb_of, operands_of}
 use Rattle.workload.specs.Words.{keyword_of, arguments_of, kind_parameters, turn_word}
 use Rattle.workload.specs.Draft.{Draft, count_of, limit_of, is_kind, names_reference, declared, may_follow, names_object, is_item, keys_of, range_count, tries_of}
