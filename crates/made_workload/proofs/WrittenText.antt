@@ -1,5 +1,5 @@
 -- The text of a seed, line by line, is the canonical text of its workload.
-use Rattle.std.proofs.Common.{◌≡◌, ℕ, zero, suc, ◌+◌, ◌/◌, ◌%◌, nat_lt, ◌==◌, Bool, true, false, cond, List, [], ◌∷◌, ◌++◌, map, codes, refl, ap, ◌∙◌, append_assoc, lit<}
+use Rattle.std.proofs.Common.{◌≡◌, ℕ, zero, suc, ◌+◌, ◌/◌, ◌%◌, nat_lt, ◌==◌, Bool, true, false, cond, List, [], ◌∷◌, ◌++◌, map, replicate, codes, refl, ap, ◌∙◌, append_assoc, lit<}
 use Rattle.std.specs.List.{flat_map, range_with_len}
 use Rattle.std.specs.Fmt.{decimal}
 use Rattle.std.proofs.lemmas.List.{append-nil}
@@ -61,7 +61,7 @@ scripts_lines seed worker (suc count) =
 
 -- the lines before the workers' are the same for each seed
 canonical_of : (scripts : List (List Call))
-    → canonical (record { workers = 8; objects = generated_objects; scripts = scripts; schedule = [] }) ≡ codes "workers 8\nmutex m\nint64 total\nmap t\n" ++ lines_text (script_lines generated_objects 0 scripts)
+    → canonical (record { workers = 8; objects = generated_objects; dormant = replicate 8 false; scripts = scripts; schedule = [] }) ≡ codes "workers 8\nmutex m\nint64 total\nmap t\n" ++ lines_text (script_lines generated_objects 0 scripts)
 canonical_of scripts =
     let all : List Line = script_lines generated_objects 0 scripts in
     ap (λ (digits : List ℕ). (codes "workers " ++ (digits ++ codes "\n")) ++ (codes "mutex m\nint64 total\nmap t\n" ++ lines_text (all ++ []))) (decimal_digit 8 (lit< tt))

@@ -1,5 +1,5 @@
 -- The workload that a seed gives: eight workers, each with 500 rounds of four calls.
-use Rattle.std.specs.Prelude.{ℕ, ◌*◌, ◌/◌, ◌%◌, pos, nat_lt, ◌==◌, cond, List, [], ◌∷◌, ◌++◌, map, take, drop, codes}
+use Rattle.std.specs.Prelude.{ℕ, ◌*◌, ◌/◌, ◌%◌, pos, nat_lt, ◌==◌, false, cond, List, [], ◌∷◌, ◌++◌, map, take, drop, replicate, codes}
 use Rattle.std.specs.List.{flat_map, range_with_len}
 use Rattle.std.specs.Fmt.{decimal}
 use Rattle.rand_core.specs.Steps.{first_words}
@@ -69,8 +69,9 @@ script_by worker words = flat_map (round worker) (in_twos words)
 abbrev pub generated_scripts : ℕ → List (List Call)
 generated_scripts seed = map (λ worker. script_by worker (drawn_for seed worker)) (range_with_len 0 8)
 
+-- no worker waits to be started
 unfoldable pub generated_plan : ℕ → Plan
-generated_plan seed = record { workers = 8; objects = generated_objects; scripts = generated_scripts seed; schedule = [] }
+generated_plan seed = record { workers = 8; objects = generated_objects; dormant = replicate 8 false; scripts = generated_scripts seed; schedule = [] }
 
 -- the text of a seed
 unfoldable pub generated_text : ℕ → List ℕ

@@ -28,7 +28,7 @@ use Rattle.workload.specs.declared.line.Line.TheVariants as lines
 use Rattle.workload.specs.declared.turn.Turn.{Turn}
 use Rattle.workload.specs.Plan.{Plan, word_of, reference_of, is_target, refers, has_call, has_among, is_on}
 use Rattle.workload.specs.Draft.{Draft, started, may_follow, declared_from, count_of, count_together, limit_of, is_kind, names_reference, names_object, is_call, is_item, keys_of, all_keys, distinct_count, key_count, call_count, is_range, range_count, tries_of, try_count, names_second}
-use Rattle.workload.specs.Canonical.{name_of, reference_name, second_name, object_line, call_line, script_lines, eights, canonical_lines}
+use Rattle.workload.specs.Canonical.{name_of, reference_name, second_name, object_line, call_line, dormant_lines, script_lines, eights, canonical_lines}
 use Rattle.workload.specs.Readable.{may_join, may_declare, IsReadable}
 use Rattle.workload.proofs.Passing.{both, pair, not_true}
 use Rattle.workload.proofs.KeyLemmas.{distinct_more, distinct_same}
@@ -354,8 +354,8 @@ second_named d kind o new on = no_name d kind o on
         subst (λ (x : Option (List ℕ)). names_second d o x ≡ true) (sym name) (rw none refl)
 
 -- a draft by its parts
-abbrev at : ℕ → List ObjectLine → List Turn → List (List Call) → Option ℕ → Draft
-at workers objects schedule scripts worker = record { plan = record { workers = workers; objects = objects; scripts = scripts; schedule = schedule }; current = worker }
+abbrev at : ℕ → List ObjectLine → List Bool → List Turn → List (List Call) → Option ℕ → Draft
+at workers objects dormant schedule scripts worker = record { plan = record { workers = workers; objects = objects; dormant = dormant; scripts = scripts; schedule = schedule }; current = worker }
 
 -- what the calls of a script need
 record CallsFit (objects : List ObjectLine) (done : List (List Call)) (front rest : List Call) (more : List (List Call)) : Type 0 where
@@ -366,11 +366,11 @@ record CallsFit (objects : List ObjectLine) (done : List (List Call)) (front res
   ranges : range_count (done ++ ((front ++ rest) ∷ more)) ≤ MAX_RANGES
   tries : try_count (done ++ ((front ++ rest) ∷ more)) ≤ MAX_ALL_TRIES
 
-calls_follow : (workers : ℕ) (objects : List ObjectLine) (schedule : List Turn) (done : List (List Call)) (rest front : List Call) (more : List (List Call)) → may_declare [] objects ≡ true → CallsFit objects done front rest more
-    → FollowOn (at workers objects schedule (done ++ (front ∷ more)) (Some (length done))) (map (call_line objects) rest) (at workers objects schedule (done ++ ((front ++ rest) ∷ more)) (Some (length done)))
-calls_follow workers objects schedule done [] front more new fit = ap (λ (f : List Call). at workers objects schedule (done ++ (f ∷ more)) (Some (length done))) (append-nil front)
-calls_follow workers objects schedule done (c ∷ rest) front more new fit =
-    let d = at workers objects schedule (done ++ (front ∷ more)) (Some (length done)) in
+calls_follow : (workers : ℕ) (objects : List ObjectLine) (dormant : List Bool) (schedule : List Turn) (done : List (List Call)) (rest front : List Call) (more : List (List Call)) → may_declare [] objects ≡ true → CallsFit objects done front rest more
+    → FollowOn (at workers objects dormant schedule (done ++ (front ∷ more)) (Some (length done))) (map (call_line objects) rest) (at workers objects dormant schedule (done ++ ((front ++ rest) ∷ more)) (Some (length done)))
+calls_follow workers objects dormant schedule done [] front more new fit = ap (λ (f : List Call). at workers objects dormant schedule (done ++ (f ∷ more)) (Some (length done))) (append-nil front)
+calls_follow workers objects dormant schedule done (c ∷ rest) front more new fit =
+    let d = at workers objects dormant schedule (done ++ (front ∷ more)) (Some (length done)) in
     let test : Call → Bool = λ call. is_on objects (slice_get objects call.object) call in
     let on = both (test c) (list_all test rest) fit.on in
     let fits = both (is_call c) (list_all is_call rest) fit.fits in
@@ -388,8 +388,8 @@ calls_follow workers objects schedule done (c ∷ rest) front more new fit =
     let moved : front ++ (c ∷ rest) ≡ (front ++ c ∷ []) ++ rest = sym (append_assoc front (c ∷ []) rest) in
     let put : set (done ++ (front ∷ more)) (length done) (get_or (done ++ (front ∷ more)) (length done) [] ++ c ∷ []) ≡ done ++ ((front ++ c ∷ []) ∷ more) =
     ap (λ (f : List Call). set (done ++ (front ∷ more)) (length done) (f ++ c ∷ [])) (get_or-append_seam done front more []) ∙ set-append_seam done front more (front ++ c ∷ []) in
-    let next : FollowOn (at workers objects schedule (done ++ ((front ++ c ∷ []) ∷ more)) (Some (length done))) (map (call_line objects) rest) (at workers objects schedule (done ++ (((front ++ c ∷ []) ++ rest) ∷ more)) (Some (length done))) =
-    calls_follow workers objects schedule done rest (front ++ c ∷ []) more new (record {
+    let next : FollowOn (at workers objects dormant schedule (done ++ ((front ++ c ∷ []) ∷ more)) (Some (length done))) (map (call_line objects) rest) (at workers objects dormant schedule (done ++ (((front ++ c ∷ []) ++ rest) ∷ more)) (Some (length done))) =
+    calls_follow workers objects dormant schedule done rest (front ++ c ∷ []) more new (record {
       on = on.1;
       fits = fits.1;
       room = subst (λ (f : List Call). call_count (done ++ (f ∷ more)) ≤ MAX_CALLS) moved fit.room;
@@ -399,9 +399,46 @@ calls_follow workers objects schedule done (c ∷ rest) front more new fit =
     }) in (
       follows,
       tt,
-      subst (λ (s : List (List Call)). FollowOn (at workers objects schedule s (Some (length done))) (map (call_line objects) rest) (at workers objects schedule (done ++ ((front ++ (c ∷ rest)) ∷ more)) (Some (length done)))) (sym put)
-          (follow_to (map (call_line objects) rest) _ _ _ (ap (λ (f : List Call). at workers objects schedule (done ++ (f ∷ more)) (Some (length done))) (sym moved)) next),
+      subst (λ (s : List (List Call)). FollowOn (at workers objects dormant schedule s (Some (length done))) (map (call_line objects) rest) (at workers objects dormant schedule (done ++ ((front ++ (c ∷ rest)) ∷ more)) (Some (length done)))) (sym put)
+          (follow_to (map (call_line objects) rest) _ _ _ (ap (λ (f : List Call). at workers objects dormant schedule (done ++ (f ∷ more)) (Some (length done))) (sym moved)) next),
     )
+
+-- ---- workers that wait to be started
+
+abbrev wait : ℕ → List ObjectLine → List Bool → Draft
+wait workers objects dormant = at workers objects dormant [] (replicate workers []) None
+
+-- one more worker, of which others follow
+one_passed : (workers : ℕ) (objects : List ObjectLine) (b : Bool) (rest done more : List Bool) → FollowOn (wait workers objects ((done ++ b ∷ []) ++ more)) (dormant_lines (length (done ++ b ∷ [])) rest) (wait workers objects ((done ++ b ∷ []) ++ rest))
+    → FollowOn (wait workers objects (done ++ (b ∷ more))) (dormant_lines (length done + 1) rest) (wait workers objects (done ++ (b ∷ rest)))
+one_passed workers objects b rest done more h =
+    let moved : (xs : List Bool) → wait workers objects ((done ++ b ∷ []) ++ xs) ≡ wait workers objects (done ++ (b ∷ xs)) = λ xs. ap (wait workers objects) (append_assoc done (b ∷ []) xs) in
+    subst (λ (n : ℕ). FollowOn (wait workers objects (done ++ (b ∷ more))) (dormant_lines n rest) (wait workers objects (done ++ (b ∷ rest)))) (length-append done (b ∷ []))
+    (subst (λ (d : Draft). FollowOn d (dormant_lines (length (done ++ b ∷ [])) rest) (wait workers objects (done ++ (b ∷ rest)))) (moved more)
+    (follow_to (dormant_lines (length (done ++ b ∷ [])) rest) _ _ _ (moved rest) h))
+
+dormant_follow : (workers : ℕ) (objects : List ObjectLine) (rest done : List Bool) → length done + length rest ≡ workers
+    → FollowOn (wait workers objects (done ++ replicate (length rest) false)) (dormant_lines (length done) rest) (wait workers objects (done ++ rest))
+dormant_follow workers objects [] done count = refl
+dormant_follow workers objects (false ∷ rest) done count =
+    one_passed workers objects false rest done (replicate (length rest) false) (dormant_follow workers objects rest (done ++ false ∷ []) (omega (arith, length-append done (false ∷ []))))
+dormant_follow workers objects (true ∷ rest) done count =
+    let more = replicate (length rest) false in
+    let inside : nat_lt (length done) workers ≡ true = lt-ltb (length done) workers (omega arith) in
+    let new : get_or (done ++ (false ∷ more)) (length done) false ≡ false = get_or-append_seam done false more false in
+    let behind = one_passed workers objects true rest done more (dormant_follow workers objects rest (done ++ true ∷ []) (omega (arith, length-append done (true ∷ [])))) in (
+      rw (inside, new) refl,
+      tt,
+      subst (λ (bs : List Bool). FollowOn (wait workers objects bs) (dormant_lines (length done + 1) rest) (wait workers objects (done ++ (true ∷ rest)))) (sym (set-append_seam done false more true)) behind,
+    )
+
+-- there are at most as many lines as workers
+dormant_count : (n : ℕ) (waiting : List Bool) → length (dormant_lines n waiting) ≤ length waiting
+dormant_count n [] = omega arith
+dormant_count n (true ∷ waiting) = omega (arith, dormant_count (n + 1) waiting)
+dormant_count n (false ∷ waiting) = omega (arith, dormant_count (n + 1) waiting)
+
+-- ---- scripts of all workers
 
 empty_keys : (n : ℕ) → all_keys (replicate n []) ≡ []
 empty_keys zero = refl
@@ -428,10 +465,10 @@ record ScriptsFit (objects : List ObjectLine) (done rest : List (List Call)) : T
   ranges : range_count (done ++ rest) ≤ MAX_RANGES
   tries : try_count (done ++ rest) ≤ MAX_ALL_TRIES
 
-scripts_follow : (workers : ℕ) (objects : List ObjectLine) (schedule : List Turn) (rest done : List (List Call)) (worker : Option ℕ) → may_declare [] objects ≡ true → length done + length rest ≡ workers → ScriptsFit objects done rest
-    → (last : Option ℕ) × FollowOn (at workers objects schedule (done ++ replicate (length rest) []) worker) (script_lines objects (length done) rest) (at workers objects schedule (done ++ rest) last)
-scripts_follow workers objects schedule [] done worker new count fit = (worker, refl)
-scripts_follow workers objects schedule (s ∷ rest) done worker new count fit =
+scripts_follow : (workers : ℕ) (objects : List ObjectLine) (dormant : List Bool) (schedule : List Turn) (rest done : List (List Call)) (worker : Option ℕ) → may_declare [] objects ≡ true → length done + length rest ≡ workers → ScriptsFit objects done rest
+    → (last : Option ℕ) × FollowOn (at workers objects dormant schedule (done ++ replicate (length rest) []) worker) (script_lines objects (length done) rest) (at workers objects dormant schedule (done ++ rest) last)
+scripts_follow workers objects dormant schedule [] done worker new count fit = (worker, refl)
+scripts_follow workers objects dormant schedule (s ∷ rest) done worker new count fit =
     let test : Call → Bool = λ call. is_on objects (slice_get objects call.object) call in
     let on = both (list_all test s) (list_all (list_all test) rest) fit.on in
     let fits = both (list_all is_call s) (list_all (list_all is_call) rest) fit.fits in
@@ -448,9 +485,9 @@ scripts_follow workers objects schedule (s ∷ rest) done worker new count fit =
     ) in
     let some_ranges : range_count (done ++ (s ∷ more)) ≤ MAX_RANGES = omega (arith, fit.ranges, ranges-middle done s more, ranges-middle done s rest, empty_ranges (length rest)) in
     let some_tries : try_count (done ++ (s ∷ more)) ≤ MAX_ALL_TRIES = omega (arith, fit.tries, tries-middle done s more, tries-middle done s rest, empty_tries (length rest)) in
-    let calls = calls_follow workers objects schedule done s [] more new (record { on = on.0; fits = fits.0; room = room; keys = some_keys; ranges = some_ranges; tries = some_tries }) in
+    let calls = calls_follow workers objects dormant schedule done s [] more new (record { on = on.0; fits = fits.0; room = room; keys = some_keys; ranges = some_ranges; tries = some_tries }) in
     let inside : nat_lt (length done) workers ≡ true = lt-ltb (length done) workers (omega arith) in
-    let behind = scripts_follow workers objects schedule rest (done ++ s ∷ []) (Some (length done)) new (omega (arith, length-append done (s ∷ []))) (record {
+    let behind = scripts_follow workers objects dormant schedule rest (done ++ s ∷ []) (Some (length done)) new (omega (arith, length-append done (s ∷ []))) (record {
       on = on.1;
       fits = fits.1;
       room = subst (λ (x : List (List Call)). call_count x ≤ MAX_CALLS) moved fit.room;
@@ -458,23 +495,23 @@ scripts_follow workers objects schedule (s ∷ rest) done worker new count fit =
       ranges = subst (λ (x : List (List Call)). range_count x ≤ MAX_RANGES) moved fit.ranges;
       tries = subst (λ (x : List (List Call)). try_count x ≤ MAX_ALL_TRIES) moved fit.tries;
     }) in
-    let here : FollowOn (at workers objects schedule (done ++ ([] ∷ more)) worker) (lines.Worker (length done) ∷ map (call_line objects) s) (at workers objects schedule ((done ++ s ∷ []) ++ more) (Some (length done))) =
-    (inside, tt, follow_to (map (call_line objects) s) _ _ _ (ap (λ (x : List (List Call)). at workers objects schedule x (Some (length done))) (sym (append_assoc done (s ∷ []) more))) calls) in
-    let others : FollowOn (at workers objects schedule ((done ++ s ∷ []) ++ more) (Some (length done))) (script_lines objects (length done + 1) rest) (at workers objects schedule (done ++ (s ∷ rest)) behind.0) =
-    subst (λ (n : ℕ). FollowOn (at workers objects schedule ((done ++ s ∷ []) ++ more) (Some (length done))) (script_lines objects n rest) (at workers objects schedule (done ++ (s ∷ rest)) behind.0)) (length-append done (s ∷ []))
-    (follow_to (script_lines objects (length (done ++ s ∷ [])) rest) _ _ _ (ap (λ (x : List (List Call)). at workers objects schedule x behind.0) (sym moved)) behind.1) in (
+    let here : FollowOn (at workers objects dormant schedule (done ++ ([] ∷ more)) worker) (lines.Worker (length done) ∷ map (call_line objects) s) (at workers objects dormant schedule ((done ++ s ∷ []) ++ more) (Some (length done))) =
+    (inside, tt, follow_to (map (call_line objects) s) _ _ _ (ap (λ (x : List (List Call)). at workers objects dormant schedule x (Some (length done))) (sym (append_assoc done (s ∷ []) more))) calls) in
+    let others : FollowOn (at workers objects dormant schedule ((done ++ s ∷ []) ++ more) (Some (length done))) (script_lines objects (length done + 1) rest) (at workers objects dormant schedule (done ++ (s ∷ rest)) behind.0) =
+    subst (λ (n : ℕ). FollowOn (at workers objects dormant schedule ((done ++ s ∷ []) ++ more) (Some (length done))) (script_lines objects n rest) (at workers objects dormant schedule (done ++ (s ∷ rest)) behind.0)) (length-append done (s ∷ []))
+    (follow_to (script_lines objects (length (done ++ s ∷ [])) rest) _ _ _ (ap (λ (x : List (List Call)). at workers objects dormant schedule x behind.0) (sym moved)) behind.1) in (
       behind.0,
       follow_append (lines.Worker (length done) ∷ map (call_line objects) s) (script_lines objects (length done + 1) rest)
-          (at workers objects schedule (done ++ ([] ∷ more)) worker) (at workers objects schedule ((done ++ s ∷ []) ++ more) (Some (length done))) (at workers objects schedule (done ++ (s ∷ rest)) behind.0) here others,
+          (at workers objects dormant schedule (done ++ ([] ∷ more)) worker) (at workers objects dormant schedule ((done ++ s ∷ []) ++ more) (Some (length done))) (at workers objects dormant schedule (done ++ (s ∷ rest)) behind.0) here others,
     )
 
 -- ---- the schedule
 
-schedule_follows : (n : ℕ) (workers : ℕ) (objects : List ObjectLine) (scripts : List (List Call)) (worker : Option ℕ) (ts before : List Turn) → length ts ≤ n → list_all (is_item workers) ts ≡ true → length before + length ts ≤ MAX_TURNS
-    → FollowOn (at workers objects before scripts worker) (map (λ x. lines.Schedule x) (eights 7 ts)) (at workers objects (before ++ ts) scripts worker)
-schedule_follows n workers objects scripts worker [] before short items room = ap (λ (x : List Turn). at workers objects x scripts worker) (append-nil before)
-schedule_follows zero workers objects scripts worker (t ∷ ts) before short items room = absurd (omega arith)
-schedule_follows (suc n) workers objects scripts worker (t ∷ ts) before short items room =
+schedule_follows : (n : ℕ) (workers : ℕ) (objects : List ObjectLine) (dormant : List Bool) (scripts : List (List Call)) (worker : Option ℕ) (ts before : List Turn) → length ts ≤ n → list_all (is_item workers) ts ≡ true → length before + length ts ≤ MAX_TURNS
+    → FollowOn (at workers objects dormant before scripts worker) (map (λ x. lines.Schedule x) (eights 7 ts)) (at workers objects dormant (before ++ ts) scripts worker)
+schedule_follows n workers objects dormant scripts worker [] before short items room = ap (λ (x : List Turn). at workers objects dormant x scripts worker) (append-nil before)
+schedule_follows zero workers objects dormant scripts worker (t ∷ ts) before short items room = absurd (omega arith)
+schedule_follows (suc n) workers objects dormant scripts worker (t ∷ ts) before short items room =
     let all = t ∷ ts in
     let first = take 8 all in
     let rest = drop 8 all in
@@ -482,12 +519,12 @@ schedule_follows (suc n) workers objects scripts worker (t ∷ ts) before short 
     let parts = both (list_all (is_item workers) first) (list_all (is_item workers) rest) (sym (list_all-append (is_item workers) first rest) ∙ ap (list_all (is_item workers)) whole ∙ items) in
     let some : nat_lt 0 (length first) ≡ true = lt-ltb 0 (length first) (omega (arith, length-take 8 all)) in
     let fits : nat_le (length before + length first) MAX_TURNS ≡ true = le-leb (length before + length first) MAX_TURNS (omega (arith, length-take 8 all)) in
-    let follows : may_follow (at workers objects before scripts worker) (lines.Schedule first) ≡ true = pair (nat_lt 0 (length first)) _ some (pair (list_all (is_item workers) first) _ parts.0 fits) in
-    let behind = schedule_follows n workers objects scripts worker rest (before ++ first) (omega (arith, length-drop 8 all)) parts.1 (omega (arith, length-append before first, length-take 8 all, length-drop 8 all)) in
-    subst (λ (chunks : List (List Turn)). FollowOn (at workers objects before scripts worker) (map (λ x. lines.Schedule x) chunks) (at workers objects (before ++ all) scripts worker)) (sym (eights_first 7 all (omega arith))) (
+    let follows : may_follow (at workers objects dormant before scripts worker) (lines.Schedule first) ≡ true = pair (nat_lt 0 (length first)) _ some (pair (list_all (is_item workers) first) _ parts.0 fits) in
+    let behind = schedule_follows n workers objects dormant scripts worker rest (before ++ first) (omega (arith, length-drop 8 all)) parts.1 (omega (arith, length-append before first, length-take 8 all, length-drop 8 all)) in
+    subst (λ (chunks : List (List Turn)). FollowOn (at workers objects dormant before scripts worker) (map (λ x. lines.Schedule x) chunks) (at workers objects dormant (before ++ all) scripts worker)) (sym (eights_first 7 all (omega arith))) (
       follows,
       omega (arith, length-take 8 all),
-      follow_to (map (λ x. lines.Schedule x) (eights 7 rest)) _ _ _ (ap (λ (x : List Turn). at workers objects x scripts worker) (append_assoc before first rest ∙ ap (λ (x : List Turn). before ++ x) whole)) behind,
+      follow_to (map (λ x. lines.Schedule x) (eights 7 rest)) _ _ _ (ap (λ (x : List Turn). at workers objects dormant x scripts worker) (append_assoc before first rest ∙ ap (λ (x : List Turn). before ++ x) whole)) behind,
     )
 
 one_or_more : (t : Turn) (xs : List (List Turn)) → length (onto_first t xs) ≡ max 1 (length xs)
@@ -511,31 +548,38 @@ pub canonical_follows : (plan : Plan) → IsReadable plan → (e : Draft) × Fol
 canonical_follows plan h =
     let v = valid_parts plan h.valid in
     let first = objects_follow plan.objects plan.objects (started plan.workers) refl refl h.objects in
-    let second = scripts_follow plan.workers plan.objects [] plan.scripts [] None h.objects (omega (arith, v.scripts)) (record { on = v.calls; fits = h.calls; room = h.call_room; keys = h.key_room; ranges = h.range_room; tries = h.try_room }) in
-    let third = schedule_follows (length plan.schedule) plan.workers plan.objects plan.scripts second.0 plan.schedule [] (omega arith) h.items (omega (arith, h.turn_room)) in
-    let start : at plan.workers plan.objects [] (replicate plan.workers []) None ≡ at plan.workers plan.objects [] (replicate (length plan.scripts) []) None = ap (λ (n : ℕ). at plan.workers plan.objects [] (replicate n []) None) (sym v.scripts) in
+    let second = dormant_follow plan.workers plan.objects plan.dormant [] (omega (arith, v.dormant)) in
+    let third = scripts_follow plan.workers plan.objects plan.dormant [] plan.scripts [] None h.objects (omega (arith, v.scripts)) (record { on = v.calls; fits = h.calls; room = h.call_room; keys = h.key_room; ranges = h.range_room; tries = h.try_room }) in
+    let fourth = schedule_follows (length plan.schedule) plan.workers plan.objects plan.dormant plan.scripts third.0 plan.schedule [] (omega arith) h.items (omega (arith, h.turn_room)) in
+    let unnamed : wait plan.workers plan.objects (replicate plan.workers false) ≡ wait plan.workers plan.objects (replicate (length plan.dormant) false) = ap (λ (n : ℕ). wait plan.workers plan.objects (replicate n false)) (sym v.dormant) in
+    let start : wait plan.workers plan.objects plan.dormant ≡ at plan.workers plan.objects plan.dormant [] (replicate (length plan.scripts) []) None = ap (λ (n : ℕ). at plan.workers plan.objects plan.dormant [] (replicate n []) None) (sym v.scripts) in
     let objects = map (object_line plan.objects) plan.objects in
+    let waiting = dormant_lines 0 plan.dormant in
     let scripts = script_lines plan.objects 0 plan.scripts in
     let schedule = map (λ x. lines.Schedule x) (eights 7 plan.schedule) in (
-      at plan.workers plan.objects plan.schedule plan.scripts second.0,
-      follow_append objects (scripts ++ schedule) (started plan.workers) _ _ (follow_to objects (started plan.workers) _ _ start first) (follow_append scripts schedule _ _ _ second.1 third),
+      at plan.workers plan.objects plan.dormant plan.schedule plan.scripts third.0,
+      follow_append objects (waiting ++ (scripts ++ schedule)) (started plan.workers) _ _ (follow_to objects (started plan.workers) _ _ unnamed first)
+          (follow_append waiting (scripts ++ schedule) _ _ _ (follow_to waiting _ _ _ start second) (follow_append scripts schedule _ _ _ third.1 fourth)),
       refl,
     )
 
 -- and are not many
-pub canonical_count : (plan : Plan) → IsReadable plan → length (canonical_lines plan) ≤ 32868
+pub canonical_count : (plan : Plan) → IsReadable plan → length (canonical_lines plan) ≤ 32900
 canonical_count plan h =
     let v = valid_parts plan h.valid in
     omega (
       arith,
       v.scripts,
+      v.dormant,
       h.few_workers,
       h.call_room,
       h.turn_room,
       few_objects plan.objects h.objects,
-      length-append (map (object_line plan.objects) plan.objects) (script_lines plan.objects 0 plan.scripts ++ map (λ x. lines.Schedule x) (eights 7 plan.schedule)),
+      length-append (map (object_line plan.objects) plan.objects) (dormant_lines 0 plan.dormant ++ (script_lines plan.objects 0 plan.scripts ++ map (λ x. lines.Schedule x) (eights 7 plan.schedule))),
+      length-append (dormant_lines 0 plan.dormant) (script_lines plan.objects 0 plan.scripts ++ map (λ x. lines.Schedule x) (eights 7 plan.schedule)),
       length-append (script_lines plan.objects 0 plan.scripts) (map (λ x. lines.Schedule x) (eights 7 plan.schedule)),
       length-map plan.objects (object_line plan.objects),
+      dormant_count 0 plan.dormant,
       length-map (eights 7 plan.schedule) (λ x. lines.Schedule x),
       script_count plan.objects 0 plan.scripts,
       eights_count 7 plan.schedule (omega arith),

@@ -126,22 +126,26 @@ pub record IsValid (plan : Plan) : Type 0 where
   pub calls : list_all (list_all (λ call. is_on plan.objects (slice_get plan.objects call.object) call)) plan.scripts ≡ true
   pub turns : list_all (is_turn plan.workers) plan.schedule ≡ true
   pub references : list_all (λ object. refers plan.objects object.kind) plan.objects ≡ true
+  pub dormant : length plan.dormant ≡ plan.workers
 
 pub valid_parts : (plan : Plan) → is_valid plan ≡ true → IsValid plan
 valid_parts plan e =
     let calls = list_all (list_all (λ call. is_on plan.objects (slice_get plan.objects call.object) call)) plan.scripts in
     let turns = list_all (is_turn plan.workers) plan.schedule in
     let references = list_all (λ object. refers plan.objects object.kind) plan.objects in
-    let first = both (eqb (length plan.scripts) plan.workers) (calls && (turns && references)) e in
-    let second = both calls (turns && references) first.1 in
-    let third = both turns references second.1 in
-    record { scripts = eqb-true (length plan.scripts) plan.workers first.0; calls = second.0; turns = third.0; references = third.1 }
+    let dormant = eqb (length plan.dormant) plan.workers in
+    let first = both (eqb (length plan.scripts) plan.workers) (calls && (turns && (references && dormant))) e in
+    let second = both calls (turns && (references && dormant)) first.1 in
+    let third = both turns (references && dormant) second.1 in
+    let fourth = both references dormant third.1 in
+    record { scripts = eqb-true (length plan.scripts) plan.workers first.0; calls = second.0; turns = third.0; references = fourth.0; dormant = eqb-true (length plan.dormant) plan.workers fourth.1 }
 
 pub valid_from : (plan : Plan) → IsValid plan → is_valid plan ≡ true
 valid_from plan v =
     pair (eqb (length plan.scripts) plan.workers) _ (eq-eqb (length plan.scripts) plan.workers v.scripts)
     (pair (list_all (list_all (λ call. is_on plan.objects (slice_get plan.objects call.object) call)) plan.scripts) _ v.calls
-    (pair (list_all (is_turn plan.workers) plan.schedule) (list_all (λ object. refers plan.objects object.kind) plan.objects) v.turns v.references))
+    (pair (list_all (is_turn plan.workers) plan.schedule) _ v.turns
+    (pair (list_all (λ object. refers plan.objects object.kind) plan.objects) (eqb (length plan.dormant) plan.workers) v.references (eq-eqb (length plan.dormant) plan.workers v.dormant))))
 
 no_name : (q name : List ℕ) (os : List ObjectLine) → is_some (declared_from 0 name os) ≡ false → bytes_eq q name ≡ true → declared_from 0 q os ≡ None
 no_name q name os new same =
@@ -195,6 +199,7 @@ indexed_object plan worker table seen number many waits o to h follows =
           references = all_append all plan.objects (o ∷ [])
               (all_mono (λ x. refers plan.objects x.kind) all (λ x. refers_more plan.objects o x.kind) plan.objects v.references)
               (pair (all o) true (refers_more plan.objects o o.kind (names_refers d o.kind to parts.reference)) refl);
+          dormant = v.dormant;
         });
         some_workers = r.some_workers;
         few_workers = r.few_workers;
@@ -209,6 +214,41 @@ indexed_object plan worker table seen number many waits o to h follows =
       };
       current = h.current;
       names = names_more table plan.objects o parts.new h.names;
+      keys = h.keys;
+      calls = h.calls;
+      ranges = h.ranges;
+      tries = h.tries;
+    }
+
+-- one more worker that waits to be started keeps the tables
+pub indexed_dormant : (plan : Plan) (worker : Option ℕ) (table : FinMap (slice_cmp nat_cmp) Declared) (seen : FinMap (slice_cmp nat_cmp) (Unit {0})) (number many waits : ℕ) (started : ℕ)
+    → IsIndexed plan worker table seen number many waits
+    → IsIndexed (record plan { dormant = set plan.dormant started true }) worker table seen number many waits
+indexed_dormant plan worker table seen number many waits started h =
+    let r = h.readable in
+    let v = valid_parts plan r.valid in
+    record {
+      readable = record {
+        valid = valid_from (record plan { dormant = set plan.dormant started true }) (record {
+          scripts = v.scripts;
+          calls = v.calls;
+          turns = v.turns;
+          references = v.references;
+          dormant = length-set plan.dormant started true ∙ v.dormant;
+        });
+        some_workers = r.some_workers;
+        few_workers = r.few_workers;
+        objects = r.objects;
+        calls = r.calls;
+        call_room = r.call_room;
+        key_room = r.key_room;
+        range_room = r.range_room;
+        try_room = r.try_room;
+        items = r.items;
+        turn_room = r.turn_room;
+      };
+      current = h.current;
+      names = h.names;
       keys = h.keys;
       calls = h.calls;
       ranges = h.ranges;
@@ -234,6 +274,7 @@ indexed_turns plan worker table seen number many waits more h follows =
           calls = v.calls;
           turns = all_append (is_turn plan.workers) plan.schedule more v.turns (all_mono (is_item plan.workers) (is_turn plan.workers) (item_is_turn plan.workers) more items);
           references = v.references;
+          dormant = v.dormant;
         });
         some_workers = r.some_workers;
         few_workers = r.few_workers;
@@ -280,6 +321,7 @@ indexed_call plan worker table seen number many waits name second call h follows
           calls = all_set (list_all test) plan.scripts worker (script ++ call ∷ []) (all_append test script (call ∷ []) (all_at test plan.scripts worker v.calls) (pair (test call) true on refl)) v.calls;
           turns = v.turns;
           references = v.references;
+          dormant = v.dormant;
         });
         some_workers = r.some_workers;
         few_workers = r.few_workers;
@@ -325,14 +367,15 @@ no_calls zero = refl
 no_calls (suc n) = no_calls n
 
 -- the tables of a draft without lines
-pub indexed_start : (workers : ℕ) → 0 < workers → workers ≤ MAX_WORKERS → IsIndexed (record { workers = workers; objects = []; scripts = replicate workers []; schedule = [] }) None empty empty 0 0 0
+pub indexed_start : (workers : ℕ) → 0 < workers → workers ≤ MAX_WORKERS → IsIndexed (record { workers = workers; objects = []; dormant = replicate workers false; scripts = replicate workers []; schedule = [] }) None empty empty 0 0 0
 indexed_start workers some few = record {
   readable = record {
-    valid = valid_from (record { workers = workers; objects = []; scripts = replicate workers []; schedule = [] }) (record {
+    valid = valid_from (record { workers = workers; objects = []; dormant = replicate workers false; scripts = replicate workers []; schedule = [] }) (record {
       scripts = length-replicate workers [];
       calls = all_empty (λ call. is_on [] (slice_get [] call.object) call) workers;
       turns = refl;
       references = refl;
+      dormant = length-replicate workers false;
     });
     some_workers = some;
     few_workers = few;

@@ -45,7 +45,7 @@ use Rattle.workload.specs.declared.reason.Reason.{Reason}
 use Rattle.workload.specs.declared.reason.Reason.TheVariants.{NoWorkersLine, LineTooLong, BadByte, WrongNumberOfWords, BadName, NameTaken, BadNumber, CallOutsideWorker, LimitReached, InputTooLong}
 use Rattle.workload.specs.declared.turn.Turn.{Turn}
 use Rattle.workload.specs.declared.turn.Turn.TheVariants as turns
-use Rattle.workload.specs.Plan.{Plan, word_of, reference_of, is_target, is_amount, has_call, has_among}
+use Rattle.workload.specs.Plan.{Plan, is_dormant, word_of, reference_of, is_target, is_amount, has_call, has_among}
 use Rattle.workload.specs.Lines.{lines_of, words_of, is_short, is_clean, is_significant}
 use Rattle.workload.specs.KeywordWords.{keyword_word, keyword_at, verb_word}
 use Rattle.workload.specs.NumberWords.{number_word, is_number, is_number_to, is_amount_word, is_passes, number_of}
@@ -111,6 +111,16 @@ worker_said d (word ∷ []) few h =
     let number = worker_words d.plan.workers word few h in
     (lines.Worker (number_of word), number.0, ap (λ (w : List ℕ). codes "worker" ∷ w ∷ []) (sym number.1))
 worker_said d (word ∷ other ∷ words) few h = absurd cc
+
+dormant_said : (d : Draft) (words : List (List ℕ)) → d.plan.workers ≤ MAX_WORKERS → first_failing (line_checks d (Some keywords.Dormant) words) ≡ None → Said d (keyword_word keywords.Dormant ∷ words)
+dormant_said d [] few h = absurd cc
+dormant_said d (word ∷ []) few h =
+    let new = not (is_dormant d.plan (number_of word)) in
+    let parts = both_pass (worker_checks d.plan.workers word) ((new, NameTaken) ∷ []) h in
+    let number = worker_words d.plan.workers word few parts.0 in
+    let waits = (all_pass ((new, NameTaken) ∷ []) parts.1).0 in
+    (lines.Dormant (number_of word), pair (nat_lt (number_of word) d.plan.workers) new number.0 waits, ap (λ (w : List ℕ). codes "dormant" ∷ w ∷ []) (sym number.1))
+dormant_said d (word ∷ other ∷ words) few h = absurd cc
 
 item_said : (workers : ℕ) (word : List ℕ) → workers ≤ MAX_WORKERS → first_failing (item_checks workers word) ≡ None → (t : Turn) × (is_item workers t ≡ true) × (word ≡ turn_word t)
 item_said workers [] few h = absurd cc
@@ -543,6 +553,7 @@ line_said : (d : Draft) (word : List ℕ) (k : Option Keyword) (words : List (Li
 line_said d word None words few is h = absurd cc
 line_said d word (Some keywords.Workers) words few is h = absurd cc
 line_said d word (Some (keywords.Object kind)) words few is h = said_as d word (keywords.Object kind) words is (object_said d kind words h)
+line_said d word (Some keywords.Dormant) words few is h = said_as d word keywords.Dormant words is (dormant_said d words few h)
 line_said d word (Some keywords.Worker) words few is h = said_as d word keywords.Worker words is (worker_said d words few h)
 line_said d word (Some keywords.Schedule) words few is h = said_as d word keywords.Schedule words is (schedule_said d words few h)
 line_said d word (Some (keywords.Call verb)) words few is h = said_as d word (keywords.Call verb) words is (call_said d verb words h)

@@ -49,6 +49,7 @@ significant (keywords.Object words.Once) rest = refl
 significant (keywords.Object words.OnceFunc) rest = refl
 significant (keywords.Object words.OnceValue) rest = refl
 significant (keywords.Object words.Pool) rest = refl
+significant keywords.Dormant rest = refl
 significant keywords.Worker rest = refl
 significant keywords.Schedule rest = refl
 significant (keywords.Call verbs.Load) rest = refl

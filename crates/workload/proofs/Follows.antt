@@ -8,7 +8,7 @@ use Rattle.workload.specs.declared.limits.TheConstants.{MAX_ALL_TRIES, MAX_CALLS
 use Rattle.workload.specs.declared.object.ObjectLine.{ObjectLine}
 use Rattle.workload.specs.declared.line.Line.TheVariants as lines
 use Rattle.workload.specs.declared.turn.Turn.{Turn}
-use Rattle.workload.specs.Plan.{word_of}
+use Rattle.workload.specs.Plan.{word_of, is_dormant}
 use Rattle.workload.specs.Draft.{Draft, declared, names_reference, is_kind, count_of, limit_of, call_count, key_count, range_count, is_range, try_count, tries_of, keys_of, names_object, names_second, is_call, is_item, may_follow}
 use Rattle.workload.proofs.Passing.{both, not_true}
 
@@ -29,6 +29,15 @@ object_follows d o to e =
     let p3 = both refers (is_kind o.kind && room) p2.1 in
     let p4 = both (is_kind o.kind) room p3.1 in
     record { name = p1.0; new = not_true (is_some (declared d o.name)) p2.0; reference = p3.0; kind = p4.0; room = p4.1 }
+
+pub record DormantFollows (d : Draft) (worker : ℕ) : Type 0 where
+  pub worker_is : nat_lt worker d.plan.workers ≡ true
+  pub new : is_dormant d.plan worker ≡ false
+
+pub dormant_follows : (d : Draft) (worker : ℕ) → may_follow d (lines.Dormant worker) ≡ true → DormantFollows d worker
+dormant_follows d worker e =
+    let parts = both (nat_lt worker d.plan.workers) (not (is_dormant d.plan worker)) e in
+    record { worker_is = parts.0; new = not_true (is_dormant d.plan worker) parts.1 }
 
 pub record ScheduleFollows (d : Draft) (turns : List Turn) : Type 0 where
   pub some : nat_lt 0 (length turns) ≡ true

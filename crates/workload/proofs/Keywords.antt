@@ -27,6 +27,7 @@ keyword_at-keyword_word (keywords.Object words.Once) = refl
 keyword_at-keyword_word (keywords.Object words.OnceFunc) = refl
 keyword_at-keyword_word (keywords.Object words.OnceValue) = refl
 keyword_at-keyword_word (keywords.Object words.Pool) = refl
+keyword_at-keyword_word keywords.Dormant = refl
 keyword_at-keyword_word keywords.Worker = refl
 keyword_at-keyword_word keywords.Schedule = refl
 keyword_at-keyword_word (keywords.Call verbs.Load) = refl

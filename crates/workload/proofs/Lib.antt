@@ -1,3 +1,4 @@
+mod DormantLines
 pub mod DraftLemmas
 pub mod Follows
 pub mod KeyLemmas

@@ -52,7 +52,7 @@ use Rattle.workload.specs.declared.object.Declared.{Declared}
 use Rattle.workload.proofs.CallWords.{narrow, amount_small}
 use Rattle.workload.proofs.Awaits.{held}
 use Rattle.workload.specs.Draft.{Draft, declared, may_follow, names_object, names_second, is_call, is_operation, is_map_call, is_group_call, is_pool_call, is_composed_call, is_kind, is_reference, names_reference, is_value, is_item}
-use Rattle.workload.proofs.Follows.{object_follows, schedule_follows, call_follows}
+use Rattle.workload.proofs.Follows.{object_follows, dormant_follows, schedule_follows, call_follows}
 use Rattle.workload.proofs.Numbers.{numerals}
 use Rattle.workload.specs.Lines.{lines_of, words_of, is_clean, is_printable, is_filled}
 use Rattle.workload.proofs.Passing.{both, pair, all_append, all_mono}
@@ -424,6 +424,7 @@ object_word_fits words.Pool = (refl, omega arith)
 -- a schedule line of at most eight items, and any other line
 abbrev pub IsNarrow : Line → Type 0
 IsNarrow (lines.Object o r) = Unit {0}
+IsNarrow (lines.Dormant w) = Unit {0}
 IsNarrow (lines.Worker w) = Unit {0}
 IsNarrow (lines.Schedule ts) = length ts ≤ 8
 IsNarrow (lines.Call n r c) = Unit {0}
@@ -440,6 +441,12 @@ line_fits d (lines.Object o r) few f narrow =
     record {
       all = pair (is_word word) (list_all is_word (o.name ∷ rest)) first.0 (pair (is_word o.name) (list_all is_word rest) second.0 others.0);
       short = omega (arith, length-join word (o.name ∷ rest), first.1, second.1, others.1);
+    }
+line_fits d (lines.Dormant w) few f narrow =
+    let second = decimal_is_word w (omega (arith, ltb-true w d.plan.workers (dormant_follows d w f).worker_is)) in
+    record {
+      all = pair true (list_all is_word (decimal w ∷ [])) refl (pair (is_word (decimal w)) true second.0 refl);
+      short = omega (arith, length-join (codes "dormant") (decimal w ∷ []), second.1);
     }
 line_fits d (lines.Worker w) few f narrow =
     let second = decimal_is_word w (omega (arith, ltb-true w d.plan.workers f)) in

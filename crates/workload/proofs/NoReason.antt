@@ -1,5 +1,5 @@
 -- A line that is read has no reason to be refused.
-use Rattle.std.proofs.Common.{◌≡◌, ℕ, ℤ, ◌++◌, ◌+◌, ◌^◌, ◌<◌, ◌≤◌, Bool, true, false, cond, eqb, List, [], ◌∷◌, map, length, Option, Some, None, refl, sym, ap, subst, ◌∙◌, arith, ⊎_elim}
+use Rattle.std.proofs.Common.{◌≡◌, ℕ, ℤ, ◌++◌, ◌+◌, ◌^◌, ◌<◌, ◌≤◌, Bool, true, false, cond, eqb, not, List, [], ◌∷◌, map, length, Option, Some, None, refl, sym, ap, subst, ◌∙◌, arith, ⊎_elim}
 use Rattle.std.specs.Prelude.{nat_lt, nat_le}
 use Rattle.std.specs.List.{list_all, flat_map}
 use Rattle.std.specs.Fmt.{decimal, signed_decimal}
@@ -20,19 +20,19 @@ use Rattle.workload.specs.declared.object.ObjectWord.TheVariants as words
 use Rattle.workload.specs.declared.line.Line.{Line}
 use Rattle.workload.specs.declared.line.Line.TheVariants as lines
 use Rattle.workload.specs.declared.reason.Reason.{Reason}
-use Rattle.workload.specs.declared.reason.Reason.TheVariants.{BadNumber, LimitReached}
+use Rattle.workload.specs.declared.reason.Reason.TheVariants.{BadNumber, NameTaken, LimitReached}
 use Rattle.workload.specs.declared.turn.Turn.{Turn}
 use Rattle.workload.specs.declared.turn.Turn.TheVariants as turns
-use Rattle.workload.specs.Plan.{Plan, word_of, reference_of, is_target, has_among}
+use Rattle.workload.specs.Plan.{Plan, is_dormant, word_of, reference_of, is_target, has_among}
 use Rattle.workload.specs.Lines.{lines_of, words_of, is_significant}
-use Rattle.workload.specs.NumberWords.{is_number, is_number_to, is_amount_word}
+use Rattle.workload.specs.NumberWords.{is_number, is_number_to, is_amount_word, number_of}
 use Rattle.workload.specs.CallWords.{verb_of, operands_of}
 use Rattle.workload.specs.Words.{keyword_of, arguments_of, kind_parameters, turn_word}
 use Rattle.workload.specs.Draft.{Draft, count_of, limit_of, is_kind, names_reference, declared, may_follow, names_object, is_item, keys_of, range_count, tries_of}
 use Rattle.workload.specs.Checks.{Check, first_failing, call_form, form_checks, parameters_of, parameters_checks, reference_checks, is_mutex, is_int64, ranges_in, worker_checks, item_checks, line_checks, word_checks, reason_of}
 use Rattle.workload.specs.Reads.{Continues, IsRead, ReadsOn, Reads, FirstFault, IsRefused}
 use Rattle.workload.proofs.Passing.{both}
-use Rattle.workload.proofs.Follows.{object_follows, schedule_follows, CallFollows, call_follows}
+use Rattle.workload.proofs.Follows.{object_follows, dormant_follows, schedule_follows, CallFollows, call_follows}
 use Rattle.workload.proofs.Numbers.{is_number-decimal, number_of-decimal}
 use Rattle.workload.proofs.FirstFailing.{passes_first, form_passes}
 use Rattle.workload.proofs.CallWords.{amount_passes}
@@ -138,6 +138,11 @@ line_passes d (lines.Object o r) few f =
     let words = option_to_list r ++ kind_parameters o.kind in
     let passes = parameters_pass d o.kind r h.reference h.kind in
     rw (passes.0, h.name, h.new) (passes_first (parameters_checks d (parameters_of word) words) ((nat_lt (count_of word d.plan.objects) (limit_of word), LimitReached) ∷ []) passes.1 ∙ rw h.room refl)
+line_passes d (lines.Dormant i) few f =
+    let h = dormant_follows d i f in
+    let small : i < 2 ^ 64 = omega (arith, ltb-true i d.plan.workers h.worker_is) in
+    let new : is_dormant d.plan (number_of (decimal i)) ≡ false = ap (is_dormant d.plan) (number_of-decimal i small) ∙ h.new in
+    passes_first (worker_checks d.plan.workers (decimal i)) ((not (is_dormant d.plan (number_of (decimal i))), NameTaken) ∷ []) (worker_passes d.plan.workers i few h.worker_is) ∙ rw new refl
 line_passes d (lines.Worker i) few f = worker_passes d.plan.workers i few f
 line_passes d (lines.Schedule ts) few f =
     let h = schedule_follows d ts f in

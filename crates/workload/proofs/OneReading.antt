@@ -24,6 +24,7 @@ some_is x y e = cc
 
 pub line_small : (d : Draft) (line : Line) → d.plan.workers ≤ MAX_WORKERS → (with_line d line).plan.workers ≤ MAX_WORKERS
 line_small d (lines.Object o to) h = h
+line_small d (lines.Dormant w) h = h
 line_small d (lines.Worker w) h = h
 line_small d (lines.Schedule ts) h = h
 line_small d (lines.Call n r c) h = h

@@ -45,7 +45,7 @@ use Rattle.workload.specs.CallWords.{verb_of, map_verb, atomic_verb, mutex_verb,
 use Rattle.workload.specs.Words.{keyword_of, arguments_of, spelled, kind_parameters, turn_word}
 use Rattle.workload.specs.Draft.{Draft, declared, may_follow, names_object, names_second, is_call, is_operation, is_map_call, is_group_call, is_pool_call, is_composed_call, is_kind, names_reference, is_item}
 use Rattle.workload.proofs.Passing.{both}
-use Rattle.workload.proofs.Follows.{object_follows, schedule_follows, call_follows}
+use Rattle.workload.proofs.Follows.{object_follows, dormant_follows, schedule_follows, call_follows}
 use Rattle.workload.proofs.References.{Refers, some_reference, no_reference}
 use Rattle.workload.proofs.Numbers.{is_number-decimal}
 use Rattle.workload.proofs.Keywords.{same_keyword}
@@ -338,6 +338,10 @@ same_arguments d (lines.Object o r) (lines.Object p s) few f g k e =
     ap (λ (n : List ℕ). lines.Object (record { name = n; kind = o.kind }) r) words.0
     ∙ ap (λ (x : ObjectKind). lines.Object (record { name = p.name; kind = x }) r) kind.0
     ∙ ap (λ (x : Option (List ℕ)). lines.Object p x) kind.1
+same_arguments d (lines.Dormant i) (lines.Dormant j) few f g k e =
+    let first = (dormant_follows d i f).worker_is in
+    let second = (dormant_follows d j g).worker_is in
+    ap (λ (n : ℕ). lines.Dormant n) (decimal_injective i j (omega (arith, ltb-true i d.plan.workers first)) (omega (arith, ltb-true j d.plan.workers second)) (heads (decimal i) (decimal j) [] [] e).0)
 same_arguments d (lines.Worker i) (lines.Worker j) few f g k e =
     ap (λ (n : ℕ). lines.Worker n) (decimal_injective i j (omega (arith, ltb-true i d.plan.workers f)) (omega (arith, ltb-true j d.plan.workers g)) (heads (decimal i) (decimal j) [] [] e).0)
 same_arguments d (lines.Schedule ts) (lines.Schedule us) few f g k e =

@@ -275,6 +275,10 @@ declaration_checks d word (name ∷ words) =
 abbrev pub worker_checks : ℕ → List ℕ → List Check
 worker_checks workers word = (is_number word, BadNumber) ∷ (nat_lt (number_of word) workers, NoSuchWorker) ∷ []
 
+-- a worker that no `dormant` line names yet
+abbrev pub dormant_checks : Draft → List ℕ → List Check
+dormant_checks d word = worker_checks d.plan.workers word ++ (not (is_dormant d.plan (number_of word)), NameTaken) ∷ []
+
 -- an item of a schedule is a moment behind an `@`, or a worker's number
 abbrev pub item_checks : ℕ → List ℕ → List Check
 item_checks workers [] = (false, BadNumber) ∷ []
@@ -290,7 +294,7 @@ abbrev pub line_checks : Draft → Option Keyword → List (List ℕ) → List C
 line_checks d None words = (false, UnknownWord) ∷ []
 line_checks d (Some keywords.Workers) words = (false, NameTaken) ∷ []
 line_checks d (Some (keywords.Object word)) words = declaration_checks d word words
-line_checks d (Some keywords.Dormant) words = one_word words (λ word. worker_checks d.plan.workers word ++ (not (is_dormant d.plan (number_of word)), NameTaken) ∷ [])
+line_checks d (Some keywords.Dormant) words = one_word words (dormant_checks d)
 line_checks d (Some keywords.Worker) words = one_word words (worker_checks d.plan.workers)
 line_checks d (Some keywords.Schedule) words =
     (nat_lt 0 (length words), WrongNumberOfWords) ∷ flat_map (item_checks d.plan.workers) words ++ (nat_le (length d.plan.schedule + length words) MAX_TURNS, LimitReached) ∷ []

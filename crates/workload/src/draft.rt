@@ -478,8 +478,6 @@ impl Draft {
             ..
         } = self;
         let keys = Keys::of_scripts(alloc, scripts.as_slice())?;
-        Ok(Workload::new(
-            workers, objects, dormant, scripts, schedule, keys,
-        ))
+        Ok(Workload::new(workers, objects, dormant, scripts, schedule, keys))
     }
 }

@@ -1,5 +1,5 @@
 //! Laws of the grammar.
-ghost use Rattle.std.specs.Prelude.{◌≡◌, ◌↔◌, ◌⊎◌, ◌<◌, ◌≤◌, ℕ, ◌+◌, ◌-◌, ◌*◌, ◌^◌, [], ◌∷◌, ◌++◌, true, List, Option, Some, None, count_by, length, slice_get, take, drop};
+ghost use Rattle.std.specs.Prelude.{◌≡◌, ◌↔◌, ◌⊎◌, ◌<◌, ◌≤◌, ℕ, ◌+◌, ◌-◌, ◌*◌, ◌^◌, [], ◌∷◌, ◌++◌, true, false, List, Option, Some, None, count_by, length, slice_get, take, drop};
 ghost use Rattle.std.specs.Option.{option_to_list};
 ghost use Rattle.std.specs.List.{list_any, position_from};
 ghost use Rattle.std.specs.Str.{bytes_eq};
@@ -8,6 +8,7 @@ ghost use Rattle.sync_types.specs.declared.name.TheConstants.{MAX_NAME};
 ghost use Rattle.workload.specs.Canonical.{canonical, eights};
 ghost use Rattle.workload.specs.CallWords.{verb_of, operands_of};
 ghost use Rattle.workload.specs.Checks.{Check, first_failing, call_form, form_words, keys_among, tries_among, ranges_in};
+ghost use Rattle.workload.specs.Dormant.{begins_dormant, names_dormant};
 ghost use Rattle.workload.specs.Draft.{Draft, all_keys, declared, distinct_count, is_operation, is_range_operation, names_second, operation_keys, tries_of};
 ghost use Rattle.workload.specs.Keys.{keys_in, number_in, key_number, key_name};
 ghost use Rattle.workload.specs.Readable.{IsReadable};
@@ -21,7 +22,8 @@ ghost use Rattle.workload.specs.declared.object.ObjectKind.{ObjectKind};
 ghost use Rattle.workload.specs.declared.object.ObjectLine.{ObjectLine};
 ghost use Rattle.workload.specs.declared.reason.Reason.{Reason};
 ghost use Rattle.workload.specs.declared.turn.Turn.{Turn};
-ghost use Rattle.workload.specs.Plan.{Plan, word_of, has_among};
+ghost use Rattle.workload.specs.Lines.{lines_of, words_of};
+ghost use Rattle.workload.specs.Plan.{Plan, word_of, has_among, is_dormant, has_dormant};
 ghost use Rattle.workload.specs.Reads.{Reads, IsRefused};
 
 use crate::limits::{
@@ -122,6 +124,14 @@ pub fn limits()
     ensures passes { MAX_PASSES ≡ 1000 }
     ensures tries { (MAX_TRIES ≡ 1000) × (MAX_ALL_TRIES ≡ 20000) }
     ensures numbers { (MAX_AMOUNT ≡ 10000) × (MAX_CODE ≡ 1000) × (MAX_VALUE ≡ 2 ^ 63 - 1) }
+{}
+
+/// A worker waits to be started exactly where a line of the text is `dormant` and its number. So nobody does in a text
+/// without a line that begins with `dormant`.
+pub fn dormant_lines_say_who_waits()
+    ensures each { (bytes : List ℕ) (plan : Plan) (worker : ℕ) → Reads bytes plan → worker < plan.workers → is_dormant plan worker ≡ list_any (λ line. names_dormant worker (words_of line)) (lines_of bytes) }
+    ensures any { (bytes : List ℕ) (plan : Plan) → Reads bytes plan → has_dormant plan ≡ list_any (λ line. begins_dormant (words_of line)) (lines_of bytes) }
+    ensures nobody { (plan : Plan) → has_dormant plan ≡ false ↔ ((worker : ℕ) → is_dormant plan worker ≡ false) }
 {}
 
 /// A workload has at most 16 maps, 64 atomics, and 32 objects of each of the eight other words.

@@ -8,7 +8,7 @@ ghost use Rattle.workload.specs.CallWords.{operands_of};
 ghost use Rattle.workload.specs.Words.{turn_word, kind_parameters, spelled};
 ghost use Rattle.workload.specs.declared.line.Line.TheVariants as Line;
 ghost use Rattle.workload.specs.Reads.{Reads};
-ghost use Rattle.workload.specs.Canonical.{text_line, call_line, object_line, name_of, reference_name, second_name, script_lines, eights, canonical_lines, canonical, behind_spaces, lines_text};
+ghost use Rattle.workload.specs.Canonical.{text_line, call_line, object_line, name_of, reference_name, second_name, dormant_lines, script_lines, eights, canonical_lines, canonical, behind_spaces, lines_text};
 ghost use Rattle.workload_text.specs.Numbers.{numbers_in};
 
 use crate::call::{second, verb};
@@ -199,6 +199,18 @@ fn put_objects(alloc: Global, text: &mut Vec<u8>, objects: &[ObjectLine]) -> Res
     Ok(())
 }
 
+/// Writes a line for each worker that waits to be started.
+fn put_dormant(alloc: Global, text: &mut Vec<u8>, workload: &Workload) -> Result<(), AllocError>
+    ensures { OnOk result (text.new.items ≡ text.old.items ++ lines_text (dormant_lines 0 workload.now.dormant)) }
+{
+    for worker in 0..workload.workers() {
+        if workload.is_dormant(worker) {
+            put_numbered(alloc, text, Keyword::Dormant, worker)?;
+        }
+    }
+    Ok(())
+}
+
 /// Writes the lines of calls.
 fn put_calls(
     alloc: Global,
@@ -275,12 +287,14 @@ fn put_lines(alloc: Global, text: &mut Vec<u8>, workload: &Workload) -> Result<(
     ensures { OnOk result (text.new.items ≡ text.old.items ++ lines_text (canonical_lines workload.now)) }
 {
     put_objects(alloc, text, workload.objects())?;
+    put_dormant(alloc, text, workload)?;
     put_scripts(alloc, text, workload)?;
     put_schedule(alloc, text, workload.schedule())
 }
 
-/// The canonical text of a workload: the `workers` line, the objects in order of declaration, for each
-/// worker from 0 up a `worker` line and its calls, and the schedule, eight items a line.
+/// The canonical text of a workload: the `workers` line, the objects in order of declaration, a `dormant`
+/// line for each worker that waits to be started, from 0 up, for each worker from 0 up a `worker` line and
+/// its calls, and the schedule, eight items a line.
 ///
 /// It is read as the workload again.
 pub fn print(alloc: Global, workload: &Workload) -> Result<Vec<u8>, AllocError>

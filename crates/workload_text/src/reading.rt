@@ -1,9 +1,10 @@
 //! One line, read after those before it.
 ghost use Rattle.std.specs.Prelude.{◌≡◌, ◌<◌, true, map, MatchResult, None};
 ghost use Rattle.std.specs.Fmt.{decimal};
+ghost use Rattle.workload.specs.NumberWords.{number_of};
 ghost use Rattle.workload.specs.Words.{turn_word};
-ghost use Rattle.workload.specs.Draft.{is_item, keys_of, tries_of};
-ghost use Rattle.workload.specs.Checks.{worker_checks, item_checks, ranges_in, limit_checks, first_failing};
+ghost use Rattle.workload.specs.Draft.{may_follow, is_item, keys_of, tries_of};
+ghost use Rattle.workload.specs.Checks.{worker_checks, dormant_checks, item_checks, ranges_in, limit_checks, first_failing};
 ghost use Rattle.workload_text.specs.LineResult.{IsFault, IsTurns, IsWorkers, IsLineOf, IsLine};
 
 use crate::call_reading::read_call_on;
@@ -25,7 +26,7 @@ use workload::turn::Turn;
 
 /// The number of a worker of whom there are so many.
 fn read_worker(workers: u32, word: &[u8]) -> Result<u32, LineFault>
-    ensures { MatchResult result (λ worker. (decimal worker ≡ word.now) × (worker < workers) × (first_failing (worker_checks workers word.now) ≡ None)) (IsFault (worker_checks workers word.now)) }
+    ensures { MatchResult result (λ worker. (decimal worker ≡ word.now) × (worker < workers) × (first_failing (worker_checks workers word.now) ≡ None) × (number_of word.now ≡ worker)) (IsFault (worker_checks workers word.now)) }
 {
     if !is_number(word) {
         return Err(LineFault::Refused(Reason::BadNumber));
@@ -131,6 +132,28 @@ fn read_object(
     Ok(Line::Object(ObjectLine { name: object, kind }, reference))
 }
 
+/// The number of a worker that no `dormant` line names yet.
+fn read_dormant(draft: &Draft, word: &[u8]) -> Result<u32, LineFault>
+    ensures { MatchResult result (λ worker. (decimal worker ≡ word.now) × (may_follow draft.now (Line.Dormant worker) ≡ true) × (first_failing (dormant_checks draft.now word.now) ≡ None)) (IsFault (dormant_checks draft.now word.now)) }
+{
+    checks_go_in_order();
+    let worker = read_worker(draft.workers(), word)?;
+    if draft.is_dormant(worker) {
+        return Err(LineFault::Refused(Reason::NameTaken));
+    }
+    Ok(worker)
+}
+
+/// A line that says which worker waits to be started.
+fn read_dormant_line(draft: &Draft, arguments: &[&[u8]]) -> Result<Line, LineFault>
+    ensures { IsLineOf draft.now Keyword.Dormant (map (λ word. word.now) arguments.now) result }
+{
+    let [worker] = arguments else {
+        return Err(LineFault::Refused(Reason::WrongNumberOfWords));
+    };
+    Ok(Line::Dormant(read_dormant(draft, worker)?))
+}
+
 /// A line that says whose calls follow.
 fn read_worker_line(draft: &Draft, arguments: &[&[u8]]) -> Result<Line, LineFault>
     ensures { IsLineOf draft.now Keyword.Worker (map (λ word. word.now) arguments.now) result }
@@ -182,6 +205,7 @@ pub fn read_line(
         None => Err(LineFault::Refused(Reason::UnknownWord)),
         Some(Keyword::Workers) => Err(LineFault::Refused(Reason::NameTaken)),
         Some(Keyword::Object(word)) => read_object(alloc, draft, word, arguments),
+        Some(Keyword::Dormant) => read_dormant_line(draft, arguments),
         Some(Keyword::Worker) => read_worker_line(draft, arguments),
         Some(Keyword::Schedule) => read_schedule(alloc, draft, arguments),
         Some(Keyword::Call(verb)) => read_call(alloc, draft, verb, arguments),

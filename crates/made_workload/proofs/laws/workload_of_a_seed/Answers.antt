@@ -26,5 +26,9 @@ returns-clause-calls c = all_calls
 pub returns-clause-no_tests : goal.returns-clause-no_tests
 returns-clause-no_tests c = no_tests
 
+pub returns-clause-no_dormant : goal.returns-clause-no_dormant
+unfolding generated_plan
+returns-clause-no_dormant c = λ seed. refl
+
 pub returns-clause-readable : goal.returns-clause-readable
 returns-clause-readable c = readable

@@ -16,7 +16,7 @@ overflow_add-result c =
 pub invariant_of-result : goal.invariant_of-result
 invariant_of-result c =
     let d = c.self.inside in
-    let plan : Plan = record { workers = d.workers; objects = d.objects; scripts = d.scripts; schedule = d.schedule } in
+    let plan : Plan = record { workers = d.workers; objects = d.objects; dormant = d.dormant.items; scripts = d.scripts; schedule = d.schedule } in
     let worker = c.in-Some.worker in
     let indexed = subst (λ w. IsIndexed plan w d.names d.keys d.calls d.ranges d.tries) c.in-Some.is c.self.invariant in
     let follows = subst (λ draft. may_follow draft (lines.Call c.args.name c.args.second c.args.call) ≡ true) (sym c.self.view_is) c.requires in
