@@ -17,6 +17,7 @@ mod SpeltLines
 mod SpeltMisuse
 mod SpeltOutcome
 mod SpeltRun
+mod SpeltStarts
 mod SpeltTurns
 mod StartLemmas
 mod TurnLemmas
