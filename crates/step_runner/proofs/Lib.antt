@@ -2,6 +2,7 @@ mod CallBounds
 mod EndLemmas
 mod MadeLemmas
 mod MetCalls
+mod NextCalls
 mod OneTurnCalls
 mod Numbered
 mod PlacedRun
