@@ -45,11 +45,12 @@ use Rattle.step_runner.specs.State.{State, start, with_reply, with_moment, IsSta
 use Rattle.step_runner.specs.Turns.{begun_by, next_call, settled, turn_of, and_then, items_of as after_all, after_items}
 use Rattle.step_runner.proofs.FormLemmas.{TurnStands, Standing, own_out, own_at}
 use Rattle.step_runner.proofs.MadeLemmas.{event_state}
+use Rattle.step_runner.proofs.NextCalls.{left_with, idle_left, live_left, next_live, next_first}
 use Rattle.step_runner.proofs.Numbered.{NamesAside}
 use Rattle.step_runner.proofs.RunKeys.{HasKeys}
 use Rattle.step_runner.proofs.RunLemmas.{GoesOn, Kept}
 use Rattle.step_runner.proofs.SpeltLines.{count-append, recorded-append, flat-push, spelt-push, map-push}
-use Rattle.step_runner.proofs.SpeltStarts.{asleep_next, awake_next, awake, stays, opens, closes}
+use Rattle.step_runner.proofs.SpeltStarts.{stays, opens, closes}
 use Rattle.step_runner.proofs.SpeltTurns.{items_in, count_in, made_in, ByTurns, same_parts, more_last, more_spelt, part_of_other, part_of_own, part_elsewhere}
 use Rattle.step_runner.proofs.ScriptRuns.{split_first, none_first}
 use Rattle.step_runner.proofs.StartLemmas.{each_start, none_begun, none_replied}
@@ -133,13 +134,9 @@ rest_left laws plan worker made s h =
     replies_of [] = refl
     replies_of (one ∷ spelt) = ap (λ (l : List (Reply ℕ)). one.reply ∷ l) (replies_of spelt)
 
--- the next call is the first that is left, but of one that waits to be started
-next_left : Spells → (plan : Plan) (worker : ℕ) (made : Trace) (s : State) (h : SoFar plan worker made s) → is_dormant plan worker ≡ false → next_call plan worker s ≡ slice_get h.rest 0
-next_left laws plan worker made s h is = awake_next plan worker s is ∙ ap (λ (l : List Call). slice_get l 0) (sym (rest_left laws plan worker made s h))
-
--- where there is one, it is that
+-- the next call is the first of it
 rest_first : Spells → (plan : Plan) (worker : ℕ) (made : Trace) (s : State) (h : SoFar plan worker made s) (call : Call) → next_call plan worker s ≡ Some call → (rest : List Call) × (h.rest ≡ call ∷ rest)
-rest_first laws plan worker made s h call some = split_first h.rest call (sym (next_left laws plan worker made s h (awake plan worker s call some)) ∙ some)
+rest_first laws plan worker made s h call some = split_first h.rest call (ap (λ (l : List Call). slice_get l 0) (rest_left laws plan worker made s h) ∙ next_first plan worker s call some)
 
 -- it has as many replies as calls were completed
 count_spelt : (plan : Plan) (worker : ℕ) (made : Trace) (s : State) (h : SoFar plan worker made s) → length (get_or s.replies worker []) ≡ length h.spelt
@@ -159,8 +156,11 @@ module _ (laws : Spells) (plan : Plan) (over : Bool) (worker : ℕ) (made : Trac
   abbrev FallsNow : Type 0
   FallsNow = FallsAs plan over worker made (get_or s.replies worker []) None
 
+  abbrev given : List (Reply (List ℕ))
+  given = get_or s.replies worker []
+
   abbrev next_is : Option Call
-  next_is = slice_get (left_of (get_or plan.scripts worker []) (get_or s.replies worker [])) 0
+  next_is = slice_get (left_of (get_or plan.scripts worker []) given) 0
 
   stands_by : (o : Option Call) → next_call plan worker s ≡ o → Stands plan worker (count_in (items_in h.spelt)) h.last o (begun_by worker s) s.objects
   stands_by o is = subst (λ (o : Option Call). Stands plan worker (count_in (items_in h.spelt)) h.last o (begun_by worker s) s.objects) is h.stands
@@ -183,7 +183,7 @@ module _ (laws : Spells) (plan : Plan) (over : Bool) (worker : ℕ) (made : Trac
     before = refl;
     behind = unclosed_last;
     ends = sym (ap (λ (b : Bool). ends_as over b next_is None) is);
-    is = record { opens = (h.asleep is, stays plan worker over is); calls = h.are; ends = (stands_by None (asleep_next plan worker s is)).0; halts = refl };
+    is = record { opens = (h.asleep is, stays plan worker over is); calls = h.are; ends = (stands_by None (ap (λ (l : List Call). slice_get l 0) (idle_left plan worker given is))).0; halts = refl };
     halts = refl;
   }
 
@@ -191,7 +191,7 @@ module _ (laws : Spells) (plan : Plan) (over : Bool) (worker : ℕ) (made : Trac
   whole_line : is_dormant plan worker ≡ false → next_call plan worker s ≡ None → FallsNow
   whole_line is none =
       let closed = closing_items plan worker whole in
-      let first = sym (awake_next plan worker s is) ∙ none in
+      let first : next_is ≡ None = ap (λ (l : List Call). slice_get l 0) (sym (live_left plan worker given is)) ∙ none in
       record {
         line = record { first = []; spelt = h.spelt; last = h.last ++ closed; halts = []; rest = h.rest; ending = whole };
         runs = h.runs;
@@ -204,7 +204,7 @@ module _ (laws : Spells) (plan : Plan) (over : Bool) (worker : ℕ) (made : Trac
         is = record {
           opens = opens plan worker is;
           calls = h.are;
-          ends = (none_first h.rest (sym (next_left laws plan worker made s h is) ∙ none), subst (λ (l : List Made). closing plan worker (l ++ closed) (Done (Ok tt))) (sym (stands_by None none).0) (closes plan worker));
+          ends = (none_first h.rest (ap (λ (l : List Call). slice_get l 0) (rest_left laws plan worker made s h) ∙ first), subst (λ (l : List Made). closing plan worker (l ++ closed) (Done (Ok tt))) (sym (stands_by None none).0) (closes plan worker));
           halts = refl;
         };
         halts = refl;
@@ -213,8 +213,7 @@ module _ (laws : Spells) (plan : Plan) (over : Bool) (worker : ℕ) (made : Trac
   -- of one that stands before a call or within it
   unfinished_line : (call : Call) → next_call plan worker s ≡ Some call → FallsNow
   unfinished_line call some =
-      let is = awake plan worker s call some in
-      let first = sym (awake_next plan worker s is) ∙ some in
+      let is = next_live plan worker s call some in
       let split = rest_first laws plan worker made s h call some in
       let can = laws.goes_on plan worker (count_in (items_in h.spelt) + count_in h.last) (begun_by worker s) call s.objects (ready plan worker s call of some) in
       record {
@@ -225,7 +224,7 @@ module _ (laws : Spells) (plan : Plan) (over : Bool) (worker : ℕ) (made : Trac
         turns = h.turns.each;
         before = refl;
         behind = unclosed_last;
-        ends = sym (ap (λ (b : Bool). ends_as over b next_is None) is ∙ ap (λ (o : Option Call). ending_by o None) first);
+        ends = sym (ap (λ (b : Bool). ends_as over b next_is None) is ∙ ap (λ (o : Option Call). ending_by o None) (next_first plan worker s call some));
         is = record { opens = opens plan worker is; calls = h.are; ends = (can.0, can.1, (stands_by (Some call) some).1 can.0 can.1 can.2); halts = refl };
         halts = refl;
       }
@@ -314,12 +313,9 @@ module _ (laws : Spells) (stand_laws : TurnStands) (uses : TurnsUse) (plan : Pla
       turns = same_parts plan h.spelt h.last (made.parts worker) ((more plan made by s).parts worker) (λ k. ap (λ (l : List Item). made.parts worker k ++ l) (part_of_other plan worker k by s apart) ∙ append-nil (made.parts worker k)) h.turns;
       are = h.are;
       asleep = h.asleep;
-      stands = subst (λ (done : List (Reply (List ℕ))). Stands plan worker (count_in (items_in h.spelt)) h.last (next_by done) (begun_by worker t) t.objects) (sym same)
+      stands = subst (λ (done : List (Reply (List ℕ))). Stands plan worker (count_in (items_in h.spelt)) h.last (slice_get (left_with plan worker done) 0) (begun_by worker t) t.objects) (sym same)
           (subst (λ (n : ℕ). Stands plan worker (count_in (items_in h.spelt)) h.last (next_call plan worker s) n t.objects) (sym same_begun) stands);
     }
-      where
-        next_by : List (Reply (List ℕ)) → Option Call
-        next_by done = slice_get (cond (is_dormant plan worker) [] (left_of (get_or plan.scripts worker []) done)) 0
 
     other_moved : (call : Call) (objects : List ObjectState) (waits : ℕ) (answer : Answer) → Takes plan by s call objects waits answer → SoFar plan worker (more plan made by s) (moved by objects waits s)
     other_moved call objects waits answer takes = other_so_far (moved by objects waits s) refl (begun_other by worker waits objects s apart) (other_stands call objects waits answer takes)
@@ -470,7 +466,7 @@ module _ (laws : Spells) (stand_laws : TurnStands) (uses : TurnsUse) (plan : Pla
             items = append-nil (items_in (h.spelt ++ one ∷ [])) ∙ flat-push h.spelt one ∙ sym list_is;
             turns = more_spelt plan h.spelt one ((more plan made by s).parts by) own_turns;
             are = spelt-push plan by 0 h.spelt one h.are (subst (λ (n : ℕ). SpellsCall plan by n call one.items (Done (Ok one.reply))) none spells);
-            asleep = λ sleeps. let clash : true ≡ false = sym sleeps ∙ awake plan by s call some in cc;
+            asleep = λ sleeps. let clash : true ≡ false = sym sleeps ∙ next_live plan by s call some in cc;
             stands = completed_stands objects waits reply takes (next_call plan by t) refl;
           }
 
@@ -478,7 +474,7 @@ module _ (laws : Spells) (stand_laws : TurnStands) (uses : TurnsUse) (plan : Pla
           → FallsAs plan over by (more plan made by s) (get_or s.replies by []) (Some misuse)
       own_misused objects waits misuse takes =
           let spells = own_stands.1 turn_made (Done (Err misuse)) (told objects waits (answers.Misused misuse) takes).0 in
-          let is = awake plan by s call some in
+          let is = next_live plan by s call some in
           record {
             line = record { first = []; spelt = h.spelt; last = h.last ++ turn_made; halts = []; rest = call ∷ rest_is.0; ending = misused misuse };
             runs = subst (RunsAlong (get_or plan.scripts by []) (calls_in h.spelt)) rest_is.1 h.runs;

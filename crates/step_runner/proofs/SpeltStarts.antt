@@ -1,49 +1,22 @@
 -- What a worker makes on Starts before its script and behind it, where some workers wait to be started.
-use Rattle.std.proofs.Common.{◌≡◌, ◌≢◌, ℕ, Bool, true, false, List, [], ◌∷◌, get_or, Some, None, refl, sym, ap, ◌∙◌, subst}
-use Rattle.std.specs.Prelude.{cond, Ok, slice_get}
+use Rattle.std.proofs.Common.{◌≡◌, ◌≢◌, ℕ, Bool, true, false, cond, List, [], ◌∷◌, refl, sym, subst}
+use Rattle.std.specs.Prelude.{Ok}
 use Rattle.sync_model.specs.declared.answer.Answer.TheVariants.{Done}
 use Rattle.sync_model.specs.declared.journal.Deed.TheVariants.{Event}
 use Rattle.sync_model.specs.declared.journal.Entry.{Entry}
-use Rattle.script_calls.specs.Runs.{left_of}
-use Rattle.script_calls.specs.declared.call.Call.{Call}
 use Rattle.starts_core.specs.declared.protocol.StartsOutcome.TheVariants as outcome
 use Rattle.starts_core.specs.declared.starts.StartEvent.{StartEvent}
 use Rattle.starts_core.specs.declared.starts.StartEvent.TheVariants as starts
 use Rattle.starts_core.specs.declared.starts.StartReply.{StartReply}
 use Rattle.starts_core.specs.declared.starts.StartReply.TheVariants as told
 use Rattle.workload.specs.Plan.{Plan, is_dormant, has_dormant}
-use Rattle.run_record.specs.Lines.{whole, stayed, never, waits, StaysBy}
+use Rattle.run_record.specs.Lines.{whole, never, waits, StaysBy}
 use Rattle.run_record.specs.Objects.{starts_number}
 use Rattle.run_record.specs.Parts.{returns}
 use Rattle.run_record.specs.StartsKind.{opening, closing, wait_start_part, end_part}
-use Rattle.run_record.specs.declared.made.Made.{Made}
 use Rattle.step_runner.specs.Spelt.{made_on_starts, opening_items, closing_items, stays_by}
-use Rattle.step_runner.specs.State.{State}
-use Rattle.step_runner.specs.Turns.{next_call}
 
--- ---- who waits to be started
-
--- stands before no call
-pub asleep_next : (plan : Plan) (worker : ℕ) (s : State) → is_dormant plan worker ≡ true → next_call plan worker s ≡ None
-asleep_next plan worker s asleep = ap (λ (b : Bool). slice_get (cond b [] (left_of (get_or plan.scripts worker []) (get_or s.replies worker []))) 0) asleep
-
--- any other before the first that is left of its script
-pub awake_next : (plan : Plan) (worker : ℕ) (s : State) → is_dormant plan worker ≡ false → next_call plan worker s ≡ slice_get (left_of (get_or plan.scripts worker []) (get_or s.replies worker [])) 0
-awake_next plan worker s awake = ap (λ (b : Bool). slice_get (cond b [] (left_of (get_or plan.scripts worker []) (get_or s.replies worker []))) 0) awake
-
--- so one that stands before a call doesn't wait
-pub awake : (plan : Plan) (worker : ℕ) (s : State) (call : Call) → next_call plan worker s ≡ Some call → is_dormant plan worker ≡ false
-awake plan worker s call next = by_sort (is_dormant plan worker) refl
-  where
-    clash : None ≡ Some call → ⊥
-    clash e = cc
-
-    by_sort : (b : Bool) → is_dormant plan worker ≡ b → b ≡ false
-    by_sort true is = absurd (clash (sym (asleep_next plan worker s is) ∙ next))
-    by_sort false is = refl
-
--- ---- one event on Starts
-
+-- an event of a worker on it
 abbrev entry_on : ℕ → StartEvent → StartReply → Entry StartEvent StartReply
 entry_on worker event answer = record { caller = worker; deed = Event event answer; front = []; knew = 0; time = 0 }
 
