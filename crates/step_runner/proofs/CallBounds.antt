@@ -3,7 +3,6 @@ use Rattle.std.proofs.Common.{◌≡◌, ◌≢◌, ℕ, zero, suc, ◌+◌, ◌
 use Rattle.std.specs.Prelude.{◌==◌, nat_lt, not, slice_get, unwrap_or}
 use Rattle.std.specs.Option.{option_map_or}
 use Rattle.std.proofs.lemmas.Bool.{eqb-true, eqb-false, eq-eqb, lt-ltb, ltb-true, ltb-false}
-use Rattle.script_calls.specs.Runs.{left_of}
 use Rattle.script_calls.specs.declared.call.Call.{Call}
 use Rattle.script_calls.specs.declared.call.ComposedCall.TheVariants.{WaitFor}
 use Rattle.script_calls.specs.declared.call.Operation.{Operation}
@@ -33,6 +32,7 @@ use Rattle.step_runner.specs.Turns.{begun_by, next_call, turn_of, and_then, item
 use Rattle.step_runner.proofs.FormLemmas.{TurnStands, Standing, own_at, standing_kept, start_stands}
 use Rattle.step_runner.proofs.MadeLemmas.{event_state}
 use Rattle.step_runner.proofs.MetCalls.{met_later, meets_next, four_at_most}
+use Rattle.step_runner.proofs.NextCalls.{left_with}
 use Rattle.step_runner.proofs.RunLemmas.{GoesOn, Kept, moment_valid}
 use Rattle.step_runner.proofs.ScriptRuns.{GoesFurther}
 use Rattle.step_runner.proofs.StartLemmas.{each_start}
@@ -116,10 +116,10 @@ one_left kinds call worker objects operation begun = omega arith
 module _ (plan : Plan) (worker number : ℕ) where
   -- what is left of the call before which the worker stands, and whether it was told to go on, by its replies and begun waits so far
   abbrev left_by : List (Reply (List ℕ)) → ℕ → List ObjectState → ℕ
-  left_by done begun objects = option_map_or (λ call. turns_within (kinds_in plan) call worker objects begun) (slice_get (left_of (get_or plan.scripts worker []) done) 0) 0
+  left_by done begun objects = option_map_or (λ call. turns_within (kinds_in plan) call worker objects begun) (slice_get (left_with plan worker done) 0) 0
 
   abbrev told_by : List (Reply (List ℕ)) → List ObjectState → Bool
-  told_by done objects = option_map_or (λ call. is_told (kinds_in plan) call worker objects) (slice_get (left_of (get_or plan.scripts worker []) done) 0) false
+  told_by done objects = option_map_or (λ call. is_told (kinds_in plan) call worker objects) (slice_get (left_with plan worker done) 0) false
 
   abbrev told : State → ℕ
   told s = one_if ((length (get_or s.replies worker []) == number) && told_by (get_or s.replies worker []) s.objects)
@@ -207,7 +207,7 @@ module _ (plan : Plan) (worker number : ℕ) where
       eased : (limit : ℕ) (call : Call) (objects : List ObjectState) (waits : ℕ) (answer : Answer) → Takes plan by s call objects waits answer → most limit (moved by objects waits s) ≤ most limit s
       eased limit call objects waits answer takes =
           most_less limit done (begun_by worker s) (begun_by worker (moved by objects waits s)) s.objects objects
-          (subst (λ (n : ℕ). left_by done n objects ≤ left_by done (begun_by worker s) s.objects) (sym (begun_other by worker waits objects s apart)) (by_own (slice_get (left_of (get_or plan.scripts worker []) done) 0)))
+          (subst (λ (n : ℕ). left_by done n objects ≤ left_by done (begun_by worker s) s.objects) (sym (begun_other by worker waits objects s apart)) (by_own (slice_get (left_with plan worker done) 0)))
         where
           by_own : (o : Option Call) → option_map_or (λ call. turns_within (kinds_in plan) call worker objects (begun_by worker s)) o 0 ≤ option_map_or (λ call. turns_within (kinds_in plan) call worker s.objects (begun_by worker s)) o 0
           by_own None = omega arith
@@ -229,7 +229,7 @@ module _ (plan : Plan) (worker number : ℕ) where
       })
 
       tells : (call : Call) (objects : List ObjectState) (waits : ℕ) (answer : Answer) → Takes plan by s call objects waits answer → told_by done s.objects ≡ false → told_by done objects ≡ true → unlocks (made_by plan by s) ≡ true
-      tells call objects waits answer takes = by_own (slice_get (left_of (get_or plan.scripts worker []) done) 0)
+      tells call objects waits answer takes = by_own (slice_get (left_with plan worker done) 0)
         where
           made : made_by plan by s ≡ items_within call by s.moment (begun_by by s) s.objects
           made = ap (λ (o : Option Call). option_map_or (λ call. items_within call by s.moment (begun_by by s) s.objects) o []) takes.next
@@ -389,7 +389,7 @@ module _ (plan : Plan) (worker number : ℕ) where
 
       -- at objects at which it is out
       out_everywhere : (objects : List ObjectState) → IsOutBut None worker objects → (done : List (Reply (List ℕ))) → told_by done objects ≡ false
-      out_everywhere objects out done = by_call (slice_get (left_of (get_or plan.scripts worker []) done) 0)
+      out_everywhere objects out done = by_call (slice_get (left_with plan worker done) 0)
         where
           by_object : (k : ℕ) (o : Option ObjectState) → slice_get objects k ≡ o → option_map_or (told_at worker) o false ≡ false
           by_object k None at = refl

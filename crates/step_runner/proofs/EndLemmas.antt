@@ -6,7 +6,7 @@ use Rattle.script_calls.specs.declared.outcome.Outcome.{Outcome}
 use Rattle.script_calls.specs.Outcome.{with_keys_renamed}
 use Rattle.script_calls.specs.Runs.{have_tests, left_of}
 use Rattle.workload.specs.Keys.{keys_in, key_number}
-use Rattle.workload.specs.Plan.{Plan}
+use Rattle.workload.specs.Plan.{Plan, is_dormant, has_dormant}
 use Rattle.step_runner.specs.declared.step.Step.{Step}
 use Rattle.step_runner.specs.declared.step.Step.TheVariants as steps
 use Rattle.script_calls.specs.declared.outcome.Ending.{Ending}
@@ -21,7 +21,7 @@ use Rattle.step_runner.specs.Computed.{behind_round, rounds_of, all_rounds, behi
 use Rattle.step_runner.proofs.Numbered.{NamesAside, same_numbers, left_numbered}
 use Rattle.step_runner.proofs.TurnLemmas.{true_false}
 use Rattle.step_runner.proofs.RunLemmas.{items_append, GoesOn, UsesUp, items_valid}
-use Rattle.step_runner.proofs.RoundLemmas.{where_ended, where_going, round_same, round_less, round_of, going_before, LeavesRest, nothing_left, all_replied}
+use Rattle.step_runner.proofs.RoundLemmas.{where_ended, where_going, round_same, round_less, round_of, going_before, LeavesRest, live_ended, all_replied}
 
 -- ---- what comes behind the schedule and some rounds
 
@@ -90,15 +90,15 @@ module _ (plan : Plan) (goes_on : GoesOn plan) (uses : UsesUp plan) where
       (comes_to dead.state of dead.reached ∙ where_going plan goes_on uses dead.state (dead.state, steps.Still) (state_of dead.state of dead.reached) dead.going dead.still)
       ∙ ap (λ r. outcomes.Deadlocked r) (sym dead.leaves)
 
-  pub done_replied : LeavesRest → IsStateOf plan (start plan) → have_tests plan.scripts ≡ false → (report : Report) → IsDone plan report → map length report.replies ≡ map length plan.scripts
-  done_replied rest of straight report done =
+  pub done_replied : LeavesRest → IsStateOf plan (start plan) → have_tests plan.scripts ≡ false → has_dormant plan ≡ false → (report : Report) → IsDone plan report → map length report.replies ≡ map length plan.scripts
+  done_replied rest of straight live report done =
       ap (λ (r : Report). map length r.replies) done.leaves ∙ same_numbers (with_keys_renamed (key_number (keys_in plan.scripts))) done.state.replies
-      ∙ all_replied rest plan done.state (state_of done.state of done.reached) straight done.ended
+      ∙ all_replied rest plan done.state (state_of done.state of done.reached) straight live done.ended
 
-  pub done_made : NamesAside → IsStateOf plan (start plan) → (report : Report) → IsDone plan report → (worker : ℕ) → left_of (get_or plan.scripts worker []) (get_or report.replies worker []) ≡ []
-  done_made names of report done worker =
+  pub done_made : NamesAside → IsStateOf plan (start plan) → (report : Report) → IsDone plan report → (worker : ℕ) → is_dormant plan worker ≡ false → left_of (get_or plan.scripts worker []) (get_or report.replies worker []) ≡ []
+  done_made names of report done worker live =
       ap (λ (r : Report). left_of (get_or plan.scripts worker []) (get_or r.replies worker [])) done.leaves ∙ left_numbered names plan worker done.state.replies
-      ∙ nothing_left plan done.state (state_of done.state of done.reached) done.ended worker
+      ∙ live_ended plan done.state (state_of done.state of done.reached) done.ended worker live
 
   -- ---- and back
 

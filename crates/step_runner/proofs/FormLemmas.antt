@@ -29,6 +29,7 @@ use Rattle.step_runner.specs.Computed.{whole_run, outcome_of, turns}
 use Rattle.workload.specs.Forms.{have_forms, all_have_forms, has_forms}
 use Rattle.step_runner.specs.State.{State, start, with_reply, IsStateOf}
 use Rattle.step_runner.specs.Turns.{begun_by, next_call, turn_of, after_items}
+use Rattle.step_runner.proofs.NextCalls.{left_with, next_first}
 use Rattle.step_runner.proofs.Numbered.{NamesAside}
 use Rattle.step_runner.proofs.StartLemmas.{each_start}
 use Rattle.step_runner.proofs.TurnLemmas.{both, both_true, Takes, takes_by, turn_cases, moved, begun_own, begun_other, replied_begun_other, replied_other, valid_scripts}
@@ -160,7 +161,7 @@ module _ (laws : TurnStands) (plan : Plan) (by : ℕ) (s : State) (h : Standing 
             (out_anywhere (awaited plan by (with_reply by reply t)) by objects (own_at call objects waits (answers.Completed reply) takes))
         | false ↦ λ e.
             let apart : worker ≢ by = eqb-false worker by e in
-            subst (λ (done : List (Reply (List ℕ))). IsOutBut (option_map_or (λ c. waits_within (kinds_in plan) c (begun_by worker (with_reply by reply t))) (slice_get (left_of (get_or plan.scripts worker []) done) 0) None) worker objects)
+            subst (λ (done : List (Reply (List ℕ))). IsOutBut (option_map_or (λ c. waits_within (kinds_in plan) c (begun_by worker (with_reply by reply t))) (slice_get (left_with plan worker done) 0) None) worker objects)
             (sym (replied_other by worker reply t apart))
             (subst (λ (n : ℕ). IsOutBut (option_map_or (λ c. waits_within (kinds_in plan) c n) (next_call plan worker s) None) worker objects) (sym (replied_begun_other by worker reply t apart))
             (other_at worker call objects waits (answers.Completed reply) apart takes))
@@ -180,7 +181,7 @@ module _ (laws : TurnStands) (plan : Plan) (by : ℕ) (s : State) (h : Standing 
     ended = λ is. h.forms;
     still = λ call objects waits takes. h.forms;
     unfinished = λ call objects waits takes. h.forms;
-    completed = λ call objects waits reply takes. forms_set plan.scripts s.replies by call reply h.forms takes.next (form_at call objects waits (answers.Completed reply) takes);
+    completed = λ call objects waits reply takes. forms_set plan.scripts s.replies by call reply h.forms (next_first plan by s call takes.next) (form_at call objects waits (answers.Completed reply) takes);
     misused = λ call objects waits misuse takes. h.forms;
   })
 

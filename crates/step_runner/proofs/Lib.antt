@@ -2,6 +2,7 @@ mod CallBounds
 mod EndLemmas
 mod MadeLemmas
 mod MetCalls
+mod NextCalls
 mod OneTurnCalls
 mod Numbered
 mod PlacedRun
@@ -17,6 +18,7 @@ mod SpeltLines
 mod SpeltMisuse
 mod SpeltOutcome
 mod SpeltRun
+mod SpeltStarts
 mod SpeltTurns
 mod StartLemmas
 mod TurnLemmas

@@ -16,6 +16,7 @@ use Rattle.step_runner.specs.declared.step.Step.TheVariants as steps
 use Rattle.step_runner.specs.State.{State, IsStateOf, start, with_moment}
 use Rattle.step_runner.specs.Turns.{next_call, turn_of, with_event, and_then, items_of, after_items}
 use Rattle.step_runner.specs.MadeCalls.{completed_by, unless_misused, made_calls, calls_of}
+use Rattle.step_runner.proofs.NextCalls.{next_first}
 use Rattle.step_runner.proofs.ScriptRuns.{GoesFurther, split_first}
 use Rattle.step_runner.proofs.StartLemmas.{none_replied}
 use Rattle.step_runner.proofs.TurnLemmas.{moved, turn_cases, replied_other}
@@ -75,7 +76,7 @@ made_own : GoesFurther → (plan : Plan) (worker : ℕ) (s : State) → (c : Com
 made_own further plan worker s c =
     let script = get_or plan.scripts worker [] in
     let given = get_or s.replies worker [] in
-    let left = split_first (left_of script given) c.call c.next in
+    let left = split_first (left_of script given) c.call (next_first plan worker s c.call c.next) in
     ap (made_of script) c.own ∙ further.made script given c.call left.0 c.reply left.1
 
 -- one completed call, of this worker or of another

@@ -17,6 +17,7 @@ use Rattle.step_runner.specs.CallTurns.{calls_met, most_turns_for}
 use Rattle.step_runner.specs.StandsWithin.{most_turns}
 use Rattle.step_runner.specs.State.{State, with_reply, IsStateOf}
 use Rattle.step_runner.specs.Turns.{next_call, turn_of, after_items}
+use Rattle.step_runner.proofs.NextCalls.{left_with, next_left, next_first}
 use Rattle.step_runner.proofs.RunLemmas.{GoesOn, Kept, items_keep, moment_valid}
 use Rattle.step_runner.proofs.ScriptRuns.{GoesFurther, split_first}
 use Rattle.step_runner.proofs.TurnLemmas.{moved, replied_other, turn_cases}
@@ -39,15 +40,15 @@ module _ (further : GoesFurther) (plan : Plan) (worker number : ℕ) (call : Cal
   HasMet s = slice_get (calls_met plan worker s) number ≡ Some call
 
   -- one call more was completed
-  met_replied : (s : State) (next : Call) (reply : Reply (List ℕ)) → slice_get (left_of (get_or plan.scripts worker []) (get_or s.replies worker [])) 0 ≡ Some next → HasMet s
-      → slice_get (made_of (get_or plan.scripts worker []) (get_or s.replies worker [] ++ reply ∷ []) ++ take 1 (left_of (get_or plan.scripts worker []) (get_or s.replies worker [] ++ reply ∷ []))) number ≡ Some call
+  met_replied : (s : State) (next : Call) (reply : Reply (List ℕ)) → next_call plan worker s ≡ Some next → HasMet s
+      → slice_get (made_of (get_or plan.scripts worker []) (get_or s.replies worker [] ++ reply ∷ []) ++ take 1 (left_with plan worker (get_or s.replies worker [] ++ reply ∷ []))) number ≡ Some call
   met_replied s next reply at met =
       let script = get_or plan.scripts worker [] in
       let given = get_or s.replies worker [] in
-      let left = split_first (left_of script given) next at in
-      let before : slice_get (made_of script given ++ next ∷ []) number ≡ Some call = ap (λ (l : List Call). slice_get (made_of script given ++ take 1 l) number) (sym left.1) ∙ met in
-      ap (λ (l : List Call). slice_get (l ++ take 1 (left_of script (given ++ reply ∷ []))) number) (further.made script given next left.0 reply left.1)
-      ∙ still_at (made_of script given ++ next ∷ []) (take 1 (left_of script (given ++ reply ∷ []))) number call before
+      let left = split_first (left_of script given) next (next_first plan worker s next at) in
+      let before : slice_get (made_of script given ++ next ∷ []) number ≡ Some call = ap (λ (l : List Call). slice_get (made_of script given ++ take 1 l) number) (sym (next_left plan worker s next at ∙ left.1)) ∙ met in
+      let rest = take 1 (left_with plan worker (given ++ reply ∷ [])) in
+      ap (λ (l : List Call). slice_get (l ++ rest) number) (further.made script given next left.0 reply left.1) ∙ still_at (made_of script given ++ next ∷ []) rest number call before
 
   met_behind : (by : ℕ) (s : State) → IsStateOf plan s → HasMet s → HasMet (turn_of plan by s).0
   met_behind by s of met = turn_cases (λ x. HasMet x.0) plan by s of (record {
@@ -62,9 +63,9 @@ module _ (further : GoesFurther) (plan : Plan) (worker number : ℕ) (call : Cal
               let next_at : next_call plan worker s ≡ Some next = ap (λ (w : ℕ). next_call plan w s) (sym here) ∙ takes.next in
               let now : get_or (with_reply by reply t).replies worker [] ≡ get_or s.replies worker [] ++ reply ∷ [] =
               ap (λ (w : ℕ). get_or (with_reply w reply t).replies worker []) here ∙ get_or-set_same s.replies worker (get_or s.replies worker [] ++ reply ∷ []) [] (omega (arith, takes.below, of.workers, here)) in
-              ap (λ (given : List (Reply (List ℕ))). slice_get (made_of (get_or plan.scripts worker []) given ++ take 1 (left_of (get_or plan.scripts worker []) given)) number) now ∙ met_replied s next reply next_at met
+              ap (λ (given : List (Reply (List ℕ))). slice_get (made_of (get_or plan.scripts worker []) given ++ take 1 (left_with plan worker given)) number) now ∙ met_replied s next reply next_at met
           | false ↦ λ e.
-              ap (λ (given : List (Reply (List ℕ))). slice_get (made_of (get_or plan.scripts worker []) given ++ take 1 (left_of (get_or plan.scripts worker []) given)) number) (replied_other by worker reply t (eqb-false worker by e)) ∙ met
+              ap (λ (given : List (Reply (List ℕ))). slice_get (made_of (get_or plan.scripts worker []) given ++ take 1 (left_with plan worker given)) number) (replied_other by worker reply t (eqb-false worker by e)) ∙ met
         ] refl;
     misused = λ next objects waits misuse takes. met;
   })
@@ -87,8 +88,8 @@ pub meets_next : (plan : Plan) (worker number : ℕ) (s : State) (call : Call) �
 meets_next plan worker number s call of at next =
     let script = get_or plan.scripts worker [] in
     let given = get_or s.replies worker [] in
-    let left = split_first (left_of script given) call next in
-    ap (λ (l : List Call). slice_get (made_of script given ++ take 1 l) number) left.1
+    let left = split_first (left_of script given) call (next_first plan worker s call next) in
+    ap (λ (l : List Call). slice_get (made_of script given ++ take 1 l) number) (next_left plan worker s call next ∙ left.1)
     ∙ ap (slice_get (made_of script given ++ call ∷ [])) (sym (of.made worker ∙ at)) ∙ first_behind (made_of script given) [] call
 
 -- any call but a `waitfor` takes four at most

@@ -6,7 +6,7 @@ use Rattle.script_calls.specs.Runs.{have_tests}
 use Rattle.script_calls.specs.declared.call.Call.{Call}
 use Rattle.workload.specs.declared.turn.Turn.{Turn}
 use Rattle.workload.specs.declared.turn.Turn.TheVariants as items
-use Rattle.workload.specs.Plan.{Plan}
+use Rattle.workload.specs.Plan.{Plan, has_dormant}
 use Rattle.step_runner.specs.declared.turns.answer.Answer.{Answer}
 use Rattle.step_runner.specs.declared.turns.answer.Answer.TheVariants as answers
 use Rattle.step_runner.specs.Completes.{takes_one_turn, IsCompleted}
@@ -22,6 +22,7 @@ use Rattle.step_runner.specs.Outcomes.{rounds, is_misused, StepsTo}
 use Rattle.step_runner.specs.State.{State, start, IsStateOf}
 use Rattle.step_runner.specs.Turns.{begun_by, next_call, turn_of, item_of, with_event, and_then, items_of}
 use Rattle.step_runner.specs.Computed.{turns}
+use Rattle.step_runner.proofs.NextCalls.{next_first}
 use Rattle.step_runner.proofs.ScriptRuns.{in_script}
 use Rattle.step_runner.proofs.TurnLemmas.{true_false, both_true, all_get, all_at, Takes, takes_by, turn_cases, StepUses}
 use Rattle.step_runner.proofs.RoundLemmas.{LeavesRest}
@@ -46,7 +47,7 @@ AllTakeOneTurn plan = list_all (list_all (λ call. takes_one_turn call.operation
 next_takes_one_turn : (plan : Plan) (worker : ℕ) (s : State) (call : Call) → AllTakeOneTurn plan → next_call plan worker s ≡ Some call → takes_one_turn call.operation ≡ true
 next_takes_one_turn plan worker s call all is =
     let one : Call → Bool = λ call. takes_one_turn call.operation in
-    let at = in_script (get_or plan.scripts worker []) (get_or s.replies worker []) call is in
+    let at = in_script (get_or plan.scripts worker []) (get_or s.replies worker []) call (next_first plan worker s call is) in
     all_get one (get_or plan.scripts worker []) at.0 call (all_at one plan.scripts worker all) at.1
 
 turn_goes : Completing → (plan : Plan) (worker : ℕ) (s : State) → AllTakeOneTurn plan → IsStateOf plan s → Goes plan worker s (turn_of plan worker s).1
@@ -110,8 +111,8 @@ still_ended completes plan uses all (worker ∷ workers) s t of is =
 -- ---- the run
 
 -- a run of such scripts is no misuse and no deadlock
-done_by : Completing → LeavesRest → (plan : Plan) → GoesOn plan → UsesUp plan → AllTakeOneTurn plan → IsStateOf plan (start plan) → (x : Outcome) → turns plan ≡ x → (report : Report) × StepsTo plan (outcomes.Done report) × (have_tests plan.scripts ≡ false → map length report.replies ≡ map length plan.scripts)
-done_by completes rest plan goes_on uses all of (outcomes.Done report) is = (report, is_done plan goes_on uses of report is, λ straight. done_replied plan goes_on uses rest of straight report (is_done plan goes_on uses of report is))
+done_by : Completing → LeavesRest → (plan : Plan) → GoesOn plan → UsesUp plan → AllTakeOneTurn plan → IsStateOf plan (start plan) → (x : Outcome) → turns plan ≡ x → (report : Report) × StepsTo plan (outcomes.Done report) × (have_tests plan.scripts ≡ false → has_dormant plan ≡ false → map length report.replies ≡ map length plan.scripts)
+done_by completes rest plan goes_on uses all of (outcomes.Done report) is = (report, is_done plan goes_on uses of report is, λ straight live. done_replied plan goes_on uses rest of straight live report (is_done plan goes_on uses of report is))
 done_by completes rest plan goes_on uses all of (outcomes.Misused report misuse) is =
     let misused = is_misused_by plan goes_on uses of report misuse is in
     absurd (true_false (ap (λ (y : State × Step). is_misused y.1) (sym misused.is) ∙ items_go completes plan goes_on all (plan.schedule ++ rounds misused.count plan.workers) (start plan) of))
@@ -120,5 +121,5 @@ done_by completes rest plan goes_on uses all of (outcomes.Deadlocked report) is 
     let valid = state_of plan goes_on uses dead.state of dead.reached in
     absurd (true_false (sym (still_ended completes plan uses all (range_with_len 0 plan.workers) dead.state dead.state valid dead.still) ∙ dead.going))
 
-pub one_turn_calls_end : Completing → LeavesRest → (plan : Plan) → GoesOn plan → UsesUp plan → AllTakeOneTurn plan → IsStateOf plan (start plan) → (report : Report) × StepsTo plan (outcomes.Done report) × (have_tests plan.scripts ≡ false → map length report.replies ≡ map length plan.scripts)
+pub one_turn_calls_end : Completing → LeavesRest → (plan : Plan) → GoesOn plan → UsesUp plan → AllTakeOneTurn plan → IsStateOf plan (start plan) → (report : Report) × StepsTo plan (outcomes.Done report) × (have_tests plan.scripts ≡ false → has_dormant plan ≡ false → map length report.replies ≡ map length plan.scripts)
 one_turn_calls_end completes rest plan goes_on uses all of = done_by completes rest plan goes_on uses all of (turns plan) refl

@@ -8,7 +8,7 @@ use Rattle.std.proofs.lemmas.Option.{slice_get_within}
 use Rattle.script_calls.specs.Runs.{passed_over, left_of}
 use Rattle.script_calls.specs.declared.call.Call.{Call}
 use Rattle.script_calls.specs.declared.call.Reply.{Reply}
-use Rattle.workload.specs.Plan.{Plan}
+use Rattle.workload.specs.Plan.{Plan, is_dormant}
 use Rattle.workload.specs.Readable.{IsReadable}
 use Rattle.step_runner.specs.declared.turns.answer.Answer.{Answer}
 use Rattle.step_runner.specs.declared.turns.answer.Answer.TheVariants as answers
@@ -16,14 +16,17 @@ use Rattle.step_runner.specs.declared.turns.object_state.ObjectState.{ObjectStat
 use Rattle.step_runner.specs.declared.step.Step.{Step}
 use Rattle.step_runner.specs.Places.{Kept, IsKeptFor, places_behind}
 use Rattle.step_runner.specs.State.{State, IsStateOf, start, with_reply}
-use Rattle.step_runner.specs.Turns.{left_for, next_call, settled}
+use Rattle.step_runner.specs.Turns.{next_call, settled}
+use Rattle.step_runner.proofs.NextCalls.{live_left, next_first}
 use Rattle.step_runner.proofs.ScriptRuns.{GoesFurther, split_first, get_at}
 use Rattle.step_runner.proofs.StartLemmas.{none_begun, none_replied}
 use Rattle.step_runner.proofs.TurnLemmas.{moved, replied_other, valid_scripts}
 
 -- the call at its place is the worker's next one
-pub next_at : (plan : Plan) (worker : ℕ) (kept : Kept) → IsKeptFor plan kept → slice_get (get_or plan.scripts worker []) (get_or kept.places worker 0) ≡ next_call plan worker kept.state
-next_at plan worker kept is = sym (get_at (get_or kept.places worker 0) (get_or plan.scripts worker [])) ∙ ap (λ (l : List Call). slice_get l 0) (is.left worker)
+pub next_at : (plan : Plan) (worker : ℕ) (kept : Kept) → IsKeptFor plan kept → is_dormant plan worker ≡ false → slice_get (get_or plan.scripts worker []) (get_or kept.places worker 0) ≡ next_call plan worker kept.state
+next_at plan worker kept is live =
+    sym (get_at (get_or kept.places worker 0) (get_or plan.scripts worker []))
+    ∙ ap (λ (l : List Call). slice_get l 0) (is.left worker ∙ sym (live_left plan worker (get_or kept.state.replies worker []) live))
 
 -- a place at which a call stands is a small number
 pub place_small : (plan : Plan) (worker place : ℕ) (call : Call) → IsReadable plan → worker < plan.workers → slice_get (get_or plan.scripts worker []) place ≡ Some call → place < 2 ^ 63
@@ -55,11 +58,11 @@ module _ (further : GoesFurther) (plan : Plan) (worker : ℕ) (kept : Kept) (is 
 
   own_left : (reply : Reply (List ℕ)) → drop (place + 1 + passed_over call reply) own_script ≡ left_of own_script (given ++ reply ∷ [])
   own_left reply =
-      let left = split_first (left_of own_script given) call next in
+      let left = split_first (left_of own_script given) call (next_first plan worker kept.state call next) in
       let rest : drop (place + 1) own_script ≡ left.0 = sym (drop-drop 1 place own_script) ∙ ap (drop 1) (is.left worker ∙ left.1) in
       sym (drop-drop (passed_over call reply) (place + 1) own_script) ∙ ap (drop (passed_over call reply)) rest ∙ sym (further.left own_script given call left.0 reply left.1)
 
-  left_at : (answer : Answer) (k : ℕ) → drop (get_or (places_behind worker call answer kept.places) k 0) (get_or plan.scripts k []) ≡ left_for plan k (settled worker answer (moved worker objects waits kept.state)).0
+  left_at : (answer : Answer) (k : ℕ) → drop (get_or (places_behind worker call answer kept.places) k 0) (get_or plan.scripts k []) ≡ left_of (get_or plan.scripts k []) (get_or (settled worker answer (moved worker objects waits kept.state)).0.replies k [])
   left_at answers.Still k = is.left k
   left_at answers.Unfinished k = is.left k
   left_at (answers.Misused misuse) k = is.left k
@@ -76,7 +79,7 @@ module _ (further : GoesFurther) (plan : Plan) (worker : ℕ) (kept : Kept) (is 
       moved_to = place + 1 + passed_over call reply
 
       Left : ℕ → Type 0
-      Left k = drop (get_or (set kept.places worker (place + 1 + passed_over call reply)) k 0) (get_or plan.scripts k []) ≡ left_for plan k (with_reply worker reply (moved worker objects waits kept.state))
+      Left k = drop (get_or (set kept.places worker (place + 1 + passed_over call reply)) k 0) (get_or plan.scripts k []) ≡ left_of (get_or plan.scripts k []) (get_or (with_reply worker reply (moved worker objects waits kept.state)).replies k [])
 
       own : Left worker
       own =
@@ -97,5 +100,5 @@ module _ (further : GoesFurther) (plan : Plan) (worker : ℕ) (kept : Kept) (is 
     count = ap (length {A = ℕ}) moves ∙ same_count answer;
     left = λ k.
         ap (λ (l : List ℕ). drop (get_or l k 0) (get_or plan.scripts k [])) moves ∙ left_at answer k
-        ∙ ap (λ (x : State × Step). left_for plan k x.0) settles;
+        ∙ ap (λ (x : State × Step). left_of (get_or plan.scripts k []) (get_or x.0.replies k [])) settles;
   }

@@ -25,6 +25,7 @@ use Rattle.step_runner.specs.TurnWithin.{turn_within}
 use Rattle.workload.specs.Puts.{is_put_at, puts_at}
 use Rattle.step_runner.specs.State.{State, start, with_reply, IsStateOf}
 use Rattle.step_runner.specs.Turns.{begun_by, next_call, turn_of, after_items}
+use Rattle.step_runner.proofs.NextCalls.{next_first}
 use Rattle.step_runner.proofs.ScriptRuns.{GoesFurther, split_first, none_left, count_behind}
 use Rattle.step_runner.proofs.StartLemmas.{each_start}
 use Rattle.step_runner.proofs.TurnLemmas.{Takes, is_there, moved, takes_by, turn_cases}
@@ -101,7 +102,7 @@ pub record HasRoom (plan : Plan) (s : State) : Type 0 where
 -- a put before which a worker stands is left to make
 some_left : GoesFurther → (plan : Plan) (worker : ℕ) (s : State) (call : Call) (place : ℕ) → IsStateOf plan s → worker < plan.workers → next_call plan worker s ≡ Some call → put_of place call ≤ left_at plan s place
 some_left further plan worker s call place of below is =
-    omega (arith, one_put_fewer further place plan.scripts s.replies worker call replies.Returned (omega (arith, of.workers, below)) is)
+    omega (arith, one_put_fewer further place plan.scripts s.replies worker call replies.Returned (omega (arith, of.workers, below)) (next_first plan worker s call is))
 
 takes_fits : Rooms → (plan : Plan) (worker : ℕ) (s : State) (call : Call) (objects : List ObjectState) (waits : ℕ) (answer : Answer) → HasRoom plan s → Takes plan worker s call objects waits answer
     → AllFit (λ place. left_behind answer (put_of place call) (left_at plan s place)) objects
@@ -112,7 +113,7 @@ takes_fits rooms plan worker s call objects waits answer has takes =
 completed_fits : Rooms → (plan : Plan) (worker : ℕ) (s : State) (call : Call) (objects : List ObjectState) (waits : ℕ) (reply : Reply (List ℕ)) → HasRoom plan s → Takes plan worker s call objects waits (answers.Completed reply)
     → AllFit (left_at plan (with_reply worker reply (moved worker objects waits s))) objects
 completed_fits rooms plan worker s call objects waits reply has takes place object at =
-    let fewer = one_put_fewer rooms.further place plan.scripts s.replies worker call reply (omega (arith, has.of.workers, takes.below)) takes.next in
+    let fewer = one_put_fewer rooms.further place plan.scripts s.replies worker call reply (omega (arith, has.of.workers, takes.below)) (next_first plan worker s call takes.next) in
     fewer_fit (left_at plan s place - put_of place call) (left_at plan (with_reply worker reply (moved worker objects waits s)) place) object (omega (arith, fewer))
     (takes_fits rooms plan worker s call objects waits (answers.Completed reply) has takes place object at)
 

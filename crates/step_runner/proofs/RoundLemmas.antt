@@ -1,7 +1,7 @@
 -- Rounds, and what comes behind every script's end.
 use Rattle.std.proofs.Common.{◌≡◌, ◌≢◌, ℕ, zero, suc, ◌+◌, ◌<◌, ◌≤◌, Bool, true, false, eqb, List, [], ◌∷◌, map, drop, length, get_or, Option, Some, None, refl, sym, ap, ◌∙◌, subst, length-drop, arith}
 use Rattle.std.specs.Prelude.{is_some, not, nat_lt, slice_get, if◌then◌else◌}
-use Rattle.std.specs.List.{list_all, range_with_len}
+use Rattle.std.specs.List.{list_all, list_any, range_with_len}
 use Rattle.std.specs.Option.{option_map_or}
 use Rattle.std.proofs.lemmas.Bool.{eqb-true, eqb-false, ltb-true, ltb-false}
 use Rattle.script_calls.specs.Runs.{has_test, have_tests, left_of}
@@ -9,7 +9,7 @@ use Rattle.script_calls.specs.declared.call.Call.{Call}
 use Rattle.script_calls.specs.declared.call.Reply.{Reply}
 use Rattle.workload.specs.declared.turn.Turn.{Turn}
 use Rattle.workload.specs.declared.turn.Turn.TheVariants as items
-use Rattle.workload.specs.Plan.{Plan}
+use Rattle.workload.specs.Plan.{Plan, is_dormant, has_dormant}
 use Rattle.step_runner.specs.declared.step.Step.{Step}
 use Rattle.step_runner.specs.declared.step.Step.TheVariants as steps
 use Rattle.script_calls.specs.declared.outcome.Ending.{Ending}
@@ -19,6 +19,7 @@ use Rattle.step_runner.specs.State.{State, with_moment, IsStateOf}
 use Rattle.step_runner.specs.TurnWithin.{turn_within}
 use Rattle.step_runner.specs.Turns.{begun_by, left_for, next_call, settled_with, turn_of, and_then, items_of, round, has_ended}
 use Rattle.step_runner.specs.Computed.{behind_round, rounds_of, all_rounds}
+use Rattle.step_runner.proofs.NextCalls.{live_left, none_with}
 use Rattle.step_runner.proofs.ScriptRuns.{none_first, none_left, no_test}
 use Rattle.step_runner.proofs.TurnLemmas.{both, both_true, true_false, valid_scripts}
 use Rattle.step_runner.proofs.RunLemmas.{GoesOn, UsesUp, turns_of, ItemsUse, items_valid, workers_use}
@@ -62,7 +63,8 @@ ended_next plan s of ended k = elim (nat_lt k plan.workers) as (λ b. nat_lt k p
   | true ↦ λ e. not_some (next_call plan k s) (each_from (is_at_end plan s) 0 plan.workers ended k (omega arith) (omega (arith, ltb-true k plan.workers e)))
   | false ↦ λ e.
       let past : length plan.scripts ≤ k = omega (arith, valid_scripts plan of.valid, ltb-false k plan.workers e) in
-      ap (λ (script : List Call). slice_get (left_of script (get_or s.replies k [])) 0) (past_end plan.scripts k past) ∙ ap (λ (l : List Call). slice_get l 0) (none_left (get_or s.replies k []))
+      let none = ap (λ (script : List Call). left_of script (get_or s.replies k [])) (past_end plan.scripts k past) ∙ none_left (get_or s.replies k []) in
+      ap (λ (l : List Call). slice_get l 0) (none_with plan k (get_or s.replies k []) none)
 ] refl
 
 -- where a worker stands before a call, not every script has ended
@@ -157,9 +159,21 @@ going_before plan s t step of is some = elim (has_ended plan s) as (λ b. has_en
   | false ↦ λ e. refl
 ] refl
 
--- nothing is left of any script where every script has ended
+-- nothing is left for any worker where every script has ended
 pub nothing_left : (plan : Plan) (s : State) → IsStateOf plan s → has_ended plan s ≡ true → (k : ℕ) → left_for plan k s ≡ []
 nothing_left plan s of ended k = none_first (left_for plan k s) (ended_next plan s of ended k)
+
+-- and nothing of the script of one that doesn't wait to be started
+pub live_ended : (plan : Plan) (s : State) → IsStateOf plan s → has_ended plan s ≡ true → (k : ℕ) → is_dormant plan k ≡ false → left_of (get_or plan.scripts k []) (get_or s.replies k []) ≡ []
+live_ended plan s of ended k live = sym (live_left plan k (get_or s.replies k []) live) ∙ nothing_left plan s of ended k
+
+-- where none waits to be started, this one doesn't
+all_live : (dormant : List Bool) (k : ℕ) → list_any (λ waits. waits) dormant ≡ false → get_or dormant k false ≡ false
+all_live [] k none = refl
+all_live (false ∷ dormant) zero none = refl
+all_live (true ∷ dormant) zero none = none
+all_live (false ∷ dormant) (suc k) none = all_live dormant k none
+all_live (true ∷ dormant) (suc k) none = absurd (true_false none)
 
 same_lengths : (scripts : List (List Call)) (replies : List (List (Reply (List ℕ)))) → length replies ≡ length scripts → ((k : ℕ) → length (get_or replies k []) ≡ length (get_or scripts k [])) → map length replies ≡ map length scripts
 same_lengths [] [] e each = refl
@@ -174,13 +188,13 @@ same_lengths (c ∷ cs) (r ∷ rs) e each =
 abbrev pub LeavesRest : Type 0
 LeavesRest = (script : List Call) (given : List (Reply (List ℕ))) → has_test script ≡ false → left_of script given ≡ drop (length given) script
 
--- then all calls have replies
-pub all_replied : LeavesRest → (plan : Plan) (s : State) → IsStateOf plan s → have_tests plan.scripts ≡ false → has_ended plan s ≡ true → map length s.replies ≡ map length plan.scripts
-all_replied rest plan s of straight ended = same_lengths plan.scripts s.replies (of.workers ∙ sym (valid_scripts plan of.valid)) same
+-- then all calls have replies, where no worker waits to be started
+pub all_replied : LeavesRest → (plan : Plan) (s : State) → IsStateOf plan s → have_tests plan.scripts ≡ false → has_dormant plan ≡ false → has_ended plan s ≡ true → map length s.replies ≡ map length plan.scripts
+all_replied rest plan s of straight live ended = same_lengths plan.scripts s.replies (of.workers ∙ sym (valid_scripts plan of.valid)) same
   where
     same : (k : ℕ) → length (get_or s.replies k []) ≡ length (get_or plan.scripts k [])
     same k =
         let script = get_or plan.scripts k [] in
         let given = get_or s.replies k [] in
-        let none : drop (length given) script ≡ [] = sym (rest script given (no_test plan.scripts k straight)) ∙ nothing_left plan s of ended k in
+        let none : drop (length given) script ≡ [] = sym (rest script given (no_test plan.scripts k straight)) ∙ live_ended plan s of ended k (all_live plan.dormant k live) in
         omega (arith, of.within k, length-drop (length given) script, ap (length {A = Call}) none)

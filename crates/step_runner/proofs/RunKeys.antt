@@ -30,6 +30,7 @@ use Rattle.step_runner.specs.State.{State, start}
 use Rattle.step_runner.specs.Ends.{numbered}
 use Rattle.step_runner.specs.Turns.{begun_by, next_call, settled, settled_with, after_items}
 use Rattle.step_runner.specs.Computed.{whole_run, outcome_of, turns}
+use Rattle.step_runner.proofs.NextCalls.{next_first}
 use Rattle.step_runner.proofs.ScriptRuns.{in_script}
 use Rattle.step_runner.proofs.StartLemmas.{each_start}
 use Rattle.step_runner.proofs.TurnLemmas.{both, both_true, moved}
@@ -68,7 +69,7 @@ of_scripts p (script ∷ scripts) (suc worker) e = any_rest p (flat_map keys_of 
 
 next_among : (plan : Plan) (worker : ℕ) (s : State) (call : Call) → next_call plan worker s ≡ Some call → AreAmong (all_keys plan.scripts) (keys_of call)
 next_among plan worker s call is q e =
-    let at = in_script (get_or plan.scripts worker []) (get_or s.replies worker []) call is in
+    let at = in_script (get_or plan.scripts worker []) (get_or s.replies worker []) call (next_first plan worker s call is) in
     of_scripts (bytes_eq q) plan.scripts worker (of_script (bytes_eq q) (get_or plan.scripts worker []) at.0 call at.1 e)
 
 -- ---- what every state keeps

@@ -1,6 +1,6 @@
 -- The items of each call of a run spell it.
 use Rattle.std.proofs.Common.{◌≡◌, ◌≢◌, ℕ, ◌+◌, ◌<◌, Bool, true, false, eqb, List, [], ◌∷◌, ◌++◌, map, drop, filter, length, get_or, Option, Some, None, refl, sym, ap, ◌∙◌, subst, append-nil, append_assoc, arith, ◌&&◌}
-use Rattle.std.specs.Prelude.{◌==◌, Ok, Err, slice_get, All, if◌then◌else◌}
+use Rattle.std.specs.Prelude.{◌==◌, cond, Ok, Err, slice_get, All, if◌then◌else◌}
 use Rattle.std.specs.Option.{option_map_or}
 use Rattle.std.proofs.lemmas.Bool.{eq-eqb, eqb-true, eqb-false}
 use Rattle.std.proofs.lemmas.List.{length-map, length-set, get_or-set_same}
@@ -17,11 +17,12 @@ use Rattle.workload.specs.declared.turn.Turn.{Turn}
 use Rattle.workload.specs.declared.turn.Turn.TheVariants as items
 use Rattle.workload.specs.Draft.{all_keys, distinct_count}
 use Rattle.workload.specs.Keys.{keys_in, key_number}
-use Rattle.workload.specs.Plan.{Plan}
+use Rattle.workload.specs.Plan.{Plan, is_dormant}
 use Rattle.workload.specs.Puts.{puts_at}
 use Rattle.run_record.specs.Calls.{SpellsCall}
-use Rattle.run_record.specs.Lines.{SpeltCall, whole, misused, unfinished, IsHalt, AreSpelt}
+use Rattle.run_record.specs.Lines.{SpeltCall, LineEnd, whole, misused, unfinished, IsHalt, AreSpelt}
 use Rattle.run_record.specs.Record.{shared_in}
+use Rattle.run_record.specs.StartsKind.{closing}
 use Rattle.run_record.specs.declared.made.Made.{Made}
 use Rattle.step_runner.specs.declared.turns.answer.Answer.{Answer}
 use Rattle.step_runner.specs.declared.turns.answer.Answer.TheVariants as answers
@@ -39,16 +40,18 @@ use Rattle.step_runner.specs.declared.step.Step.{Step}
 use Rattle.step_runner.specs.declared.step.Step.TheVariants as steps
 use Rattle.step_runner.specs.RunItems.{made_by, unless_ended, all_made}
 use Rattle.step_runner.specs.CallTurns.{stands_before}
-use Rattle.step_runner.specs.Spelt.{by_worker, list_of, part_by, made_for, misuse_by, misuse_of, ending_by, Falls}
+use Rattle.step_runner.specs.Spelt.{by_worker, opening_items, closing_items, part_by, made_for, misuse_by, misuse_of, ending_by, stays_by, Falls}
 use Rattle.step_runner.specs.State.{State, start, with_reply, with_moment, IsStateOf}
-use Rattle.step_runner.specs.Turns.{begun_by, left_for, next_call, settled, turn_of, and_then, items_of as after_all, after_items}
+use Rattle.step_runner.specs.Turns.{begun_by, next_call, settled, turn_of, and_then, items_of as after_all, after_items}
 use Rattle.step_runner.proofs.FormLemmas.{TurnStands, Standing, own_out, own_at}
 use Rattle.step_runner.proofs.MadeLemmas.{event_state}
+use Rattle.step_runner.proofs.NextCalls.{left_with, idle_left, live_left, next_live, next_first}
 use Rattle.step_runner.proofs.Numbered.{NamesAside}
 use Rattle.step_runner.proofs.RunKeys.{HasKeys}
 use Rattle.step_runner.proofs.RunLemmas.{GoesOn, Kept}
 use Rattle.step_runner.proofs.SpeltLines.{count-append, recorded-append, flat-push, spelt-push, map-push}
-use Rattle.step_runner.proofs.SpeltTurns.{items_in, count_in, ByTurns, same_parts, more_last, more_spelt, part_of_other, part_of_own, part_elsewhere}
+use Rattle.step_runner.proofs.SpeltStarts.{stays, opens, closes}
+use Rattle.step_runner.proofs.SpeltTurns.{items_in, count_in, made_in, ByTurns, same_parts, more_last, more_spelt, part_of_other, part_of_own, part_elsewhere}
 use Rattle.step_runner.proofs.ScriptRuns.{split_first, none_first}
 use Rattle.step_runner.proofs.StartLemmas.{each_start, none_begun, none_replied}
 use Rattle.step_runner.proofs.TurnLemmas.{TurnsUse, Takes, takes_by, takes_use, turn_cases, moved, begun_own, begun_other, replied_begun, replied_begun_other, ready, replied_other, still_same, turn_before}
@@ -95,8 +98,8 @@ pub record Trace : Type 0 where
 abbrev more : Plan → Trace → ℕ → State → Trace
 more plan made by s = record { all = made.all ++ made_by plan by s; parts = λ worker number. made.parts worker number ++ part_by plan worker number by s }
 
-abbrev FallsAs : Plan → ℕ → Trace → List (Reply (List ℕ)) → Option Misuse → Type 0
-FallsAs plan worker made given met = Falls plan worker made.all (made.parts worker) given met
+abbrev FallsAs : Plan → Bool → ℕ → Trace → List (Reply (List ℕ)) → Option Misuse → Type 0
+FallsAs plan over worker made given met = Falls plan over worker made.all (made.parts worker) given met
 
 -- within its next call, if there is one: with whatever items spell what is left, the last ones spell the call. Else it stands nowhere
 abbrev Stands : Plan → ℕ → ℕ → List Made → Option Call → ℕ → List ObjectState → Type 0
@@ -114,13 +117,14 @@ pub record SoFar (plan : Plan) (worker : ℕ) (made : Trace) (s : State) : Type 
   rest : List Call
   runs : RunsAlong (get_or plan.scripts worker []) (calls_in spelt) rest
   replies : map (λ (x : SpeltCall). x.reply) spelt ≡ map (recorded_reply plan) (get_or s.replies worker [])
-  items : items_in spelt ++ last ≡ list_of plan made.all worker
+  items : items_in spelt ++ last ≡ made_in plan made.all worker
   turns : ByTurns plan spelt last (made.parts worker)
   are : AreSpelt plan worker 0 spelt
+  asleep : is_dormant plan worker ≡ true → spelt ≡ []
   stands : Stands plan worker (count_in (items_in spelt)) last (next_call plan worker s) (begun_by worker s) s.objects
 
 -- the rest is what the worker's replies leave of its script
-rest_left : Spells → (plan : Plan) (worker : ℕ) (made : Trace) (s : State) (h : SoFar plan worker made s) → h.rest ≡ left_for plan worker s
+rest_left : Spells → (plan : Plan) (worker : ℕ) (made : Trace) (s : State) (h : SoFar plan worker made s) → h.rest ≡ left_of (get_or plan.scripts worker []) (get_or s.replies worker [])
 rest_left laws plan worker made s h =
     let script = get_or plan.scripts worker [] in
     let given = get_or s.replies worker [] in
@@ -130,9 +134,9 @@ rest_left laws plan worker made s h =
     replies_of [] = refl
     replies_of (one ∷ spelt) = ap (λ (l : List (Reply ℕ)). one.reply ∷ l) (replies_of spelt)
 
--- the next call is the first that is left
-next_left : Spells → (plan : Plan) (worker : ℕ) (made : Trace) (s : State) (h : SoFar plan worker made s) → next_call plan worker s ≡ slice_get h.rest 0
-next_left laws plan worker made s h = ap (λ (l : List Call). slice_get l 0) (sym (rest_left laws plan worker made s h))
+-- the next call is the first of it
+rest_first : Spells → (plan : Plan) (worker : ℕ) (made : Trace) (s : State) (h : SoFar plan worker made s) (call : Call) → next_call plan worker s ≡ Some call → (rest : List Call) × (h.rest ≡ call ∷ rest)
+rest_first laws plan worker made s h call some = split_first h.rest call (ap (λ (l : List Call). slice_get l 0) (rest_left laws plan worker made s h) ∙ next_first plan worker s call some)
 
 -- it has as many replies as calls were completed
 count_spelt : (plan : Plan) (worker : ℕ) (made : Trace) (s : State) (h : SoFar plan worker made s) → length (get_or s.replies worker []) ≡ length h.spelt
@@ -143,39 +147,98 @@ count_spelt plan worker made s h =
 unhalted : (spelt last : List Made) → spelt ++ (last ++ []) ≡ spelt ++ last
 unhalted spelt last = ap (λ (l : List Made). spelt ++ l) (append-nil last)
 
+-- how a worker's list ends, by whether it waits to be started and by the call before which it stands else
+abbrev ends_as : Bool → Bool → Option Call → Option Misuse → LineEnd
+ends_as over sleeps next met = cond sleeps (stays_by over) (ending_by next met)
+
 -- as a line, at this moment
-ends_line : Spells → (plan : Plan) (worker : ℕ) (made : Trace) (s : State) → IsStateOf plan s → SoFar plan worker made s → FallsAs plan worker made (get_or s.replies worker []) None
-ends_line laws plan worker made s of h = by_next (next_call plan worker s) refl
-  where
-    by_next : (o : Option Call) → next_call plan worker s ≡ o → FallsAs plan worker made (get_or s.replies worker []) None
-    by_next None none =
-        let stands = subst (λ (o : Option Call). Stands plan worker (count_in (items_in h.spelt)) h.last o (begun_by worker s) s.objects) none h.stands in
-        record {
-          line = record { spelt = h.spelt; last = h.last; halts = []; rest = h.rest; ending = whole };
-          runs = h.runs;
-          items = unhalted (items_in h.spelt) h.last ∙ h.items;
-          replies = h.replies;
-          turns = h.turns.each;
-          behind = h.turns.current;
-          ends = sym (ap (λ (o : Option Call). ending_by o None) none);
-          is = record { calls = h.are; ends = (none_first h.rest (sym (next_left laws plan worker made s h) ∙ none), stands.0); halts = refl };
+module _ (laws : Spells) (plan : Plan) (over : Bool) (worker : ℕ) (made : Trace) (s : State) (of : IsStateOf plan s) (h : SoFar plan worker made s) where
+  abbrev FallsNow : Type 0
+  FallsNow = FallsAs plan over worker made (get_or s.replies worker []) None
+
+  abbrev given : List (Reply (List ℕ))
+  given = get_or s.replies worker []
+
+  abbrev next_is : Option Call
+  next_is = slice_get (left_of (get_or plan.scripts worker []) given) 0
+
+  stands_by : (o : Option Call) → next_call plan worker s ≡ o → Stands plan worker (count_in (items_in h.spelt)) h.last o (begun_by worker s) s.objects
+  stands_by o is = subst (λ (o : Option Call). Stands plan worker (count_in (items_in h.spelt)) h.last o (begun_by worker s) s.objects) is h.stands
+
+  -- nothing stands on Starts behind its calls
+  unclosed : items_in h.spelt ++ (h.last ++ []) ≡ made_in plan made.all worker ++ []
+  unclosed = unhalted (items_in h.spelt) h.last ∙ h.items ∙ sym (append-nil (made_in plan made.all worker))
+
+  unclosed_last : h.last ≡ recorded plan (count_in (items_in h.spelt)) (made.parts worker (length h.spelt)) ++ []
+  unclosed_last = h.turns.current ∙ sym (append-nil (recorded plan (count_in (items_in h.spelt)) (made.parts worker (length h.spelt))))
+
+  -- of one that waits to be started
+  asleep_line : is_dormant plan worker ≡ true → FallsNow
+  asleep_line is = record {
+    line = record { first = opening_items plan worker (stays_by over); spelt = h.spelt; last = h.last; halts = []; rest = h.rest; ending = stays_by over };
+    runs = h.runs;
+    items = ap (λ (l : List Made). opening_items plan worker (stays_by over) ++ l) unclosed;
+    replies = h.replies;
+    turns = h.turns.each;
+    before = refl;
+    behind = unclosed_last;
+    ends = sym (ap (λ (b : Bool). ends_as over b next_is None) is);
+    is = record { opens = (h.asleep is, stays plan worker over is); calls = h.are; ends = (stands_by None (ap (λ (l : List Call). slice_get l 0) (idle_left plan worker given is))).0; halts = refl };
+    halts = refl;
+  }
+
+  -- of one whose script has ended
+  whole_line : is_dormant plan worker ≡ false → next_call plan worker s ≡ None → FallsNow
+  whole_line is none =
+      let closed = closing_items plan worker whole in
+      let first : next_is ≡ None = ap (λ (l : List Call). slice_get l 0) (sym (live_left plan worker given is)) ∙ none in
+      record {
+        line = record { first = []; spelt = h.spelt; last = h.last ++ closed; halts = []; rest = h.rest; ending = whole };
+        runs = h.runs;
+        items = unhalted (items_in h.spelt) (h.last ++ closed) ∙ sym (append_assoc (items_in h.spelt) h.last closed) ∙ ap (λ (l : List Made). l ++ closed) h.items;
+        replies = h.replies;
+        turns = h.turns.each;
+        before = refl;
+        behind = ap (λ (l : List Made). l ++ closed) h.turns.current;
+        ends = sym (ap (λ (b : Bool). ends_as over b next_is None) is ∙ ap (λ (o : Option Call). ending_by o None) first);
+        is = record {
+          opens = opens plan worker is;
+          calls = h.are;
+          ends = (none_first h.rest (ap (λ (l : List Call). slice_get l 0) (rest_left laws plan worker made s h) ∙ first), subst (λ (l : List Made). closing plan worker (l ++ closed) (Done (Ok tt))) (sym (stands_by None none).0) (closes plan worker));
           halts = refl;
-        }
-    by_next (Some call) some =
-        let stands = subst (λ (o : Option Call). Stands plan worker (count_in (items_in h.spelt)) h.last o (begun_by worker s) s.objects) some h.stands in
-        let split = split_first h.rest call (sym (next_left laws plan worker made s h) ∙ some) in
-        let can = laws.goes_on plan worker (count_in (items_in h.spelt) + count_in h.last) (begun_by worker s) call s.objects (ready plan worker s call of some) in
-        record {
-          line = record { spelt = h.spelt; last = h.last; halts = []; rest = call ∷ split.0; ending = unfinished };
-          runs = subst (RunsAlong (get_or plan.scripts worker []) (calls_in h.spelt)) split.1 h.runs;
-          items = unhalted (items_in h.spelt) h.last ∙ h.items;
-          replies = h.replies;
-          turns = h.turns.each;
-          behind = h.turns.current;
-          ends = sym (ap (λ (o : Option Call). ending_by o None) some);
-          is = record { calls = h.are; ends = (can.0, can.1, stands.1 can.0 can.1 can.2); halts = refl };
-          halts = refl;
-        }
+        };
+        halts = refl;
+      }
+
+  -- of one that stands before a call or within it
+  unfinished_line : (call : Call) → next_call plan worker s ≡ Some call → FallsNow
+  unfinished_line call some =
+      let is = next_live plan worker s call some in
+      let split = rest_first laws plan worker made s h call some in
+      let can = laws.goes_on plan worker (count_in (items_in h.spelt) + count_in h.last) (begun_by worker s) call s.objects (ready plan worker s call of some) in
+      record {
+        line = record { first = []; spelt = h.spelt; last = h.last; halts = []; rest = call ∷ split.0; ending = unfinished };
+        runs = subst (RunsAlong (get_or plan.scripts worker []) (calls_in h.spelt)) split.1 h.runs;
+        items = unclosed;
+        replies = h.replies;
+        turns = h.turns.each;
+        before = refl;
+        behind = unclosed_last;
+        ends = sym (ap (λ (b : Bool). ends_as over b next_is None) is ∙ ap (λ (o : Option Call). ending_by o None) (next_first plan worker s call some));
+        is = record { opens = opens plan worker is; calls = h.are; ends = (can.0, can.1, (stands_by (Some call) some).1 can.0 can.1 can.2); halts = refl };
+        halts = refl;
+      }
+
+  ends_line : FallsNow
+  ends_line = by_sort (is_dormant plan worker) refl
+    where
+      by_next : is_dormant plan worker ≡ false → (o : Option Call) → next_call plan worker s ≡ o → FallsNow
+      by_next is None none = whole_line is none
+      by_next is (Some call) some = unfinished_line call some
+
+      by_sort : (b : Bool) → is_dormant plan worker ≡ b → FallsNow
+      by_sort true is = asleep_line is
+      by_sort false is = by_next is (next_call plan worker s) refl
 
 -- no halts
 no_halts : (misuse : Misuse) → All (IsHalt misuse) []
@@ -188,12 +251,12 @@ pub record Run (plan : Plan) (s : State) : Type 0 where
   pub keys : HasKeys (all_keys plan.scripts) (distinct_count (all_keys plan.scripts)) s
 
 -- behind a turn: so far, or as a line, where the turn was a misuse
-abbrev Behind : Plan → ℕ → ℕ → Trace → State × Step → Type 0
-Behind plan worker by made (t, steps.Still) = SoFar plan worker made t
-Behind plan worker by made (t, steps.Made) = SoFar plan worker made t
-Behind plan worker by made (t, steps.Misused misuse) = FallsAs plan worker made (get_or t.replies worker []) (if by == worker then Some misuse else None)
+abbrev Behind : Plan → Bool → ℕ → ℕ → Trace → State × Step → Type 0
+Behind plan over worker by made (t, steps.Still) = SoFar plan worker made t
+Behind plan over worker by made (t, steps.Made) = SoFar plan worker made t
+Behind plan over worker by made (t, steps.Misused misuse) = FallsAs plan over worker made (get_or t.replies worker []) (if by == worker then Some misuse else None)
 
-module _ (laws : Spells) (stand_laws : TurnStands) (uses : TurnsUse) (plan : Plan) (goes : GoesOn plan) (by : ℕ) (s : State) (run : Run plan s) where
+module _ (laws : Spells) (stand_laws : TurnStands) (uses : TurnsUse) (plan : Plan) (over : Bool) (goes : GoesOn plan) (by : ℕ) (s : State) (run : Run plan s) where
   of : IsStateOf plan s
   of = run.standing.of
 
@@ -203,15 +266,15 @@ module _ (laws : Spells) (stand_laws : TurnStands) (uses : TurnsUse) (plan : Pla
 
   -- the turn's items are in the list of its worker, and in no other
   own_list : (made : List Item) (call : Call) → next_call plan by s ≡ Some call
-      → list_of plan (made ++ made_by plan by s) by ≡ list_of plan made by ++ recorded plan (count_in (list_of plan made by)) (items_within call by s.moment (begun_by by s) s.objects)
+      → made_in plan (made ++ made_by plan by s) by ≡ made_in plan made by ++ recorded plan (count_in (made_in plan made by)) (items_within call by s.moment (begun_by by s) s.objects)
   own_list made call is =
       let turn = items_within call by s.moment (begun_by by s) s.objects in
       let is_turn : made_by plan by s ≡ turn = ap (λ (o : Option Call). option_map_or (λ call. items_within call by s.moment (begun_by by s) s.objects) o []) is in
       let own = ap (λ (l : List Item). by_worker by (made ++ l)) is_turn ∙ filter-append (λ (item : Item). item.caller == by) made turn ∙ ap (λ (l : List Item). by_worker by made ++ l) (laws.by_itself by s.moment (begun_by by s) call s.objects) in
-      let zero_first : 0 + count_in (list_of plan made by) ≡ count_in (list_of plan made by) = omega arith in
-      ap (recorded plan 0) own ∙ recorded-append plan 0 (by_worker by made) turn ∙ ap (λ (n : ℕ). list_of plan made by ++ recorded plan n turn) zero_first
+      let zero_first : 0 + count_in (made_in plan made by) ≡ count_in (made_in plan made by) = omega arith in
+      ap (recorded plan 0) own ∙ recorded-append plan 0 (by_worker by made) turn ∙ ap (λ (n : ℕ). made_in plan made by ++ recorded plan n turn) zero_first
 
-  other_list : (made : List Item) (worker : ℕ) → worker ≢ by → list_of plan (made ++ made_by plan by s) worker ≡ list_of plan made worker
+  other_list : (made : List Item) (worker : ℕ) → worker ≢ by → made_in plan (made ++ made_by plan by s) worker ≡ made_in plan made worker
   other_list made worker apart =
       ap (recorded plan 0) (filter-append (λ (item : Item). item.caller == worker) made (made_by plan by s) ∙ ap (λ (l : List Item). by_worker worker made ++ l) (none (next_call plan by s)) ∙ append-nil (by_worker worker made))
     where
@@ -249,15 +312,16 @@ module _ (laws : Spells) (stand_laws : TurnStands) (uses : TurnsUse) (plan : Pla
       items = h.items ∙ sym (other_list made.all worker apart);
       turns = same_parts plan h.spelt h.last (made.parts worker) ((more plan made by s).parts worker) (λ k. ap (λ (l : List Item). made.parts worker k ++ l) (part_of_other plan worker k by s apart) ∙ append-nil (made.parts worker k)) h.turns;
       are = h.are;
-      stands = subst (λ (done : List (Reply (List ℕ))). Stands plan worker (count_in (items_in h.spelt)) h.last (slice_get (left_of (get_or plan.scripts worker []) done) 0) (begun_by worker t) t.objects) (sym same)
+      asleep = h.asleep;
+      stands = subst (λ (done : List (Reply (List ℕ))). Stands plan worker (count_in (items_in h.spelt)) h.last (slice_get (left_with plan worker done) 0) (begun_by worker t) t.objects) (sym same)
           (subst (λ (n : ℕ). Stands plan worker (count_in (items_in h.spelt)) h.last (next_call plan worker s) n t.objects) (sym same_begun) stands);
     }
 
     other_moved : (call : Call) (objects : List ObjectState) (waits : ℕ) (answer : Answer) → Takes plan by s call objects waits answer → SoFar plan worker (more plan made by s) (moved by objects waits s)
     other_moved call objects waits answer takes = other_so_far (moved by objects waits s) refl (begun_other by worker waits objects s apart) (other_stands call objects waits answer takes)
 
-    other_behind : Behind plan worker by (more plan made by s) (turn_of plan by s)
-    other_behind = turn_cases (Behind plan worker by (more plan made by s)) plan by s of (record {
+    other_behind : Behind plan over worker by (more plan made by s) (turn_of plan by s)
+    other_behind = turn_cases (Behind plan over worker by (more plan made by s)) plan by s of (record {
       ended = λ none. other_so_far s refl refl h.stands;
       still = λ call objects waits takes. other_moved call objects waits answers.Still takes;
       unfinished = λ call objects waits takes. other_moved call objects waits answers.Unfinished takes;
@@ -273,10 +337,10 @@ module _ (laws : Spells) (stand_laws : TurnStands) (uses : TurnsUse) (plan : Pla
         not_by false is = refl
 
         misused_line : (call : Call) (objects : List ObjectState) (waits : ℕ) (misuse : Misuse) → Takes plan by s call objects waits (answers.Misused misuse)
-            → FallsAs plan worker (more plan made by s) (get_or s.replies worker []) (if by == worker then Some misuse else None)
+            → FallsAs plan over worker (more plan made by s) (get_or s.replies worker []) (if by == worker then Some misuse else None)
         misused_line call objects waits misuse takes =
-            subst (λ (b : Bool). FallsAs plan worker (more plan made by s) (get_or s.replies worker []) (if b then Some misuse else None)) (sym (not_by (by == worker) refl))
-            (ends_line laws plan worker (more plan made by s) (moved by objects waits s) (state_of call objects waits (answers.Misused misuse) takes) (other_moved call objects waits (answers.Misused misuse) takes))
+            subst (λ (b : Bool). FallsAs plan over worker (more plan made by s) (get_or s.replies worker []) (if b then Some misuse else None)) (sym (not_by (by == worker) refl))
+            (ends_line laws plan over worker (more plan made by s) (moved by objects waits s) (state_of call objects waits (answers.Misused misuse) takes) (other_moved call objects waits (answers.Misused misuse) takes))
 
   -- ---- the worker itself
 
@@ -285,7 +349,7 @@ module _ (laws : Spells) (stand_laws : TurnStands) (uses : TurnsUse) (plan : Pla
     before = count_in (items_in h.spelt)
 
     abbrev so_many : ℕ
-    so_many = count_in (list_of plan made.all by)
+    so_many = count_in (made_in plan made.all by)
 
     count_is : before + count_in h.last ≡ so_many
     count_is = sym (count-append (items_in h.spelt) h.last) ∙ ap count_in h.items
@@ -300,9 +364,9 @@ module _ (laws : Spells) (stand_laws : TurnStands) (uses : TurnsUse) (plan : Pla
           (stands.0, λ later answer l. stands.1 later answer (subst (λ (n : ℕ). left_within plan by n call s.objects (begun_by by s) later answer) (sym count_is) l))
 
       rest_is : (rest : List Call) × (h.rest ≡ call ∷ rest)
-      rest_is = split_first h.rest call (sym (next_left laws plan by made s h) ∙ some)
+      rest_is = rest_first laws plan by made s h call some
 
-      list_is : list_of plan (made.all ++ made_by plan by s) by ≡ items_in h.spelt ++ (h.last ++ turn_made)
+      list_is : made_in plan (made.all ++ made_by plan by s) by ≡ items_in h.spelt ++ (h.last ++ turn_made)
       list_is = own_list made.all call some ∙ ap (λ (l : List Made). l ++ turn_made) (sym h.items) ∙ append_assoc (items_in h.spelt) h.last turn_made
 
       -- they are the turn's, before this call
@@ -338,6 +402,7 @@ module _ (laws : Spells) (stand_laws : TurnStands) (uses : TurnsUse) (plan : Pla
             items = sym (list_is ∙ ap (λ (l : List Made). items_in h.spelt ++ (h.last ++ l)) nothing ∙ ap (λ (l : List Made). items_in h.spelt ++ l) (append-nil h.last));
             turns = subst (λ (l : List Made). ByTurns plan h.spelt l ((more plan made by s).parts by)) (ap (λ (l : List Made). h.last ++ l) nothing ∙ append-nil h.last) own_turns;
             are = h.are;
+            asleep = h.asleep;
             stands = h.stands;
           })
 
@@ -355,6 +420,7 @@ module _ (laws : Spells) (stand_laws : TurnStands) (uses : TurnsUse) (plan : Pla
             items = sym list_is;
             turns = own_turns;
             are = h.are;
+            asleep = h.asleep;
             stands = subst (λ (o : Option Call). Stands plan by before (h.last ++ turn_made) o (begun_by by (moved by objects waits s)) objects) (sym some)
                 (subst (λ (n : ℕ). Stands plan by before (h.last ++ turn_made) (Some call) n objects) (sym (begun_own by waits objects s (omega (arith, takes.below, of.waits)))) (
                   t.1,
@@ -400,22 +466,25 @@ module _ (laws : Spells) (stand_laws : TurnStands) (uses : TurnsUse) (plan : Pla
             items = append-nil (items_in (h.spelt ++ one ∷ [])) ∙ flat-push h.spelt one ∙ sym list_is;
             turns = more_spelt plan h.spelt one ((more plan made by s).parts by) own_turns;
             are = spelt-push plan by 0 h.spelt one h.are (subst (λ (n : ℕ). SpellsCall plan by n call one.items (Done (Ok one.reply))) none spells);
+            asleep = λ sleeps. let clash : true ≡ false = sym sleeps ∙ next_live plan by s call some in cc;
             stands = completed_stands objects waits reply takes (next_call plan by t) refl;
           }
 
       own_misused : (objects : List ObjectState) (waits : ℕ) (misuse : Misuse) → Takes plan by s call objects waits (answers.Misused misuse)
-          → FallsAs plan by (more plan made by s) (get_or s.replies by []) (Some misuse)
+          → FallsAs plan over by (more plan made by s) (get_or s.replies by []) (Some misuse)
       own_misused objects waits misuse takes =
           let spells = own_stands.1 turn_made (Done (Err misuse)) (told objects waits (answers.Misused misuse) takes).0 in
+          let is = next_live plan by s call some in
           record {
-            line = record { spelt = h.spelt; last = h.last ++ turn_made; halts = []; rest = call ∷ rest_is.0; ending = misused misuse };
+            line = record { first = []; spelt = h.spelt; last = h.last ++ turn_made; halts = []; rest = call ∷ rest_is.0; ending = misused misuse };
             runs = subst (RunsAlong (get_or plan.scripts by []) (calls_in h.spelt)) rest_is.1 h.runs;
-            items = unhalted (items_in h.spelt) (h.last ++ turn_made) ∙ sym list_is;
+            items = unhalted (items_in h.spelt) (h.last ++ turn_made) ∙ sym list_is ∙ sym (append-nil (made_in plan (made.all ++ made_by plan by s) by));
             replies = h.replies;
             turns = own_turns.each;
-            behind = own_turns.current;
-            ends = refl;
-            is = record { calls = h.are; ends = spells; halts = no_halts misuse };
+            before = refl;
+            behind = own_turns.current ∙ sym (append-nil (recorded plan before ((more plan made by s).parts by (length h.spelt))));
+            ends = sym (ap (λ (b : Bool). ends_as over b (slice_get (left_of (get_or plan.scripts by []) (get_or s.replies by [])) 0) (Some misuse)) is);
+            is = record { opens = opens plan by is; calls = h.are; ends = spells; halts = no_halts misuse };
             halts = refl;
           }
 
@@ -429,10 +498,11 @@ module _ (laws : Spells) (stand_laws : TurnStands) (uses : TurnsUse) (plan : Pla
           rest = h.rest;
           runs = h.runs;
           replies = h.replies;
-          items = h.items ∙ sym (ap (λ (l : List Item). list_of plan (made.all ++ l) by) nothing ∙ ap (λ (l : List Item). list_of plan l by) (append-nil made.all));
+          items = h.items ∙ sym (ap (λ (l : List Item). made_in plan (made.all ++ l) by) nothing ∙ ap (λ (l : List Item). made_in plan l by) (append-nil made.all));
           turns = same_parts plan h.spelt h.last (made.parts by) ((more plan made by s).parts by)
               (λ k. ap (λ (l : List Item). made.parts by k ++ l) (no_part k nothing ((by == by) && stands_before by k s)) ∙ append-nil (made.parts by k)) h.turns;
           are = h.are;
+          asleep = h.asleep;
           stands = h.stands;
         }
       where
@@ -440,28 +510,28 @@ module _ (laws : Spells) (stand_laws : TurnStands) (uses : TurnsUse) (plan : Pla
         no_part k nothing true = nothing
         no_part k nothing false = refl
 
-    own_behind : Behind plan by by (more plan made by s) (turn_of plan by s)
-    own_behind = turn_cases (Behind plan by by (more plan made by s)) plan by s of (record {
+    own_behind : Behind plan over by by (more plan made by s) (turn_of plan by s)
+    own_behind = turn_cases (Behind plan over by by (more plan made by s)) plan by s of (record {
       ended = own_ended;
       still = λ call objects waits takes. own_still call takes.next objects waits takes;
       unfinished = λ call objects waits takes. own_unfinished call takes.next objects waits takes;
       completed = λ call objects waits reply takes. own_completed call takes.next objects waits reply takes;
       misused = λ call objects waits misuse takes.
-          subst (λ (b : Bool). FallsAs plan by (more plan made by s) (get_or s.replies by []) (if b then Some misuse else None)) (sym (eq-eqb by by refl)) (own_misused call takes.next objects waits misuse takes);
+          subst (λ (b : Bool). FallsAs plan over by (more plan made by s) (get_or s.replies by []) (if b then Some misuse else None)) (sym (eq-eqb by by refl)) (own_misused call takes.next objects waits misuse takes);
     })
 
-  pub turn_behind : (made : Trace) → ((worker : ℕ) → SoFar plan worker made s) → (worker : ℕ) → Behind plan worker by (more plan made by s) (turn_of plan by s)
+  pub turn_behind : (made : Trace) → ((worker : ℕ) → SoFar plan worker made s) → (worker : ℕ) → Behind plan over worker by (more plan made by s) (turn_of plan by s)
   turn_behind made all worker = by_worker_is (eqb worker by) refl
     where
-      by_worker_is : (b : Bool) → eqb worker by ≡ b → Behind plan worker by (more plan made by s) (turn_of plan by s)
-      by_worker_is true is = subst (λ (w : ℕ). Behind plan w by (more plan made by s) (turn_of plan by s)) (sym (eqb-true worker by is)) (own_behind made (all by))
+      by_worker_is : (b : Bool) → eqb worker by ≡ b → Behind plan over worker by (more plan made by s) (turn_of plan by s)
+      by_worker_is true is = subst (λ (w : ℕ). Behind plan over w by (more plan made by s) (turn_of plan by s)) (sym (eqb-true worker by is)) (own_behind made (all by))
       by_worker_is false far = other_behind worker made (eqb-false worker by far) (all worker)
 
 -- ---- turns in order
 
-module _ (laws : Spells) (stand_laws : TurnStands) (uses : TurnsUse) (plan : Plan) (goes : GoesOn plan) (kept : Kept plan (Run plan)) where
+module _ (laws : Spells) (stand_laws : TurnStands) (uses : TurnsUse) (plan : Plan) (over : Bool) (goes : GoesOn plan) (kept : Kept plan (Run plan)) where
   abbrev After : ℕ → Trace → State → Option Misuse → Type 0
-  After worker made t met = FallsAs plan worker made (get_or t.replies worker []) met
+  After worker made t met = FallsAs plan over worker made (get_or t.replies worker []) met
 
   -- what a turn and what follows it make behind others
   abbrev behind_all : Trace → ℕ → State → List Turn → State × Step → Trace
@@ -475,7 +545,7 @@ module _ (laws : Spells) (stand_laws : TurnStands) (uses : TurnsUse) (plan : Pla
   joined made list s = record { all = made.all ++ all_made plan list s; parts = λ worker number. made.parts worker number ++ made_for plan worker number list s }
 
   with_clock : (worker moment : ℕ) (made : Trace) (s : State) → SoFar plan worker made s → SoFar plan worker made (with_moment moment s)
-  with_clock worker moment made s h = record { spelt = h.spelt; last = h.last; rest = h.rest; runs = h.runs; replies = h.replies; items = h.items; turns = h.turns; are = h.are; stands = h.stands }
+  with_clock worker moment made s h = record { spelt = h.spelt; last = h.last; rest = h.rest; runs = h.runs; replies = h.replies; items = h.items; turns = h.turns; are = h.are; asleep = h.asleep; stands = h.stands }
 
   goes_behind : (made : Trace) (by : ℕ) (s : State) (rest : List Turn) (t : State) → joined (more plan made by s) rest t ≡ behind_all made by s rest (t, steps.Still)
   goes_behind made by s rest t =
@@ -493,7 +563,7 @@ module _ (laws : Spells) (stand_laws : TurnStands) (uses : TurnsUse) (plan : Pla
         parts = λ worker number. made.parts worker number ++ sym (append-nil (part_by plan worker number by s)) i;
       }
 
-  later_fall : (rest : List Turn) (made : Trace) (by : ℕ) (s : State) (x : State × Step) → Run plan x.0 → ((worker : ℕ) → Behind plan worker by (more plan made by s) x)
+  later_fall : (rest : List Turn) (made : Trace) (by : ℕ) (s : State) (x : State × Step) → Run plan x.0 → ((worker : ℕ) → Behind plan over worker by (more plan made by s) x)
       → ((earlier : Trace) (t : State) → Run plan t → ((worker : ℕ) → SoFar plan worker earlier t) → (worker : ℕ) → After worker (joined earlier rest t) (after_items plan rest t) (misuse_of plan worker rest t))
       → (worker : ℕ) → After worker (behind_all made by s rest x) (and_then x (after_all plan rest)).0 (misuse_by worker by x (misuse_of plan worker rest))
   later_fall rest made by s (t, steps.Still) run all later worker = subst (λ (m : Trace). After worker m (after_items plan rest t) (misuse_of plan worker rest t)) (goes_behind made by s rest t) (later (more plan made by s) t run all worker)
@@ -506,9 +576,9 @@ module _ (laws : Spells) (stand_laws : TurnStands) (uses : TurnsUse) (plan : Pla
   nothing_behind made s = λ i. record { all = sym (append-nil made.all) i; parts = λ worker number. sym (append-nil (made.parts worker number)) i }
 
   pub items_fall : (list : List Turn) (made : Trace) (s : State) → Run plan s → ((worker : ℕ) → SoFar plan worker made s) → (worker : ℕ) → After worker (joined made list s) (after_items plan list s) (misuse_of plan worker list s)
-  items_fall [] made s run all worker = subst (λ (m : Trace). After worker m s None) (nothing_behind made s) (ends_line laws plan worker made s run.standing.of (all worker))
+  items_fall [] made s run all worker = subst (λ (m : Trace). After worker m s None) (nothing_behind made s) (ends_line laws plan over worker made s run.standing.of (all worker))
   items_fall (items.Worker by ∷ rest) made s run all worker =
-      later_fall rest made by s (turn_of plan by s) (kept.turn by s run) (turn_behind laws stand_laws uses plan goes by s run made all) (items_fall rest) worker
+      later_fall rest made by s (turn_of plan by s) (kept.turn by s run) (turn_behind laws stand_laws uses plan over goes by s run made all) (items_fall rest) worker
   items_fall (items.Moment moment ∷ rest) made s run all worker =
       items_fall rest made (with_moment moment s) (kept.moment moment s run) (λ w. with_clock w moment made s (all w)) worker
 
@@ -528,6 +598,7 @@ begun laws stand_laws plan of run worker = record {
   items = refl;
   turns = record { each = λ k one at. absurd cc; current = refl; later = λ k far. refl };
   are = tt;
+  asleep = λ sleeps. refl;
   stands = by_next (next_call plan worker (start plan)) refl;
 }
   where

@@ -12,7 +12,7 @@ use Rattle.step_runner.specs.Items.{Item}
 use Rattle.step_runner.specs.Recorded.{recorded}
 use Rattle.step_runner.specs.CallTurns.{stands_before}
 use Rattle.step_runner.specs.RunItems.{made_by}
-use Rattle.step_runner.specs.Spelt.{part_by}
+use Rattle.step_runner.specs.Spelt.{by_worker, part_by}
 use Rattle.step_runner.specs.State.{State}
 use Rattle.step_runner.proofs.SpeltLines.{recorded-append}
 
@@ -21,6 +21,10 @@ items_in spelt = flat_map (λ (s : SpeltCall). s.items) spelt
 
 abbrev pub count_in : List Made → ℕ
 count_in made = length (shared_in made)
+
+-- what a worker's turns made, as a record has it
+abbrev pub made_in : Plan → List Item → ℕ → List Made
+made_in plan made worker = recorded plan 0 (by_worker worker made)
 
 -- each call's items are those of its turns, and the last ones are those of the next call's
 pub record ByTurns (plan : Plan) (spelt : List SpeltCall) (last : List Made) (parts : ℕ → List Item) : Type 0 where

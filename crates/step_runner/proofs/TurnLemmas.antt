@@ -34,6 +34,7 @@ use Rattle.step_runner.specs.declared.step.Step.{Step}
 use Rattle.step_runner.specs.declared.step.Step.TheVariants as steps
 use Rattle.step_runner.specs.State.{State, next_tries, with_reply, IsStateOf}
 use Rattle.step_runner.specs.Turns.{begun_by, left_for, next_call, settled, settled_with, turn_of}
+use Rattle.step_runner.proofs.NextCalls.{left_with, live_left, next_live, next_left, next_first}
 use Rattle.step_runner.proofs.ScriptRuns.{GoesFurther, split_first, in_script}
 use Rattle.step_runner.specs.LeftToDo.{calls_left, left_to_do, waits_left, waits_left_for}
 
@@ -95,21 +96,30 @@ plan_schedule plan = list_all (is_turn plan.workers) plan.schedule
 abbrev plan_refers : Plan → Bool
 plan_refers plan = list_all (λ (line : ObjectLine). refers plan.objects line.kind) plan.objects
 
-valid_rest : (plan : Plan) → is_valid plan ≡ true → (plan_scripts plan ≡ true) × ((plan_schedule plan && plan_refers plan) ≡ true)
+abbrev plan_dormant : Plan → Bool
+plan_dormant plan = eqb (length plan.dormant) plan.workers
+
+valid_rest : (plan : Plan) → is_valid plan ≡ true → (plan_scripts plan ≡ true) × ((plan_schedule plan && (plan_refers plan && plan_dormant plan)) ≡ true)
 valid_rest plan e =
-    both (plan_scripts plan) (plan_schedule plan && plan_refers plan)
-    (both (eqb (length plan.scripts) plan.workers) (plan_scripts plan && (plan_schedule plan && plan_refers plan)) e).1
+    both (plan_scripts plan) (plan_schedule plan && (plan_refers plan && plan_dormant plan))
+    (both (eqb (length plan.scripts) plan.workers) (plan_scripts plan && (plan_schedule plan && (plan_refers plan && plan_dormant plan))) e).1
 
 pub valid_schedule : (plan : Plan) → is_valid plan ≡ true → list_all (is_turn plan.workers) plan.schedule ≡ true
-valid_schedule plan e = (both (plan_schedule plan) (plan_refers plan) (valid_rest plan e).1).0
+valid_schedule plan e = (both (plan_schedule plan) (plan_refers plan && plan_dormant plan) (valid_rest plan e).1).0
+
+valid_last : (plan : Plan) → is_valid plan ≡ true → (plan_refers plan ≡ true) × (plan_dormant plan ≡ true)
+valid_last plan e = both (plan_refers plan) (plan_dormant plan) (both (plan_schedule plan) (plan_refers plan && plan_dormant plan) (valid_rest plan e).1).1
 
 valid_refers : (plan : Plan) → is_valid plan ≡ true → plan_refers plan ≡ true
-valid_refers plan e = (both (plan_schedule plan) (plan_refers plan) (valid_rest plan e).1).1
+valid_refers plan e = (valid_last plan e).0
+
+pub valid_dormant : (plan : Plan) → is_valid plan ≡ true → length plan.dormant ≡ plan.workers
+valid_dormant plan e = eqb-true (length plan.dormant) plan.workers (valid_last plan e).1
 
 -- the call before which a worker stands is on an object that has it
 call_is_on : (plan : Plan) (worker : ℕ) (s : State) (call : Call) → is_valid plan ≡ true → next_call plan worker s ≡ Some call → is_on plan.objects (slice_get plan.objects call.object) call ≡ true
 call_is_on plan worker s call valid is =
-    let at = in_script (get_or plan.scripts worker []) (get_or s.replies worker []) call is in
+    let at = in_script (get_or plan.scripts worker []) (get_or s.replies worker []) call (next_first plan worker s call is) in
     all_get (on_plan plan) (get_or plan.scripts worker []) at.0 call (all_at (on_plan plan) plan.scripts worker (valid_rest plan valid).0) at.1
 
 -- the kind of an object is the one that the plan says
@@ -210,7 +220,7 @@ in_range (script ∷ scripts) (suc worker) some = omega (arith, in_range scripts
 -- a worker that has a call left is there
 pub is_there : (plan : Plan) (worker : ℕ) (s : State) (call : Call) → is_valid plan ≡ true → next_call plan worker s ≡ Some call → worker < plan.workers
 is_there plan worker s call valid is =
-    let at = in_script (get_or plan.scripts worker []) (get_or s.replies worker []) call is in
+    let at = in_script (get_or plan.scripts worker []) (get_or s.replies worker []) call (next_first plan worker s call is) in
     let room : at.0 < length (get_or plan.scripts worker []) = slice_get_within _ _ call at.1 in
     let there : worker < length plan.scripts = in_range plan.scripts worker (omega (arith, room)) in
     omega (arith, there, valid_scripts plan valid)
@@ -243,7 +253,7 @@ ready plan worker s call of is =
 
 -- it has begun no more waits than that call may make
 pub few_begun : (plan : Plan) (worker : ℕ) (s : State) (call : Call) → IsStateOf plan s → next_call plan worker s ≡ Some call → begun_by worker s ≤ tries_of call.operation
-few_begun plan worker s call of is = subst (λ (n : ℕ). begun_by worker s ≤ n) (first_tries (left_for plan worker s) call is) (of.few worker)
+few_begun plan worker s call of is = subst (λ (n : ℕ). begun_by worker s ≤ n) (first_tries (left_of (get_or plan.scripts worker []) (get_or s.replies worker [])) call (next_first plan worker s call is)) (of.few worker)
 
 -- ---- the cases of a turn
 
@@ -312,13 +322,14 @@ pub replied_begun_other : (worker other : ℕ) (reply : Reply (List ℕ)) (s : S
 replied_begun_other worker other reply s apart = get_or-set_other s.begun worker other 0 0 apart
 
 moved_few : (plan : Plan) (worker : ℕ) (s : State) (call : Call) (objects : List ObjectState) (waits : ℕ) → IsStateOf plan s → worker < plan.workers → next_call plan worker s ≡ Some call → waits ≤ tries_of call.operation
-    → (k : ℕ) → begun_by k (moved worker objects waits s) ≤ next_tries (left_for plan k s)
-moved_few plan worker s call objects waits of below next few k = elim (eqb k worker) as (λ b. eqb k worker ≡ b → begun_by k (moved worker objects waits s) ≤ next_tries (left_for plan k s)) [
+    → (k : ℕ) → begun_by k (moved worker objects waits s) ≤ next_tries (left_of (get_or plan.scripts k []) (get_or s.replies k []))
+moved_few plan worker s call objects waits of below next few k = elim (eqb k worker) as (λ b. eqb k worker ≡ b → begun_by k (moved worker objects waits s) ≤ next_tries (left_of (get_or plan.scripts k []) (get_or s.replies k []))) [
   | true ↦ λ e.
       let same : worker ≡ k = sym (eqb-true k worker e) in
-      let own : begun_by worker (moved worker objects waits s) ≤ next_tries (left_for plan worker s) =
-      omega (arith, begun_own worker waits objects s (omega (arith, below, of.waits)), few, first_tries (left_for plan worker s) call next) in
-      subst (λ (w : ℕ). begun_by w (moved worker objects waits s) ≤ next_tries (left_for plan w s)) same own
+      let left = left_of (get_or plan.scripts worker []) (get_or s.replies worker []) in
+      let own : begun_by worker (moved worker objects waits s) ≤ next_tries left =
+      omega (arith, begun_own worker waits objects s (omega (arith, below, of.waits)), few, first_tries left call (next_first plan worker s call next)) in
+      subst (λ (w : ℕ). begun_by w (moved worker objects waits s) ≤ next_tries (left_of (get_or plan.scripts w []) (get_or s.replies w []))) same own
   | false ↦ λ e. omega (arith, begun_other worker k waits objects s (eqb-false k worker e), of.few k)
 ] refl
 
@@ -360,7 +371,7 @@ replied_of further plan worker s call reply of below is =
     let here : worker < length s.replies = omega (arith, of.workers) in
     let script = get_or plan.scripts worker [] in
     let given = get_or s.replies worker [] in
-    let left = split_first (left_of script given) call is in
+    let left = split_first (left_of script given) call (next_first plan worker s call is) in
     let room : length given < length script = omega (arith, of.made worker, further.few script given, ap (length {A = Call}) left.1) in
     let more : length (given ++ reply ∷ []) ≡ length given + 1 = length-append given (reply ∷ []) in
     let made : length (made_of script (given ++ reply ∷ [])) ≡ length given + 1 =
@@ -372,7 +383,7 @@ replied_of further plan worker s call reply of below is =
       machines = of.machines;
       workers = length-set s.replies worker (given ++ reply ∷ []) ∙ of.workers;
       waits = length-set s.begun worker 0 ∙ of.waits;
-      few = λ k. elim (eqb k worker) as (λ b. eqb k worker ≡ b → begun_by k (with_reply worker reply s) ≤ next_tries (left_for plan k (with_reply worker reply s))) [
+      few = λ k. elim (eqb k worker) as (λ b. eqb k worker ≡ b → begun_by k (with_reply worker reply s) ≤ next_tries (left_of (get_or plan.scripts k []) (get_or (with_reply worker reply s).replies k []))) [
         | true ↦ λ e.
             let none : begun_by k (with_reply worker reply s) ≡ 0 = ap (λ (w : ℕ). begun_by w (with_reply worker reply s)) (eqb-true k worker e) ∙ none_begun in
             omega (arith, none)
@@ -419,22 +430,27 @@ sum_moved old new worker fewer more first (suc count) less own from below =
           omega (arith, less first apart, sum_moved old new worker fewer more (first + 1) count less own (omega (arith, apart, from)) (omega (arith, below)), sum_by-cons new first rest, sum_by-cons old first rest)
     ] refl
 
+-- what is left for the worker behind one call more
+own_behind : GoesFurther → (plan : Plan) (worker : ℕ) (s : State) (call : Call) (reply : Reply (List ℕ)) → worker < length s.replies → next_call plan worker s ≡ Some call
+    → (rest : List Call) → left_of (get_or plan.scripts worker []) (get_or s.replies worker []) ≡ call ∷ rest → left_for plan worker (with_reply worker reply s) ≡ drop (passed_over call reply) rest
+own_behind further plan worker s call reply here is rest left =
+    let given = get_or s.replies worker [] in
+    ap (left_with plan worker) (get_or-set_same s.replies worker (given ++ reply ∷ []) [] here) ∙ live_left plan worker (given ++ reply ∷ []) (next_live plan worker s call is)
+    ∙ further.left (get_or plan.scripts worker []) given call rest reply left
+
 -- one call fewer is left, at least
 replied_left : GoesFurther → (plan : Plan) (worker : ℕ) (s : State) (call : Call) (reply : Reply (List ℕ)) → worker < length s.replies → worker < plan.workers → next_call plan worker s ≡ Some call
     → calls_left plan (with_reply worker reply s) + 1 ≤ calls_left plan s
 replied_left further plan worker s call reply here below is =
     let script = get_or plan.scripts worker [] in
     let given = get_or s.replies worker [] in
-    let left = split_first (left_of script given) call is in
-    let behind = further.left script given call left.0 reply left.1 in
-    let fewer : length (left_of script (given ++ reply ∷ [])) + 1 ≤ length (left_of script given) =
-    omega (arith, ap (length {A = Call}) behind, length-drop (passed_over call reply) left.0, ap (length {A = Call}) left.1) in
-    let now : get_or (with_reply worker reply s).replies worker [] ≡ given ++ reply ∷ [] = get_or-set_same s.replies worker (given ++ reply ∷ []) [] here in
-    let own : length (left_of script (given ++ reply ∷ [])) + 1 ≤ length (left_of script given) + 0 = omega (arith, fewer) in
+    let left = split_first (left_of script given) call (next_first plan worker s call is) in
+    let behind = own_behind further plan worker s call reply here is left.0 left.1 in
+    let fewer : length (left_for plan worker (with_reply worker reply s)) + 1 ≤ length (left_for plan worker s) + 0 =
+    omega (arith, ap (length {A = Call}) behind, length-drop (passed_over call reply) left.0, ap (length {A = Call}) left.1, ap (length {A = Call}) (next_left plan worker s call is)) in
     let sums = sum_moved (λ k. length (left_for plan k s)) (λ k. length (left_for plan k (with_reply worker reply s))) worker 1 0 0 plan.workers
-    (λ k apart. subst (λ (replies : List (Reply (List ℕ))). length (left_of (get_or plan.scripts k []) replies) ≤ length (left_for plan k s)) (sym (replied_other worker k reply s apart)) (omega arith))
-    (subst (λ (replies : List (Reply (List ℕ))). length (left_of script replies) + 1 ≤ length (left_of script given) + 0) (sym now) own)
-    (omega arith) (omega (arith, below)) in
+    (λ k apart. subst (λ (replies : List (Reply (List ℕ))). length (left_with plan k replies) ≤ length (left_for plan k s)) (sym (replied_other worker k reply s apart)) (omega arith))
+    fewer (omega arith) (omega (arith, below)) in
     omega (arith, sums)
 
 -- ---- how many waits may still be begun
@@ -460,17 +476,14 @@ module _ (plan : Plan) (worker : ℕ) (s : State) (of : IsStateOf plan s) (below
   waits_replied : GoesFurther → (reply : Reply (List ℕ)) → waits_left plan (with_reply worker reply (moved worker objects waits s)) ≤ waits_left plan s
   waits_replied further reply =
       let t = with_reply worker reply (moved worker objects waits s) in
-      let script = get_or plan.scripts worker [] in
-      let given = get_or s.replies worker [] in
-      let left = split_first (left_of script given) call next in
-      let now : left_for plan worker t ≡ drop (passed_over call reply) left.0 =
-      ap (λ (replies : List (Reply (List ℕ))). left_of script replies) (get_or-set_same s.replies worker (given ++ reply ∷ []) [] (omega (arith, below, of.workers))) ∙ further.left script given call left.0 reply left.1 in
+      let left = split_first (left_of (get_or plan.scripts worker []) (get_or s.replies worker [])) call (next_first plan worker s call next) in
+      let now = own_behind further plan worker (moved worker objects waits s) call reply (omega (arith, below, of.workers)) next left.0 left.1 in
       let none : begun_by worker t ≡ 0 = replied_begun worker reply (moved worker objects waits s) (omega (arith, below, of.waits, length-set s.begun worker waits)) in
       let sums = sum_moved (waits_left_for plan s) (waits_left_for plan t) worker 0 0 0 plan.workers
       (λ k apart.
-      let same : left_for plan k t ≡ left_for plan k s = ap (λ (replies : List (Reply (List ℕ))). left_of (get_or plan.scripts k []) replies) (replied_other worker k reply (moved worker objects waits s) apart) in
+      let same : left_for plan k t ≡ left_for plan k s = ap (left_with plan k) (replied_other worker k reply (moved worker objects waits s) apart) in
       omega (arith, ap tries_in same, replied_begun_other worker k reply (moved worker objects waits s) apart, begun_other worker k waits objects s apart))
-      (omega (arith, few_begun plan worker s call of next, split_tries plan worker s call left.0 left.1, ap tries_in now, sum_by-take-drop (λ (call : Call). tries_of call.operation) left.0 (passed_over call reply)))
+      (omega (arith, few_begun plan worker s call of next, split_tries plan worker s call left.0 (next_left plan worker s call next ∙ left.1), ap tries_in now, sum_by-take-drop (λ (call : Call). tries_of call.operation) left.0 (passed_over call reply)))
       (omega arith) (omega (arith, below)) in
       omega (arith, sums)
 

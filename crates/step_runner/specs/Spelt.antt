@@ -15,7 +15,7 @@ use Rattle.starts_core.specs.declared.starts.StartReply.TheVariants as told
 use Rattle.workload.specs.Plan.{Plan, is_dormant, has_dormant}
 use Rattle.workload.specs.declared.turn.Turn.{Turn}
 use Rattle.workload.specs.declared.turn.Turn.TheVariants as items
-use Rattle.run_record.specs.Lines.{SpeltCall, LineEnd, whole, misused, halted, unfinished, stayed, Stay, never, stopped, waits, Line, calls_made, items_of, replies_of, IsLineOf}
+use Rattle.run_record.specs.Lines.{SpeltCall, LineEnd, whole, misused, halted, unfinished, stayed, never, stopped, waits, Line, calls_made, items_of, replies_of, IsLineOf}
 use Rattle.run_record.specs.Objects.{starts_number}
 use Rattle.run_record.specs.Record.{shared_in}
 use Rattle.run_record.specs.declared.entered.ObjectEvent.TheVariants as events

@@ -242,7 +242,9 @@ pub fn a_waitfor_that_is_met_is_one_load()
 /// At every moment, behind any turns up to the first misuse, a worker's items fall into the calls of a run of its script, in order:
 /// each completed call is spelt by the items of its own turns, as a record's are, and its reply is read off them. Behind them stand the
 /// first items of at most one more call, or that call as a misuse: each list ends by the call before which its worker stands, and by the
-/// misuse that it met. It has no halt. So the lists of any record that has the run's items are lines of the outcome.
+/// misuse that it met. It has no halt. Where some workers wait to be started, an `End` on Starts stands behind each script that has ended,
+/// and a worker that was never started makes its `Leave` alone, once the run has ended. So the lists of any record that has the run's
+/// items, and these, are lines of the outcome.
 pub fn the_items_of_each_call_spell_it()
     ensures always { (plan : Plan) (items : List Turn) (worker : ℕ) → is_valid plan ≡ true → Falls plan (has_ended plan (after_items plan items (start plan))) worker (all_made plan items (start plan)) (λ number. made_for plan worker number items (start plan)) (get_or (after_items plan items (start plan)).replies worker []) (misuse_of plan worker items (start plan)) }
     ensures outcomes { (plan : Plan) (outcome : Outcome) → is_valid plan ≡ true → StepsTo plan outcome

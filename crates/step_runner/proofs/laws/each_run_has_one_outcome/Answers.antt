@@ -20,10 +20,10 @@ pub returns-clause-some : goal.returns-clause-some
 returns-clause-some c plan valid = is_steps plan (c.validity.ensures.goes_on plan) (uses c plan) (c.validity.ensures.begins plan valid) (turns plan) refl
 
 pub returns-clause-complete : goal.returns-clause-complete
-returns-clause-complete c plan report worker valid comes =
+returns-clause-complete c plan report worker valid live comes =
     done_made plan (c.validity.ensures.goes_on plan) (uses c plan) (record { left = c.runs_do_not_hang_on_names.ensures.left; made = c.runs_do_not_hang_on_names.ensures.made })
-    (c.validity.ensures.begins plan valid) report comes worker
+    (c.validity.ensures.begins plan valid) report comes worker live
 
 pub returns-clause-straight : goal.returns-clause-straight
-returns-clause-straight c plan report valid straight comes =
-    done_replied plan (c.validity.ensures.goes_on plan) (uses c plan) c.a_script_without_tests_is_its_own_run.ensures.left (c.validity.ensures.begins plan valid) straight report comes
+returns-clause-straight c plan report valid straight live comes =
+    done_replied plan (c.validity.ensures.goes_on plan) (uses c plan) c.a_script_without_tests_is_its_own_run.ensures.left (c.validity.ensures.begins plan valid) straight live report comes

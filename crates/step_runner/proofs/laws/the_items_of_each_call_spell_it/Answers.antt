@@ -1,3 +1,5 @@
+use Rattle.step_runner.specs.State.{start}
+use Rattle.step_runner.specs.Turns.{after_items, has_ended}
 use Rattle.step_runner.proofs.SpeltOutcome.{SpeltLaws, run_falls, outcome_lined}
 use Rattle.step_runner.proofs.laws.the_items_of_each_call_spell_it.Goals as goal
 
@@ -29,7 +31,7 @@ laws c = record {
 }
 
 pub returns-clause-always : goal.returns-clause-always
-returns-clause-always c plan items worker valid = run_falls (laws c) plan (c.validity.ensures.goes_on plan) (c.validity.ensures.begins plan valid) items worker
+returns-clause-always c plan items worker valid = run_falls (laws c) plan (has_ended plan (after_items plan items (start plan))) (c.validity.ensures.goes_on plan) (c.validity.ensures.begins plan valid) items worker
 
 pub returns-clause-outcomes : goal.returns-clause-outcomes
 returns-clause-outcomes c plan outcome valid comes = outcome_lined (laws c) plan (c.validity.ensures.goes_on plan) (c.validity.ensures.begins plan valid) (λ list. c.validity.ensures.always plan list valid) outcome comes
