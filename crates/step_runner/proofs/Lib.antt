@@ -1,4 +1,5 @@
 mod CallBounds
+mod DormantLemmas
 mod EndLemmas
 mod MadeLemmas
 mod MetCalls

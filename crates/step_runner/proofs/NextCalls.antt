@@ -13,8 +13,8 @@ abbrev pub left_with : Plan → ℕ → List (Reply (List ℕ)) → List Call
 left_with plan worker given = cond (is_dormant plan worker) [] (left_of (get_or plan.scripts worker []) given)
 
 -- nothing for one that waits to be started
-pub idle_left : (plan : Plan) (worker : ℕ) (given : List (Reply (List ℕ))) → is_dormant plan worker ≡ true → left_with plan worker given ≡ []
-idle_left plan worker given idle = ap (λ (b : Bool). cond b [] (left_of (get_or plan.scripts worker []) given)) idle
+pub dormant_left : (plan : Plan) (worker : ℕ) (given : List (Reply (List ℕ))) → is_dormant plan worker ≡ true → left_with plan worker given ≡ []
+dormant_left plan worker given waits = ap (λ (b : Bool). cond b [] (left_of (get_or plan.scripts worker []) given)) waits
 
 -- for any other what is left of its script
 pub live_left : (plan : Plan) (worker : ℕ) (given : List (Reply (List ℕ))) → is_dormant plan worker ≡ false → left_with plan worker given ≡ left_of (get_or plan.scripts worker []) given

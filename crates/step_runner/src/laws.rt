@@ -154,7 +154,9 @@ pub fn who_waits_to_be_started_makes_no_call()
     ensures replies { (plan : Plan) (items : List Turn) (worker : ℕ) → is_dormant plan worker ≡ true → get_or (after_items plan items (start plan)).replies worker [] ≡ [] }
     ensures items { (plan : Plan) (items : List Turn) (worker : ℕ) → is_dormant plan worker ≡ true → by_worker worker (all_made plan items (start plan)) ≡ [] }
     ensures all { (plan : Plan) → is_valid plan ≡ true → list_all (λ waits. waits) plan.dormant ≡ true → has_ended plan (start plan) ≡ true }
-{}
+{
+    items_are_of_their_workers();
+}
 
 /// At no moment has a worker more replies than its script has calls.
 pub fn replies_stay_within_scripts()

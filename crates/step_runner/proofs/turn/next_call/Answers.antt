@@ -1,9 +1,11 @@
-use Rattle.std.proofs.Common.{◌≡◌, ℕ, Bor, List, length, Option, Some, None, refl, sym, ◌∙◌}
+use Rattle.std.proofs.Common.{◌≡◌, ℕ, Bor, List, [], length, get_or, Option, Some, None, refl, sym, ap, ◌∙◌}
 use Rattle.std.specs.Prelude.{slice_get}
 use Rattle.std.specs.Option.{option_copied}
 use Rattle.std.specs.Slice.{IsItemAt}
 use Rattle.std.proofs.lemmas.Bool.{ltb-true, ltb-false}
 use Rattle.std.proofs.lemmas.Option.{slice_get_read, slice_get_past}
+use Rattle.script_calls.specs.declared.call.Call.{Call}
+use Rattle.step_runner.proofs.NextCalls.{dormant_left}
 use Rattle.step_runner.proofs.PlaceLemmas.{next_at}
 use Rattle.step_runner.proofs.turn.next_call.Goals as goal
 
@@ -11,8 +13,13 @@ item_copied : {X : Type 0} (xs : List X) (i : ℕ) (r : Option (Bor X)) → IsIt
 item_copied xs i None is = sym (slice_get_past xs i (ltb-false i (length xs) (sym is.0)))
 item_copied xs i (Some x) is = sym (slice_get_read xs (length xs) i x.now refl (ltb-true i (length xs) (sym is.0)) is.1)
 
+pub returns-then-is_dormant : goal.returns-then-is_dormant
+returns-then-is_dormant c =
+    let given = get_or c.args.state.now.state.replies c.args.worker [] in
+    ap (λ (l : List Call). slice_get l 0) (sym (dormant_left c.args.workload.now c.args.worker given (sym c.is_dormant.ensures.dormant ∙ c.if-is_dormant.true)))
+
 pub returns : goal.returns
 returns c =
     item_copied c.script.result.now c.place.result c.get.result c.get.ensures.lookup
     ∙ (λ i. slice_get (c.script.ensures.script i) (c.place.ensures i))
-    ∙ next_at c.args.workload.now c.args.worker c.args.state.now c.requires.of
+    ∙ next_at c.args.workload.now c.args.worker c.args.state.now c.requires.of (sym c.is_dormant.ensures.dormant ∙ c.if-is_dormant.false)
