@@ -23,6 +23,7 @@ mod ObjectJournals
 mod OnceReturns
 mod PairLemmas
 mod PartLemmas
+mod PlainLemmas
 mod PoolReturns
 mod RangeReplies
 mod Returning
