@@ -21,7 +21,7 @@ nobody (true ∷ dormant) worker none = cc
 nobody (false ∷ dormant) zero none = refl
 nobody (false ∷ dormant) (suc worker) none = nobody dormant worker none
 
-empty_second : (xs ys : List Made) → xs ++ ys ≡ [] → ys ≡ []
+pub empty_second : (xs ys : List Made) → xs ++ ys ≡ [] → ys ≡ []
 empty_second [] ys is = is
 empty_second (x ∷ xs) ys is = cc
 
@@ -62,7 +62,7 @@ module _ (plan : Plan) (worker : ℕ) where
 
   -- where nobody waits, nothing closes a script
   module _ (none_waits : has_dormant plan ≡ false) where
-    nothing_closes : (items : List Made) (answer : CallAnswer (Unit {0})) → closing plan worker items answer → (items ≡ []) × (answer ≡ Done (Ok tt))
+    pub nothing_closes : (items : List Made) (answer : CallAnswer (Unit {0})) → closing plan worker items answer → (items ≡ []) × (answer ≡ Done (Ok tt))
     nothing_closes items answer closes = subst (λ (b : Bool). cond b (end_part (starts_number plan)) (returns tt) items answer) none_waits closes
 
     abbrev is_ok : CallAnswer (Unit {0}) → Bool
