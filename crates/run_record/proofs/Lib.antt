@@ -16,6 +16,7 @@ mod ListOrder
 mod Limits
 mod LockReturns
 mod LineLemmas
+mod LineParts
 mod ListLemmas
 mod NamedLemmas
 mod NumberLemmas

@@ -21,7 +21,8 @@ use Rattle.run_record.specs.Halts.{entered_on}
 use Rattle.run_record.specs.Record.{Record, ObjectEntry, stop, journal_of, list_of, shared_in, entries_in}
 use Rattle.run_record.proofs.CallLemmas.{AllEndAlike, of_call, of_opening, of_closing}
 use Rattle.run_record.proofs.HaltLemmas.{IsHaltBy, misuse_in, halted_has, unhalted_has, refusal_has}
-use Rattle.run_record.proofs.Having.{Has, Each, OfEntry, has_either, has_left, has_right, each_both, each_left, place_of, has_by, by_has, has_entered, some_object, has_in, get_at}
+use Rattle.run_record.proofs.Having.{Has, Each, OfEntry, has_either, has_left, has_right, each_both, place_of, has_by, by_has, has_entered, some_object, has_in, get_at}
+use Rattle.run_record.proofs.LineParts.{each_first, each_last}
 use Rattle.run_record.proofs.ListOrder.{entries_both}
 use Rattle.run_record.proofs.PartLemmas.{IsCalmDeed, IsCalm, IsRefusal}
 
@@ -61,30 +62,14 @@ module _ (alike : AllEndAlike) (plan : Plan) (worker : ℕ) where
   spelt_calm before [] are = tt
   spelt_calm before (call ∷ spelt) are = each_both IsCalm call.items (flat_map (λ call. call.items) spelt) (of_call alike plan worker before call.call call.items (Done (Ok call.reply)) are.0).0 (spelt_calm (before + length (shared_in call.items)) spelt are.1)
 
-  -- nothing up to the call that wasn't completed is a halt, nor before the script
-  first_calm : (ending : LineEnd) (spelt : List SpeltCall) (first : List Made) → OpensBy plan worker ending spelt first → Each IsCalm first
-  first_calm whole spelt first opens = (of_opening alike plan worker first (Done (Ok true)) opens).0
-  first_calm (misused k) spelt first opens = (of_opening alike plan worker first (Done (Ok true)) opens).0
-  first_calm (halted k) spelt first opens = (of_opening alike plan worker first (Done (Ok true)) opens).0
-  first_calm unfinished spelt first opens = (of_opening alike plan worker first (Done (Ok true)) opens).0
-  first_calm (stayed never) spelt first opens = (of_opening alike plan worker first (Done (Ok false)) opens.1).0
-  first_calm (stayed (stopped k)) spelt first opens = (of_opening alike plan worker first (Halted k) opens.1).0
-  first_calm (stayed waits) spelt first (none, (later, answer, some, opens)) = each_left IsCalm first later (of_opening alike plan worker (first ++ later) answer opens).0
-
-  last_calm : (before : ℕ) (ending : LineEnd) (rest : List Call) (last : List Made) → EndsBy plan worker before ending rest last → Each IsCalm last
-  last_calm before whole rest last ends = (of_closing alike plan worker last (Done (Ok tt)) ends.1).0
-  last_calm before (misused k) [] last closes = (of_closing alike plan worker last (Done (Err k)) closes).0
-  last_calm before (misused k) (call ∷ rest) last spelt = (of_call alike plan worker before call last (Done (Err k)) spelt).0
-  last_calm before (halted k) [] last closes = (of_closing alike plan worker last (Halted k) closes).0
-  last_calm before (halted k) (call ∷ rest) last spelt = (of_call alike plan worker before call last (Halted k) spelt).0
-  last_calm before unfinished [] last (later, answer, some, closes) = each_left IsCalm last later (of_closing alike plan worker (last ++ later) answer closes).0
-  last_calm before unfinished (call ∷ rest) last (later, answer, spelt) = each_left IsCalm last later (of_call alike plan worker before call (last ++ later) answer spelt).0
-  last_calm before (stayed stay) rest last none = subst (Each IsCalm) (sym none) tt
-
+  -- nothing up to the call that wasn't completed is a halt
   pub before_calm : (line : Line) → IsLineOf plan worker line → Each IsCalm (before_halts line)
   before_calm line is =
       let calls = flat_map (λ spelt. spelt.items) line.spelt in
-      each_both IsCalm line.first (calls ++ line.last) (first_calm line.ending line.spelt line.first is.opens) (each_both IsCalm calls line.last (spelt_calm 0 line.spelt is.calls) (last_calm _ line.ending line.rest line.last is.ends))
+      each_both IsCalm line.first (calls ++ line.last) (each_first IsCalm plan worker (λ items answer opens. (of_opening alike plan worker items answer opens).0) line.ending line.spelt line.first is.opens)
+      (each_both IsCalm calls line.last (spelt_calm 0 line.spelt is.calls)
+      (each_last IsCalm plan worker (λ items answer closes. (of_closing alike plan worker items answer closes).0) (length (shared_in calls)) line.ending line.rest line.last
+      (λ call behind is_next items answer spelt. (of_call alike plan worker (length (shared_in calls)) call items answer spelt).0) is.ends))
 
   -- a halt behind it is by the misuse in which the list ends
   behind_halt : (m : Misuse) (ending : LineEnd) (halts : List Made) → AreHalts ending halts → HasHalt m halts → ending ≡ misused m
