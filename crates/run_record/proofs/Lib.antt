@@ -16,6 +16,7 @@ mod ListOrder
 mod Limits
 mod LockReturns
 mod LineLemmas
+mod LineParts
 mod ListLemmas
 mod NamedLemmas
 mod NumberLemmas
@@ -23,6 +24,7 @@ mod ObjectJournals
 mod OnceReturns
 mod PairLemmas
 mod PartLemmas
+mod PlainLemmas
 mod PoolReturns
 mod RangeReplies
 mod Returning
