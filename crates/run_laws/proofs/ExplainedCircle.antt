@@ -50,6 +50,7 @@ module _ (wait_0 done_0 wait_1 done_1 : ℕ) where
 
   small : IsSmall plan journals made_first made_second
   small = record {
+    none = refl;
     objects = refl;
     quiet_first = ((refl, refl), ((refl, refl), tt));
     quiet_second = ((refl, refl), ((refl, refl), tt));
@@ -78,7 +79,7 @@ module _ (wait_0 done_0 wait_1 done_1 : ℕ) where
   pub explained : ByScript → Explains plan outcome (in_a_circle wait_0 done_0 wait_1 done_1)
   explained by_script = record {
     lines = whole_line first ∷ whole_line second ∷ [];
-    are = (by_script plan _ _ _ refl).1 (record { scripts = refl; lists = refl; replies = refl; each = are_whole plan first second spelt_first spelt_second });
+    are = (by_script plan _ _ _ refl).1 (record { scripts = refl; lists = refl; replies = refl; each = are_whole plan refl first second spelt_first spelt_second });
     lawful = is_record plan journals made_first made_second small;
     agrees = (both_ended first second, refl);
   }

@@ -87,6 +87,7 @@ cond_follows = (
 
 small : IsSmall plan (of_mutex ∷ of_cond ∷ []) made_first made_second
 small = record {
+  none = refl;
   objects = refl;
   quiet_first = ((refl, refl), ((refl, refl), ((refl, refl), ((refl, refl), ((refl, refl), tt)))));
   quiet_second = ((refl, refl), tt);
@@ -137,7 +138,7 @@ spelt_second = ((Done (Ok tt), (own_signal ∷ [], refl, ((0, refl), (refl, refl
 pub explained : ByScript → Explains plan outcome notified
 explained by_script = record {
   lines = whole_line first ∷ whole_line second ∷ [];
-  are = (by_script plan _ _ _ refl).1 (record { scripts = refl; lists = refl; replies = refl; each = are_whole plan first second spelt_first spelt_second });
+  are = (by_script plan _ _ _ refl).1 (record { scripts = refl; lists = refl; replies = refl; each = are_whole plan refl first second spelt_first spelt_second });
   lawful = is_record plan (of_mutex ∷ of_cond ∷ []) made_first made_second small;
   agrees = (both_ended first second, refl);
 }

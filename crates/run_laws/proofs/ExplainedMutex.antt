@@ -48,6 +48,7 @@ is_journal = (own, refl, ((refl, refl), ((refl, refl), ((refl, refl), tt))), qui
 
 small : IsSmall plan (journal ∷ []) (Entered 1 (locks 0) ∷ Entered 1 (unlocks 0) ∷ []) (Entered 1 (locks 1) ∷ [])
 small = record {
+  none = refl;
   objects = refl;
   quiet_first = ((refl, refl), ((refl, refl), tt));
   quiet_second = ((refl, refl), tt);
@@ -79,7 +80,7 @@ spelt_second = ((Done (Ok lock_reply.Done), (own_lock 1 ∷ [], refl, ((0, refl)
 pub explained : ByScript → Explains plan outcome one_after_the_other
 explained by_script = record {
   lines = whole_line first ∷ whole_line second ∷ [];
-  are = (by_script plan _ _ _ refl).1 (record { scripts = refl; lists = refl; replies = refl; each = are_whole plan first second spelt_first spelt_second });
+  are = (by_script plan _ _ _ refl).1 (record { scripts = refl; lists = refl; replies = refl; each = are_whole plan refl first second spelt_first spelt_second });
   lawful = is_record plan (journal ∷ []) (Entered 1 (locks 0) ∷ Entered 1 (unlocks 0) ∷ []) (Entered 1 (locks 1) ∷ []) small;
   agrees = (both_ended first second, refl);
 }

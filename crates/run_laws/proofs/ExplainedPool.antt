@@ -66,6 +66,7 @@ parts (suc place) part object at pool within = absurd (none-some object at)
 
 small : IsSmall plan journals made_first []
 small = record {
+  none = refl;
   objects = refl;
   quiet_first = ((refl, refl), ((refl, refl), tt));
   quiet_second = tt;
@@ -90,7 +91,7 @@ spelt_first = (
 pub explained : ByScript → Explains plan (outcome 5) (got 5)
 explained by_script = record {
   lines = whole_line first ∷ whole_line [] ∷ [];
-  are = (by_script plan _ _ _ refl).1 (record { scripts = refl; lists = refl; replies = refl; each = are_whole plan first [] spelt_first tt });
+  are = (by_script plan _ _ _ refl).1 (record { scripts = refl; lists = refl; replies = refl; each = are_whole plan refl first [] spelt_first tt });
   lawful = is_record plan journals made_first [] small;
   agrees = (both_ended first [], refl);
 }

@@ -62,6 +62,7 @@ is_journal = (own, refl, ((refl, refl), ((refl, refl), ((refl, refl), ((refl, re
 
 small : IsSmall plan (journal ∷ []) made_first made_second
 small = record {
+  none = refl;
   objects = refl;
   quiet_first = ((refl, refl), ((refl, refl), tt));
   quiet_second = ((refl, refl), ((refl, refl), tt));
@@ -100,7 +101,7 @@ spelt_second = (
 pub explained : ByScript → Explains plan outcome granted
 explained by_script = record {
   lines = whole_line first ∷ whole_line second ∷ [];
-  are = (by_script plan _ _ _ refl).1 (record { scripts = refl; lists = refl; replies = refl; each = are_whole plan first second spelt_first spelt_second });
+  are = (by_script plan _ _ _ refl).1 (record { scripts = refl; lists = refl; replies = refl; each = are_whole plan refl first second spelt_first spelt_second });
   lawful = is_record plan (journal ∷ []) made_first made_second small;
   agrees = (both_ended first second, refl);
 }
