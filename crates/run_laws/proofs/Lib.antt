@@ -1,6 +1,7 @@
 mod AddItems
 mod AddedUp
 mod AnyCall
+mod AroundScripts
 mod AsMany
 mod Backs
 mod ByCaller
@@ -11,6 +12,7 @@ mod DoneLines
 mod EachOf
 mod EdgesByAnswer
 mod EndsShown
+mod EntriesIn
 mod ExplainedCircle
 mod ExplainedCond
 mod ExplainedMap
