@@ -1,5 +1,5 @@
 -- What stands before a script and behind it: entries of Starts alone, found in one way, and none is a misuse.
-use Rattle.std.proofs.Common.{◌≡◌, ℕ, ◌+◌, ◌*◌, ◌<◌, ◌==◌, Bool, true, false, cond, List, [], ◌∷◌, ◌++◌, map, length, slice_get, Some, sym, ap, ◌∙◌, arith}
+use Rattle.std.proofs.Common.{◌≡◌, ℕ, ◌+◌, ◌*◌, ◌==◌, Bool, true, false, cond, List, [], ◌∷◌, ◌++◌, map, length, slice_get, Some, sym, ap, ◌∙◌, arith}
 use Rattle.std.specs.Prelude.{count_by, Ok, Err}
 use Rattle.std.proofs.lemmas.Bool.{true≢false, ne_eqb}
 use Rattle.std.proofs.lemmas.Option.{slice_get_within}
@@ -23,7 +23,7 @@ use Rattle.run_record.specs.declared.made.Made.{Made}
 use Rattle.run_record.specs.Lines.{SpeltCall, LineEnd, whole, misused, halted, unfinished, stayed, never, stopped, waits, OpensBy}
 use Rattle.run_record.specs.Objects.{is_pool, starts_number}
 use Rattle.run_record.specs.Parts.{returns, with_outcome}
-use Rattle.run_record.specs.Record.{ObjectEntry, object_number, entries_in}
+use Rattle.run_record.specs.Record.{object_number, entries_in}
 use Rattle.run_record.specs.StartsKind.{starts_part, was_started, wait_start_part, end_part, opening, closing}
 use Rattle.run_laws.specs.OneSpelling.{IsCertain}
 use Rattle.run_laws.proofs.Backs.{starts_back, is_starts_back}

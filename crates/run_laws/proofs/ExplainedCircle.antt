@@ -23,7 +23,7 @@ use Rattle.run_record.specs.WaitGroupKind.{IsWaitGroupJournal}
 use Rattle.run_laws.specs.Examples.{on, entry}
 use Rattle.run_laws.specs.ExamplesCircle.{plan, outcome, waits, is_done, in_a_circle}
 use Rattle.run_laws.proofs.OneOrder.{same_entry}
-use Rattle.run_laws.proofs.SmallRecords.{ByScript, IsSmall, is_record, no_parts, whole_line, are_whole, both_ended, quiet_edges}
+use Rattle.run_laws.proofs.SmallRecords.{ByScript, IsSmall, is_record, no_starts, no_parts, whole_line, are_whole, both_ended, quiet_edges}
 
 abbrev own_wait : ℕ → ℕ → Entry GroupEvent GroupReply
 own_wait worker time = record (entry worker Wait grouped.Done) { time = time }
@@ -50,13 +50,13 @@ module _ (wait_0 done_0 wait_1 done_1 : ℕ) where
 
   small : IsSmall plan journals made_first made_second
   small = record {
-    none = refl;
     objects = refl;
     quiet_first = ((refl, refl), ((refl, refl), tt));
     quiet_second = ((refl, refl), ((refl, refl), tt));
     two = ((refl, (refl, tt)), ((refl, (refl, tt)), tt));
     follow = (first_journal done_1 wait_0, (second_journal done_0 wait_1, tt));
     parts = no_parts plan journals made_first made_second (refl, (refl, tt));
+    starts = no_starts plan _ refl;
     once_first = (refl, (refl, (refl, tt)));
     once_second = (refl, (refl, (refl, tt)));
   }

@@ -36,7 +36,7 @@ use Rattle.run_record.specs.Record.{ObjectEntry, journal_of}
 use Rattle.run_laws.specs.Examples.{declared, on, entry}
 use Rattle.run_laws.specs.ExamplesCond.{plan, outcome, locks, unlocks, takes_a_ticket, leaves, signals, notified, notified_too_early}
 use Rattle.run_laws.proofs.Backs.{cond_back, is_cond_back}
-use Rattle.run_laws.proofs.SmallRecords.{ByScript, IsSmall, is_record, no_parts, whole_line, are_whole, both_ended, quiet_edges}
+use Rattle.run_laws.proofs.SmallRecords.{ByScript, IsSmall, is_record, no_starts, no_parts, whole_line, are_whole, both_ended, quiet_edges}
 use Rattle.run_laws.proofs.Unlifted.{follows_back}
 
 abbrev own_lock : Entry MutexEvent MutexReply
@@ -87,13 +87,13 @@ cond_follows = (
 
 small : IsSmall plan (of_mutex ∷ of_cond ∷ []) made_first made_second
 small = record {
-  none = refl;
   objects = refl;
   quiet_first = ((refl, refl), ((refl, refl), ((refl, refl), ((refl, refl), ((refl, refl), tt)))));
   quiet_second = ((refl, refl), tt);
   two = ((refl, (refl, (refl, tt))), ((refl, (refl, (refl, tt))), tt));
   follow = (mutex_follows, (cond_follows, tt));
   parts = no_parts plan (of_mutex ∷ of_cond ∷ []) made_first made_second (refl, (refl, tt));
+  starts = no_starts plan _ refl;
   once_first = (refl, (refl, (refl, tt)));
   once_second = (refl, (refl, (refl, tt)));
 }

@@ -28,7 +28,7 @@ use Rattle.run_record.specs.Record.{ObjectEntry, journal_of}
 use Rattle.run_laws.specs.Examples.{declared, on, entry}
 use Rattle.run_laws.specs.ExamplesMutex.{plan, done, outcome, locks, unlocks, one_after_the_other, held_by_two}
 use Rattle.run_laws.proofs.Backs.{mutex_back, is_mutex_back}
-use Rattle.run_laws.proofs.SmallRecords.{ByScript, IsSmall, is_record, no_parts, whole_line, are_whole, both_ended, quiet_edges}
+use Rattle.run_laws.proofs.SmallRecords.{ByScript, IsSmall, is_record, no_starts, no_parts, whole_line, are_whole, both_ended, quiet_edges}
 use Rattle.run_laws.proofs.Unlifted.{follows_back}
 
 abbrev own_lock : ℕ → Entry MutexEvent MutexReply
@@ -48,13 +48,13 @@ is_journal = (own, refl, ((refl, refl), ((refl, refl), ((refl, refl), tt))), qui
 
 small : IsSmall plan (journal ∷ []) (Entered 1 (locks 0) ∷ Entered 1 (unlocks 0) ∷ []) (Entered 1 (locks 1) ∷ [])
 small = record {
-  none = refl;
   objects = refl;
   quiet_first = ((refl, refl), ((refl, refl), tt));
   quiet_second = ((refl, refl), tt);
   two = ((refl, (refl, (refl, tt))), tt);
   follow = (is_journal, tt);
   parts = no_parts plan (journal ∷ []) (Entered 1 (locks 0) ∷ Entered 1 (unlocks 0) ∷ []) (Entered 1 (locks 1) ∷ []) (refl, tt);
+  starts = no_starts plan _ refl;
   once_first = (refl, (refl, tt));
   once_second = (refl, (refl, tt));
 }

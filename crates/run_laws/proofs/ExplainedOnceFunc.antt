@@ -26,7 +26,7 @@ use Rattle.run_record.specs.Record.{ObjectEntry, journal_of}
 use Rattle.run_laws.specs.Examples.{declared, on, entry}
 use Rattle.run_laws.specs.ExamplesOnceFunc.{plan, outcome, runs, ends, is_told, ran_once, ran_twice}
 use Rattle.run_laws.proofs.Backs.{once_func_back, is_once_func_back}
-use Rattle.run_laws.proofs.SmallRecords.{ByScript, IsSmall, is_record, no_parts, whole_line, are_whole, both_ended, quiet_edges}
+use Rattle.run_laws.proofs.SmallRecords.{ByScript, IsSmall, is_record, no_starts, no_parts, whole_line, are_whole, both_ended, quiet_edges}
 use Rattle.run_laws.proofs.Unlifted.{follows_back}
 
 abbrev own_run : Entry (OnceEvent ℕ) (OnceReply ℕ)
@@ -55,13 +55,13 @@ is_journal = (own, refl, ((refl, refl), ((refl, refl), ((refl, refl), tt))), qui
 
 small : IsSmall plan (journal ∷ []) made_first made_second
 small = record {
-  none = refl;
   objects = refl;
   quiet_first = ((refl, refl), ((refl, refl), tt));
   quiet_second = ((refl, refl), tt);
   two = ((refl, (refl, (refl, tt))), tt);
   follow = (is_journal, tt);
   parts = no_parts plan (journal ∷ []) made_first made_second (refl, tt);
+  starts = no_starts plan _ refl;
   once_first = (refl, (refl, tt));
   once_second = (refl, (refl, tt));
 }

@@ -31,7 +31,7 @@ use Rattle.run_record.specs.Record.{ObjectEntry, journal_of}
 use Rattle.run_laws.specs.Examples.{declared, on, entry}
 use Rattle.run_laws.specs.ExamplesPool.{plan, outcome, puts, takes, got}
 use Rattle.run_laws.proofs.Backs.{pool_back, is_pool_back}
-use Rattle.run_laws.proofs.SmallRecords.{ByScript, IsSmall, is_record, whole_line, are_whole, both_ended, quiet_edges}
+use Rattle.run_laws.proofs.SmallRecords.{ByScript, IsSmall, is_record, no_starts, whole_line, are_whole, both_ended, quiet_edges}
 use Rattle.run_laws.proofs.Unlifted.{follows_back}
 
 abbrev own_put : Entry (PoolEvent ℕ) (PoolReply ℕ)
@@ -66,13 +66,13 @@ parts (suc place) part object at pool within = absurd (none-some object at)
 
 small : IsSmall plan journals made_first []
 small = record {
-  none = refl;
   objects = refl;
   quiet_first = ((refl, refl), ((refl, refl), tt));
   quiet_second = tt;
   two = (tt, ((refl, (refl, tt)), (tt, tt)));
   follow = (refl, tt);
   parts = parts;
+  starts = no_starts plan _ refl;
   once_first = (refl, (refl, (refl, (refl, tt))));
   once_second = (refl, (refl, (refl, (refl, tt))));
 }

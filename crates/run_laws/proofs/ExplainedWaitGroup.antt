@@ -27,7 +27,7 @@ use Rattle.run_record.specs.WaitGroupKind.{IsWaitGroupJournal, group_start}
 use Rattle.run_laws.specs.Examples.{declared, on, entry}
 use Rattle.run_laws.specs.ExamplesWaitGroup.{plan, outcome, is_done, waits, returns_at_zero, returns_at_one}
 use Rattle.run_laws.proofs.Backs.{wait_group_back, is_wait_group_back}
-use Rattle.run_laws.proofs.SmallRecords.{ByScript, IsSmall, is_record, no_parts, whole_line, are_whole, both_ended, quiet_edges}
+use Rattle.run_laws.proofs.SmallRecords.{ByScript, IsSmall, is_record, no_starts, no_parts, whole_line, are_whole, both_ended, quiet_edges}
 use Rattle.run_laws.proofs.Unlifted.{follows_back}
 
 abbrev own_done : Entry GroupEvent GroupReply
@@ -53,13 +53,13 @@ is_journal = (own, refl, ((refl, refl), ((refl, refl), tt)), quiet_edges group_r
 
 small : IsSmall plan (journal ∷ []) made_first made_second
 small = record {
-  none = refl;
   objects = refl;
   quiet_first = ((refl, refl), tt);
   quiet_second = ((refl, refl), tt);
   two = ((refl, (refl, tt)), tt);
   follow = (is_journal, tt);
   parts = no_parts plan (journal ∷ []) made_first made_second (refl, tt);
+  starts = no_starts plan _ refl;
   once_first = (refl, (refl, tt));
   once_second = (refl, (refl, tt));
 }

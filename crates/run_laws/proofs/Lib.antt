@@ -22,6 +22,7 @@ mod ExplainedOnceFunc
 mod ExplainedOnceValue
 mod ExplainedPool
 mod ExplainedRwMutex
+mod ExplainedStarts
 mod ExplainedWaitGroup
 mod ExplainedWriter
 mod FrontNumbers

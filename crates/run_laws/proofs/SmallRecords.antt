@@ -27,7 +27,7 @@ use Rattle.run_record.specs.Parts.{returns}
 use Rattle.run_record.specs.PoolKind.{IsPartJournal}
 use Rattle.run_record.specs.Record.{Record, ObjectEntry, object_number, journal_of, list_of, calls_of, shared_in, entries_in, front_of}
 use Rattle.run_record.specs.Runs.{SpellScripts}
-use Rattle.run_record.specs.StartsKind.{wait_start_part, end_part}
+use Rattle.run_record.specs.StartsKind.{wait_start_part, end_part, IsStartsJournal}
 use Rattle.run_laws.specs.Examples.{none_known, record_of}
 
 -- the lines of a workload without tests are those of its scripts
@@ -130,22 +130,15 @@ two_in [] two n = tt
 two_in (j ∷ journals) two zero = two.0
 two_in (j ∷ journals) two (suc n) = two_in journals two.1 n
 
--- neither of the two workers waits to be started
-abbrev pub NoneWaits : Plan → Type 0
-NoneWaits plan = plan.dormant ≡ false ∷ false ∷ []
-
-pub none_waits : (plan : Plan) → NoneWaits plan → has_dormant plan ≡ false
-none_waits plan none = ap (λ (l : List Bool). list_any (λ waits. waits) l) none
-
 -- a small record, of which this has to be seen
 pub record IsSmall (plan : Plan) (journals : List (List ObjectEntry)) (first second : List Made) : Type 0 where
-  pub none : NoneWaits plan
   pub objects : length ([] ∷ journals) ≡ object_count plan
   pub quiet_first : AllByRecursion (IsQuiet (suc (length journals))) first
   pub quiet_second : AllByRecursion (IsQuiet (suc (length journals))) second
   pub two : AllByRecursion (AllByRecursion IsOfTwo) journals
   pub follow : EachFrom 0 (λ place object. IsJournalOf plan place object.kind (journal_of (record_of journals first second) (object_number place))) plan.objects
   pub parts : (place part : ℕ) (object : ObjectLine) → slice_get plan.objects place ≡ Some object → object.kind ≡ kinds.Pool → part < plan.workers → IsPartJournal (puts_at place plan.scripts) (journal_of (record_of journals first second) (first_part plan place + part))
+  pub starts : has_dormant plan ≡ true → IsStartsJournal plan.dormant (journal_of (record_of journals first second) (starts_number plan))
   pub once_first : Below (suc (length journals)) (λ object. entries_in object first ≡ by 0 (journal_of (record_of journals first second) object))
   pub once_second : Below (suc (length journals)) (λ object. entries_in object second ≡ by 1 (journal_of (record_of journals first second) object))
 
@@ -201,7 +194,7 @@ module _ (plan : Plan) (journals : List (List ObjectEntry)) (first second : List
     stops = λ k d within. absurd (omega (arith, within));
     journals = λ place object at. subst (λ (k : ℕ). IsJournalOf plan k object.kind (journal_of r (object_number k))) (omega arith) (from_at (λ place object. IsJournalOf plan place object.kind (journal_of r (object_number place))) 0 plan.objects small.follow place object at);
     parts = small.parts;
-    starts = λ waits. absurd (false≢true (sym (none_waits plan small.none) ∙ waits));
+    starts = small.starts;
     once = once;
     fronts = fronts;
   }
@@ -211,6 +204,17 @@ pub no_parts : (plan : Plan) (journals : List (List ObjectEntry)) (first second 
     → (place part : ℕ) (object : ObjectLine) → slice_get plan.objects place ≡ Some object → object.kind ≡ kinds.Pool → part < plan.workers → IsPartJournal (puts_at place plan.scripts) (journal_of (record_of journals first second) (first_part plan place + part))
 no_parts plan journals first second none place part object at pool within =
     absurd (false≢true (sym (each_at (λ (o : ObjectLine). is_pool o.kind ≡ false) plan.objects none place object at) ∙ ap is_pool pool))
+
+-- neither of the two workers waits to be started
+abbrev pub NoneWaits : Plan → Type 0
+NoneWaits plan = plan.dormant ≡ false ∷ false ∷ []
+
+none_waits : (plan : Plan) → NoneWaits plan → has_dormant plan ≡ false
+none_waits plan none = ap (λ (l : List Bool). list_any (λ waits. waits) l) none
+
+-- and then there is no journal of Starts
+pub no_starts : (plan : Plan) (journal : List ObjectEntry) → NoneWaits plan → has_dormant plan ≡ true → IsStartsJournal plan.dormant journal
+no_starts plan journal none waits = absurd (false≢true (sym (none_waits plan none) ∙ waits))
 
 -- a line whose calls were all completed
 abbrev pub whole_line : List SpeltCall → Line
