@@ -6,6 +6,8 @@ use Rattle.pool_core.specs.declared.pool_event.PoolEvent.{PoolEvent}
 use Rattle.pool_core.specs.declared.pool_event.PoolReply.{PoolReply}
 use Rattle.rw_core.specs.declared.event.RwEvent.{RwEvent}
 use Rattle.rw_core.specs.declared.reply.RwReply.{RwReply}
+use Rattle.starts_core.specs.declared.starts.StartEvent.{StartEvent}
+use Rattle.starts_core.specs.declared.starts.StartReply.{StartReply}
 use Rattle.sync_model.specs.declared.journal.Deed.{Deed}
 use Rattle.sync_model.specs.declared.journal.Deed.TheVariants.{Event, Refused, Halt}
 use Rattle.sync_types.specs.declared.misuse.Misuse.TheVariants.{UnlockOfUnlockedMutex}
@@ -108,3 +110,14 @@ pub is_pool_back : (deed : Deed (PoolEvent ℕ) (PoolReply ℕ)) → pool_back (
 is_pool_back (Event e r) = refl
 is_pool_back (Refused e misuse) = refl
 is_pool_back (Halt misuse) = refl
+
+abbrev pub starts_back : Deed ObjectEvent ObjectReply → Deed StartEvent StartReply
+starts_back (Event (event.Starts e) (reply.Starts r)) = Event e r
+starts_back (Refused (event.Starts e) misuse) = Refused e misuse
+starts_back (Halt misuse) = Halt misuse
+starts_back deed = Halt UnlockOfUnlockedMutex
+
+pub is_starts_back : (deed : Deed StartEvent StartReply) → starts_back (lifted_deed event.Starts reply.Starts deed) ≡ deed
+is_starts_back (Event e r) = refl
+is_starts_back (Refused e misuse) = refl
+is_starts_back (Halt misuse) = refl

@@ -43,7 +43,7 @@ use Rattle.run_record.specs.WaitGroupKind.{wait_group_call}
 use Rattle.run_record.specs.Waits.{IsOnGroup}
 use Rattle.run_laws.specs.Examples.{declared, on}
 use Rattle.run_laws.specs.ExamplesCircle.{plan}
-use Rattle.run_laws.proofs.DoneLines.{calls_in, items_in, list_at, list_past, script_at}
+use Rattle.run_laws.proofs.DoneLines.{Plainly, calls_in, items_in, list_at, list_past, script_at}
 use Rattle.run_laws.proofs.EachOf.{Each, each_at}
 use Rattle.run_laws.proofs.OneOrder.{same_object, same_entry, in_list, in_journal}
 
@@ -217,12 +217,12 @@ module _ (returning : Returning) (worker place other : ℕ) (object another : Ob
   of_spelt (s ∷ (t ∷ [])) is are = of_two (0 + length (shared_in s.items)) s t (ap (λ (l : List Call). get_or l 0 s.call) is) (ap (λ (l : List Call). get_or l 1 t.call) is) are.0 are.1.0
   of_spelt (s ∷ (t ∷ (u ∷ rest))) is are = absurd (omega (arith, ap (λ (l : List Call). length l) is))
 
-  pub of_worker : (r : Record) (left : Report) (explains : Explains plan (outcomes.Done left) r) → map script_of explains.lines ≡ plan.scripts → slice_get plan.scripts worker ≡ Some (waiting_for place ∷ done_with other ∷ [])
+  pub of_worker : (r : Record) (left : Report) (explains : Explains plan (outcomes.Done left) r) → Plainly plan → map script_of explains.lines ≡ plan.scripts → slice_get plan.scripts worker ≡ Some (waiting_for place ∷ done_with other ∷ [])
       → WaitsFirst (object_number place) (object_number other) (list_of r worker)
-  of_worker r left explains scripts script =
+  of_worker r left explains plainly scripts script =
       let found = mapped_at script_of explains.lines worker (waiting_for place ∷ done_with other ∷ []) (ap (λ (l : List (List Call)). slice_get l worker) scripts ∙ script) in
-      subst (λ (l : List Made). WaitsFirst (object_number place) (object_number other) l) (sym (list_at plan r left explains worker found.0 found.1))
-      (of_spelt found.0.spelt (sym (script_at plan r left explains worker found.0 found.1) ∙ found.2) (explains.are.each worker found.0 found.1).calls)
+      subst (λ (l : List Made). WaitsFirst (object_number place) (object_number other) l) (sym (list_at plan r left explains plainly worker found.0 found.1))
+      (of_spelt found.0.spelt (sym (script_at plan r left explains plainly worker found.0 found.1) ∙ found.2) (explains.are.each worker found.0 found.1).calls)
 
 module _ (behind : Behind) (r : Record) (order : InOneOrder r) (lawful : IsRecordOf plan r) (two : (worker : ℕ) (i : ℕ) (x : Made) → slice_get (list_of r worker) i ≡ Some x → (worker ≡ 0) ⊎ (worker ≡ 1)) where
   -- the wait returns behind the other one's `done`
@@ -272,15 +272,15 @@ module _ (behind : Behind) (r : Record) (order : InOneOrder r) (lawful : IsRecor
       let four = done_later 2 1 1 second in
       omega (arith, one, two, three, four)
 
-module _ (returning : Returning) (behind : Behind) (r : Record) (left : Report) (order : InOneOrder r) (explains : Explains plan (outcomes.Done left) r) (scripts : map script_of explains.lines ≡ plan.scripts) where
+module _ (returning : Returning) (behind : Behind) (r : Record) (left : Report) (order : InOneOrder r) (explains : Explains plan (outcomes.Done left) r) (plainly : Plainly plan) (scripts : map script_of explains.lines ≡ plan.scripts) where
   of_two_workers : (worker i : ℕ) (x : Made) → slice_get (list_of r worker) i ≡ Some x → (worker ≡ 0) ⊎ (worker ≡ 1)
   of_two_workers zero i x at = inl refl
   of_two_workers (suc zero) i x at = inr refl
   of_two_workers (suc (suc worker)) i x at =
       let none = mapped_past script_of explains.lines (suc (suc worker)) (ap (λ (l : List (List Call)). slice_get l (suc (suc worker))) scripts) in
-      absurd (none-some x (ap (λ (l : List Made). slice_get l i) (sym (list_past plan r left explains (suc (suc worker)) none)) ∙ at))
+      absurd (none-some x (ap (λ (l : List Made). slice_get l i) (sym (list_past plan r left explains plainly (suc (suc worker)) none)) ∙ at))
 
   pub never_done : ⊥
   never_done = no_circle behind r order explains.lawful of_two_workers
-      (of_worker returning 0 0 1 (declared 103 (kinds.WaitGroup 1)) (declared 104 (kinds.WaitGroup 1)) refl refl refl refl (λ items answer spelt. spelt) r left explains scripts refl)
-      (of_worker returning 1 1 0 (declared 104 (kinds.WaitGroup 1)) (declared 103 (kinds.WaitGroup 1)) refl refl refl refl (λ items answer spelt. spelt) r left explains scripts refl)
+      (of_worker returning 0 0 1 (declared 103 (kinds.WaitGroup 1)) (declared 104 (kinds.WaitGroup 1)) refl refl refl refl (λ items answer spelt. spelt) r left explains plainly scripts refl)
+      (of_worker returning 1 1 0 (declared 104 (kinds.WaitGroup 1)) (declared 103 (kinds.WaitGroup 1)) refl refl refl refl (λ items answer spelt. spelt) r left explains plainly scripts refl)

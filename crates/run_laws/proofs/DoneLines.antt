@@ -1,4 +1,4 @@
--- What the lists of a run that is done are: the items of each script's calls.
+-- What the lists of a run that is done are, where no worker waits to be started: the items of each script's calls.
 use Rattle.std.proofs.Common.{◌≡◌, ℕ, List, [], ◌∷◌, ◌++◌, map, length, Option, Some, None, slice_get, refl, sym, ap, ◌∙◌, subst, arith, append-nil}
 use Rattle.std.specs.Prelude.{sum_by}
 use Rattle.std.specs.List.{flat_map}
@@ -12,8 +12,9 @@ use Rattle.script_calls.specs.declared.outcome.Report.{Report}
 use Rattle.workload.specs.Plan.{Plan}
 use Rattle.run_record.specs.declared.made.Made.{Made}
 use Rattle.run_record.specs.declared.made.Made.TheVariants.{Shared, Entered}
-use Rattle.run_record.specs.Explains.{Explains}
-use Rattle.run_record.specs.Lines.{SpeltCall, Line, LineEnd, whole, script_of, items_of, AreHalts, EndsBy}
+use Rattle.run_record.specs.Explains.{IsAtEnd, Explains}
+use Rattle.run_record.specs.Lines.{SpeltCall, Line, LineEnd, whole, script_of, items_of, AreHalts, IsLineOf}
+use Rattle.run_record.specs.Plain.{EndsPlainly, IsPlainLine}
 use Rattle.run_record.specs.Record.{Record, list_of, shared_in, calls_of}
 use Rattle.run_laws.proofs.Orderly.{get_past, get_at}
 
@@ -37,13 +38,17 @@ calls_in spelt = map (λ call. call.call) spelt
 abbrev pub items_in : List SpeltCall → List Made
 items_in spelt = flat_map (λ call. call.items) spelt
 
-module _ (plan : Plan) (r : Record) (left : Report) (explains : Explains plan (Done left) r) where
+-- nothing stands before a script or behind it, and each is at its end, where nobody waits to be started
+abbrev pub Plainly : Plan → Type 0
+Plainly plan = (worker : ℕ) (line : Line) → IsLineOf plan worker line → IsPlainLine plan worker line × (IsAtEnd line.ending → line.ending ≡ whole)
+
+module _ (plan : Plan) (r : Record) (left : Report) (explains : Explains plan (Done left) r) (plainly : Plainly plan) where
   ended : (worker : ℕ) (line : Line) → slice_get explains.lines worker ≡ Some line → (line.rest ≡ []) × (line.last ++ line.halts ≡ [])
   ended worker line at =
-      let is : line.ending ≡ whole = subst (λ (l : Line). l.ending ≡ whole) (get_or_from_slice_get explains.lines worker line line at) (explains.agrees.0 worker line (slice_get_within explains.lines worker line at)) in
-      let of = explains.are.each worker line at in
-      let ends = subst (λ (e : LineEnd). EndsBy plan worker (length (shared_in (items_in line.spelt))) e line.rest line.last) is of.ends in
-      (ends.0, ap (λ (l : List Made). l ++ line.halts) ends.1 ∙ subst (λ (e : LineEnd). AreHalts e line.halts) is of.halts)
+      let of = plainly worker line (explains.are.each worker line at) in
+      let is : line.ending ≡ whole = of.1 (subst (λ (l : Line). IsAtEnd l.ending) (get_or_from_slice_get explains.lines worker line line at) (explains.agrees.0 worker line (slice_get_within explains.lines worker line at))) in
+      let ends = subst (λ (e : LineEnd). EndsPlainly plan worker (length (shared_in (items_in line.spelt))) e line.rest line.last) is of.0.ends in
+      (ends.0, ap (λ (l : List Made). l ++ line.halts) ends.1 ∙ subst (λ (e : LineEnd). AreHalts e line.halts) is of.0.halts)
 
   pub script_at : (worker : ℕ) (line : Line) → slice_get explains.lines worker ≡ Some line → script_of line ≡ calls_in line.spelt
   script_at worker line at = ap (λ (l : List Call). calls_in line.spelt ++ l) (ended worker line at).0 ∙ append-nil (calls_in line.spelt)
@@ -51,7 +56,8 @@ module _ (plan : Plan) (r : Record) (left : Report) (explains : Explains plan (D
   pub list_at : (worker : ℕ) (line : Line) → slice_get explains.lines worker ≡ Some line → list_of r worker ≡ items_in line.spelt
   list_at worker line at =
       let list : list_of r worker ≡ items_of line = get_at r.lists worker (items_of line) (ap (λ (l : List (List Made)). slice_get l worker) (sym explains.are.lists) ∙ (slice_get-map items_of explains.lines worker ∙ ap (option_map items_of) at)) in
-      list ∙ (ap (λ (l : List Made). items_in line.spelt ++ l) (ended worker line at).1 ∙ append-nil (items_in line.spelt))
+      list ∙ (ap (λ (l : List Made). l ++ (items_in line.spelt ++ (line.last ++ line.halts))) (plainly worker line (explains.are.each worker line at)).0.none
+      ∙ (ap (λ (l : List Made). items_in line.spelt ++ l) (ended worker line at).1 ∙ append-nil (items_in line.spelt)))
 
   pub list_past : (worker : ℕ) → slice_get explains.lines worker ≡ None → list_of r worker ≡ []
   list_past worker none = get_past r.lists worker (ap (λ (l : List (List Made)). slice_get l worker) (sym explains.are.lists) ∙ (slice_get-map items_of explains.lines worker ∙ ap (option_map items_of) none))

@@ -26,6 +26,11 @@ use Rattle.rw_core.specs.declared.reply.Resumption.TheVariants as rw_resumption
 use Rattle.rw_core.specs.declared.reply.Unlocking.TheVariants as rw_unlocking
 use Rattle.rw_core.specs.Edges as rw
 use Rattle.rw_core.specs.Standing as rw_standing
+use Rattle.starts_core.specs.declared.starts.StartEvent.{StartEvent}
+use Rattle.starts_core.specs.declared.starts.StartEvent.TheVariants as on_starts
+use Rattle.starts_core.specs.declared.starts.StartReply.{StartReply}
+use Rattle.starts_core.specs.declared.starts.StartReply.TheVariants as of_starts
+use Rattle.starts_core.specs.StartsEdges.{starts_releases, starts_acquires}
 use Rattle.wait_cores.specs.declared.group.GroupEvent.{GroupEvent}
 use Rattle.wait_cores.specs.declared.group.GroupEvent.TheVariants as on_group
 use Rattle.wait_cores.specs.declared.group.GroupReply.{GroupReply}
@@ -43,7 +48,7 @@ use Rattle.wait_cores.specs.declared.once.OnceReply.TheVariants as of_once
 use Rattle.wait_cores.specs.OnceEdges.{once_releases, once_acquires}
 use Rattle.wait_cores.specs.OnceMachine.{OnceState, callers_of, made, next}
 use Rattle.wait_cores.specs.OnceStanding as once
-use Rattle.run_laws.specs.DocumentedEdges.{CondWaitGoesOn, Dones, FunctionCompletes, Gets, GroupWaitReturns, Locks, Notifies, OnceCallReturns, Puts, RwLocks, RwUnlocks, Unlocks}
+use Rattle.run_laws.specs.DocumentedEdges.{CondWaitGoesOn, Dones, FunctionCompletes, Gets, GoStarts, GroupWaitReturns, Locks, Notifies, OnceCallReturns, Puts, RwLocks, RwUnlocks, StartedGoes, Unlocks, WorkerEnds}
 
 -- of a mutex
 unlocks : (e : MutexEvent) (r : MutexReply) → mutex_standing.is_answer e r ≡ true → mutex.releases r ≡ true → Unlocks e r
@@ -230,3 +235,29 @@ gets_take e r (Gets.of_the_victims part item) = refl
 
 pub of_a_part : (e : PoolEvent ℕ) (r : PoolReply ℕ) → pool.answers e r ≡ true → (pool_releases e r ≡ true ↔ Puts e r) × (pool_acquires e r ≡ true ↔ Gets e r)
 of_a_part e r answer = ((puts e r answer, puts_free e r), (gets e r answer, gets_take e r))
+
+-- of Starts
+starts : (e : StartEvent) (r : StartReply) → starts_releases e r ≡ true → GoStarts e r ⊎ WorkerEnds e r
+starts (on_starts.Start worker) of_starts.Done frees = inl (GoStarts.a_worker worker)
+starts on_starts.End of_starts.Done frees = inr WorkerEnds.made_its_calls
+starts (on_starts.Start worker) r frees = absurd (false≢true frees)
+starts on_starts.End r frees = absurd (false≢true frees)
+starts on_starts.Leave r frees = absurd (false≢true frees)
+
+starts_free : (e : StartEvent) (r : StartReply) → GoStarts e r → starts_releases e r ≡ true
+starts_free e r (GoStarts.a_worker worker) = refl
+
+ends_free : (e : StartEvent) (r : StartReply) → WorkerEnds e r → starts_releases e r ≡ true
+ends_free e r WorkerEnds.made_its_calls = refl
+
+goes : (e : StartEvent) (r : StartReply) → starts_acquires e r ≡ true → StartedGoes e r
+goes on_starts.Leave of_starts.Go takes = StartedGoes.was_started
+goes on_starts.Leave r takes = absurd (false≢true takes)
+goes (on_starts.Start worker) r takes = absurd (false≢true takes)
+goes on_starts.End r takes = absurd (false≢true takes)
+
+goes_take : (e : StartEvent) (r : StartReply) → StartedGoes e r → starts_acquires e r ≡ true
+goes_take e r StartedGoes.was_started = refl
+
+pub of_starts_edges : (e : StartEvent) (r : StartReply) → (starts_releases e r ≡ true ↔ GoStarts e r ⊎ WorkerEnds e r) × (starts_acquires e r ≡ true ↔ StartedGoes e r)
+of_starts_edges e r = ((starts e r, ⊎_elim (starts_free e r) (ends_free e r)), (goes e r, goes_take e r))

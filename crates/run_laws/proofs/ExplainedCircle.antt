@@ -23,7 +23,7 @@ use Rattle.run_record.specs.WaitGroupKind.{IsWaitGroupJournal}
 use Rattle.run_laws.specs.Examples.{on, entry}
 use Rattle.run_laws.specs.ExamplesCircle.{plan, outcome, waits, is_done, in_a_circle}
 use Rattle.run_laws.proofs.OneOrder.{same_entry}
-use Rattle.run_laws.proofs.SmallRecords.{ByScript, IsSmall, is_record, no_parts, whole_line, are_whole, both_ended, quiet_edges}
+use Rattle.run_laws.proofs.SmallRecords.{ByScript, IsSmall, is_record, no_starts, no_parts, whole_line, are_whole, both_ended, quiet_edges}
 
 abbrev own_wait : ℕ → ℕ → Entry GroupEvent GroupReply
 own_wait worker time = record (entry worker Wait grouped.Done) { time = time }
@@ -56,6 +56,7 @@ module _ (wait_0 done_0 wait_1 done_1 : ℕ) where
     two = ((refl, (refl, tt)), ((refl, (refl, tt)), tt));
     follow = (first_journal done_1 wait_0, (second_journal done_0 wait_1, tt));
     parts = no_parts plan journals made_first made_second (refl, (refl, tt));
+    starts = no_starts plan _ refl;
     once_first = (refl, (refl, (refl, tt)));
     once_second = (refl, (refl, (refl, tt)));
   }
@@ -78,7 +79,7 @@ module _ (wait_0 done_0 wait_1 done_1 : ℕ) where
   pub explained : ByScript → Explains plan outcome (in_a_circle wait_0 done_0 wait_1 done_1)
   explained by_script = record {
     lines = whole_line first ∷ whole_line second ∷ [];
-    are = (by_script plan _ _ _ refl).1 (record { scripts = refl; lists = refl; replies = refl; each = are_whole plan first second spelt_first spelt_second });
+    are = (by_script plan _ _ _ refl).1 (record { scripts = refl; lists = refl; replies = refl; each = are_whole plan refl first second spelt_first spelt_second });
     lawful = is_record plan journals made_first made_second small;
     agrees = (both_ended first second, refl);
   }

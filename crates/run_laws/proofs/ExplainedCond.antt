@@ -36,7 +36,7 @@ use Rattle.run_record.specs.Record.{ObjectEntry, journal_of}
 use Rattle.run_laws.specs.Examples.{declared, on, entry}
 use Rattle.run_laws.specs.ExamplesCond.{plan, outcome, locks, unlocks, takes_a_ticket, leaves, signals, notified, notified_too_early}
 use Rattle.run_laws.proofs.Backs.{cond_back, is_cond_back}
-use Rattle.run_laws.proofs.SmallRecords.{ByScript, IsSmall, is_record, no_parts, whole_line, are_whole, both_ended, quiet_edges}
+use Rattle.run_laws.proofs.SmallRecords.{ByScript, IsSmall, is_record, no_starts, no_parts, whole_line, are_whole, both_ended, quiet_edges}
 use Rattle.run_laws.proofs.Unlifted.{follows_back}
 
 abbrev own_lock : Entry MutexEvent MutexReply
@@ -93,6 +93,7 @@ small = record {
   two = ((refl, (refl, (refl, tt))), ((refl, (refl, (refl, tt))), tt));
   follow = (mutex_follows, (cond_follows, tt));
   parts = no_parts plan (of_mutex ∷ of_cond ∷ []) made_first made_second (refl, (refl, tt));
+  starts = no_starts plan _ refl;
   once_first = (refl, (refl, (refl, tt)));
   once_second = (refl, (refl, (refl, tt)));
 }
@@ -137,7 +138,7 @@ spelt_second = ((Done (Ok tt), (own_signal ∷ [], refl, ((0, refl), (refl, refl
 pub explained : ByScript → Explains plan outcome notified
 explained by_script = record {
   lines = whole_line first ∷ whole_line second ∷ [];
-  are = (by_script plan _ _ _ refl).1 (record { scripts = refl; lists = refl; replies = refl; each = are_whole plan first second spelt_first spelt_second });
+  are = (by_script plan _ _ _ refl).1 (record { scripts = refl; lists = refl; replies = refl; each = are_whole plan refl first second spelt_first spelt_second });
   lawful = is_record plan (of_mutex ∷ of_cond ∷ []) made_first made_second small;
   agrees = (both_ended first second, refl);
 }

@@ -119,6 +119,7 @@ is_record = record {
   stops = λ k d within. absurd (omega (arith, within));
   journals = journals;
   parts = parts;
+  starts = λ waits. absurd (false≢true waits);
   once = once;
   fronts = record {
     rises = λ worker i j x y before at_x at_y. absurd (omega (arith, before, first_there worker i x at_x, first_there worker j y at_y));
@@ -154,7 +155,7 @@ ends = sym (ap (λ (es : List (List ℕ × ℕ)). ends_by es) one_name)
 pub explained : ByScript → Explains plan (outcome 5) (found 5)
 explained by_script = record {
   lines = whole_line first ∷ whole_line second ∷ [];
-  are = (by_script plan _ _ _ refl).1 (record { scripts = refl; lists = refl; replies = refl; each = are_whole plan first second spelt_first spelt_second });
+  are = (by_script plan _ _ _ refl).1 (record { scripts = refl; lists = refl; replies = refl; each = are_whole plan refl first second spelt_first spelt_second });
   lawful = is_record;
   agrees = (both_ended first second, ends);
 }

@@ -28,7 +28,7 @@ use Rattle.run_record.specs.Record.{ObjectEntry, journal_of}
 use Rattle.run_laws.specs.Examples.{declared, on, entry}
 use Rattle.run_laws.specs.ExamplesMutex.{plan, done, outcome, locks, unlocks, one_after_the_other, held_by_two}
 use Rattle.run_laws.proofs.Backs.{mutex_back, is_mutex_back}
-use Rattle.run_laws.proofs.SmallRecords.{ByScript, IsSmall, is_record, no_parts, whole_line, are_whole, both_ended, quiet_edges}
+use Rattle.run_laws.proofs.SmallRecords.{ByScript, IsSmall, is_record, no_starts, no_parts, whole_line, are_whole, both_ended, quiet_edges}
 use Rattle.run_laws.proofs.Unlifted.{follows_back}
 
 abbrev own_lock : ℕ → Entry MutexEvent MutexReply
@@ -54,6 +54,7 @@ small = record {
   two = ((refl, (refl, (refl, tt))), tt);
   follow = (is_journal, tt);
   parts = no_parts plan (journal ∷ []) (Entered 1 (locks 0) ∷ Entered 1 (unlocks 0) ∷ []) (Entered 1 (locks 1) ∷ []) (refl, tt);
+  starts = no_starts plan _ refl;
   once_first = (refl, (refl, tt));
   once_second = (refl, (refl, tt));
 }
@@ -79,7 +80,7 @@ spelt_second = ((Done (Ok lock_reply.Done), (own_lock 1 ∷ [], refl, ((0, refl)
 pub explained : ByScript → Explains plan outcome one_after_the_other
 explained by_script = record {
   lines = whole_line first ∷ whole_line second ∷ [];
-  are = (by_script plan _ _ _ refl).1 (record { scripts = refl; lists = refl; replies = refl; each = are_whole plan first second spelt_first spelt_second });
+  are = (by_script plan _ _ _ refl).1 (record { scripts = refl; lists = refl; replies = refl; each = are_whole plan refl first second spelt_first spelt_second });
   lawful = is_record plan (journal ∷ []) (Entered 1 (locks 0) ∷ Entered 1 (unlocks 0) ∷ []) (Entered 1 (locks 1) ∷ []) small;
   agrees = (both_ended first second, refl);
 }

@@ -165,6 +165,7 @@ is_record = record {
   stops = λ k d within. absurd (omega (arith, within));
   journals = λ place object at. subst (λ (k : ℕ). IsJournalOf plan k object.kind (journal_of ran_once (object_number k))) (omega arith) (from_at (λ place object. IsJournalOf plan place object.kind (journal_of ran_once (object_number place))) 0 plan.objects follow place object at);
   parts = λ place part object at pool within. absurd (false≢true (sym (each_at (λ (o : ObjectLine). is_pool o.kind ≡ false) plan.objects (refl, (refl, tt)) place object at) ∙ ap is_pool pool));
+  starts = λ waits. absurd (false≢true waits);
   once = once;
   fronts = record {
     rises = behind;
@@ -205,7 +206,7 @@ spelt_second = ((Entered 2 is_told ∷ [], [], Done (Ok (Already (pos 3))), refl
 pub explained : ByScript → Explains plan outcome ran_once
 explained by_script = record {
   lines = whole_line first ∷ whole_line second ∷ [];
-  are = (by_script plan _ _ _ refl).1 (record { scripts = refl; lists = refl; replies = refl; each = are_whole plan first second spelt_first spelt_second });
+  are = (by_script plan _ _ _ refl).1 (record { scripts = refl; lists = refl; replies = refl; each = are_whole plan refl first second spelt_first spelt_second });
   lawful = is_record;
   agrees = (both_ended first second, refl);
 }

@@ -26,7 +26,7 @@ use Rattle.run_record.specs.Record.{ObjectEntry, journal_of}
 use Rattle.run_laws.specs.Examples.{declared, on, entry}
 use Rattle.run_laws.specs.ExamplesOnceFunc.{plan, outcome, runs, ends, is_told, ran_once, ran_twice}
 use Rattle.run_laws.proofs.Backs.{once_func_back, is_once_func_back}
-use Rattle.run_laws.proofs.SmallRecords.{ByScript, IsSmall, is_record, no_parts, whole_line, are_whole, both_ended, quiet_edges}
+use Rattle.run_laws.proofs.SmallRecords.{ByScript, IsSmall, is_record, no_starts, no_parts, whole_line, are_whole, both_ended, quiet_edges}
 use Rattle.run_laws.proofs.Unlifted.{follows_back}
 
 abbrev own_run : Entry (OnceEvent ℕ) (OnceReply ℕ)
@@ -61,6 +61,7 @@ small = record {
   two = ((refl, (refl, (refl, tt))), tt);
   follow = (is_journal, tt);
   parts = no_parts plan (journal ∷ []) made_first made_second (refl, tt);
+  starts = no_starts plan _ refl;
   once_first = (refl, (refl, tt));
   once_second = (refl, (refl, tt));
 }
@@ -93,7 +94,7 @@ spelt_second = ((Entered 1 (is_told 1) ∷ [], [], Done (Ok (Already 7)), refl, 
 pub explained : ByScript → Explains plan outcome ran_once
 explained by_script = record {
   lines = whole_line first ∷ whole_line second ∷ [];
-  are = (by_script plan _ _ _ refl).1 (record { scripts = refl; lists = refl; replies = refl; each = are_whole plan first second spelt_first spelt_second });
+  are = (by_script plan _ _ _ refl).1 (record { scripts = refl; lists = refl; replies = refl; each = are_whole plan refl first second spelt_first spelt_second });
   lawful = is_record plan (journal ∷ []) made_first made_second small;
   agrees = (both_ended first second, refl);
 }

@@ -31,7 +31,7 @@ use Rattle.run_record.specs.Record.{ObjectEntry, journal_of}
 use Rattle.run_laws.specs.Examples.{declared, on, entry}
 use Rattle.run_laws.specs.ExamplesPool.{plan, outcome, puts, takes, got}
 use Rattle.run_laws.proofs.Backs.{pool_back, is_pool_back}
-use Rattle.run_laws.proofs.SmallRecords.{ByScript, IsSmall, is_record, whole_line, are_whole, both_ended, quiet_edges}
+use Rattle.run_laws.proofs.SmallRecords.{ByScript, IsSmall, is_record, no_starts, whole_line, are_whole, both_ended, quiet_edges}
 use Rattle.run_laws.proofs.Unlifted.{follows_back}
 
 abbrev own_put : Entry (PoolEvent ℕ) (PoolReply ℕ)
@@ -72,6 +72,7 @@ small = record {
   two = (tt, ((refl, (refl, tt)), (tt, tt)));
   follow = (refl, tt);
   parts = parts;
+  starts = no_starts plan _ refl;
   once_first = (refl, (refl, (refl, (refl, tt))));
   once_second = (refl, (refl, (refl, (refl, tt))));
 }
@@ -90,7 +91,7 @@ spelt_first = (
 pub explained : ByScript → Explains plan (outcome 5) (got 5)
 explained by_script = record {
   lines = whole_line first ∷ whole_line [] ∷ [];
-  are = (by_script plan _ _ _ refl).1 (record { scripts = refl; lists = refl; replies = refl; each = are_whole plan first [] spelt_first tt });
+  are = (by_script plan _ _ _ refl).1 (record { scripts = refl; lists = refl; replies = refl; each = are_whole plan refl first [] spelt_first tt });
   lawful = is_record plan journals made_first [] small;
   agrees = (both_ended first [], refl);
 }

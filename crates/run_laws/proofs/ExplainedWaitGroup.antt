@@ -27,7 +27,7 @@ use Rattle.run_record.specs.WaitGroupKind.{IsWaitGroupJournal, group_start}
 use Rattle.run_laws.specs.Examples.{declared, on, entry}
 use Rattle.run_laws.specs.ExamplesWaitGroup.{plan, outcome, is_done, waits, returns_at_zero, returns_at_one}
 use Rattle.run_laws.proofs.Backs.{wait_group_back, is_wait_group_back}
-use Rattle.run_laws.proofs.SmallRecords.{ByScript, IsSmall, is_record, no_parts, whole_line, are_whole, both_ended, quiet_edges}
+use Rattle.run_laws.proofs.SmallRecords.{ByScript, IsSmall, is_record, no_starts, no_parts, whole_line, are_whole, both_ended, quiet_edges}
 use Rattle.run_laws.proofs.Unlifted.{follows_back}
 
 abbrev own_done : Entry GroupEvent GroupReply
@@ -59,6 +59,7 @@ small = record {
   two = ((refl, (refl, tt)), tt);
   follow = (is_journal, tt);
   parts = no_parts plan (journal ∷ []) made_first made_second (refl, tt);
+  starts = no_starts plan _ refl;
   once_first = (refl, (refl, tt));
   once_second = (refl, (refl, tt));
 }
@@ -81,7 +82,7 @@ spelt_second = ((Done (Ok tt), (own_wait ∷ [], refl, ((0, refl), (refl, refl))
 pub explained : ByScript → Explains plan outcome returns_at_zero
 explained by_script = record {
   lines = whole_line first ∷ whole_line second ∷ [];
-  are = (by_script plan _ _ _ refl).1 (record { scripts = refl; lists = refl; replies = refl; each = are_whole plan first second spelt_first spelt_second });
+  are = (by_script plan _ _ _ refl).1 (record { scripts = refl; lists = refl; replies = refl; each = are_whole plan refl first second spelt_first spelt_second });
   lawful = is_record plan (journal ∷ []) made_first made_second small;
   agrees = (both_ended first second, refl);
 }

@@ -32,7 +32,7 @@ use Rattle.run_record.specs.Record.{Record, calls_of, shared_in}
 use Rattle.run_laws.specs.Locks.{has_plain_objects}
 use Rattle.workload.specs.OwnMaps.{map_of}
 use Rattle.run_laws.specs.Owners.{IsOwnedBy}
-use Rattle.run_laws.proofs.DoneLines.{calls_in, items_in, script_at, calls_at, calls_past, line_at}
+use Rattle.run_laws.proofs.DoneLines.{Plainly, calls_in, items_in, script_at, calls_at, calls_past, line_at}
 use Rattle.run_laws.proofs.MapItems.{IsKeyed, script_along, script_off, item_off}
 use Rattle.run_laws.proofs.NamedKeys.{key_of_call}
 use Rattle.run_laws.proofs.Numbered.{number_within}
@@ -48,7 +48,7 @@ pub record Facts (r : Record) : Type 0 where
   pub order : (c i j : ℕ) (x y : Item) → i < j → slice_get (calls_of r c) i ≡ Some x → slice_get (calls_of r c) j ≡ Some y → x.place ≤ y.place
   pub only : (held : FinMap nat_cmp ℕ) (call : MapCall ℕ) → is_map_entry call held ≡ false → map_after call held ≡ held
 
-module _ (plan : Plan) (r : Record) (left : Report) (explains : Explains plan (Done left) r) (script_lines : map script_of explains.lines ≡ plan.scripts) (facts : Facts r) (plain : has_plain_objects plan ≡ true)
+module _ (plan : Plan) (r : Record) (left : Report) (explains : Explains plan (Done left) r) (plainly : Plainly plan) (script_lines : map script_of explains.lines ≡ plan.scripts) (facts : Facts r) (plain : has_plain_objects plan ≡ true)
     (named : (name : List ℕ) → list_any (bytes_eq name) (all_keys plan.scripts) ≡ true → key_name (keys_in plan.scripts) (key_number (keys_in plan.scripts) name) ≡ name)
     (place : ℕ) (object : ObjectLine) (at : slice_get plan.objects place ≡ Some object) (kind : object.kind ≡ kinds.Map) where
   pub scripted : (worker : ℕ) (line : Line) → slice_get explains.lines worker ≡ Some line → slice_get plan.scripts worker ≡ Some (script_of line)
@@ -80,15 +80,15 @@ module _ (plan : Plan) (r : Record) (left : Report) (explains : Explains plan (D
   module _ (key : List ℕ) (known : list_any (bytes_eq key) (all_keys plan.scripts) ≡ true) where
     keyed : (worker : ℕ) (line : Line) → slice_get explains.lines worker ≡ Some line → (i : ℕ) (call : Call) → slice_get (calls_in line.spelt) i ≡ Some call → IsKeyed plan place object at kind key known named call
     keyed worker line is i call in_script op name asks has = key_of_call plan.scripts worker i (script_of line) call op name (scripted worker line is)
-        (ap (λ (l : List Call). slice_get l i) (script_at plan r left explains worker line is) ∙ in_script) asks has
+        (ap (λ (l : List Call). slice_get l i) (script_at plan r left explains plainly worker line is) ∙ in_script) asks has
 
     module _ (worker : ℕ) (owned : IsOwnedBy plan place worker key) where
       others_off : (k : ℕ) (e : SharedEntry) → slice_get r.history k ≡ Some e → e.caller ≢ worker → is_on_key (map_number plan.objects place) (key_number (keys_in plan.scripts) key) e.call ≡ false
       others_off k e is apart =
           let made = facts.call k e is in
-          let line = line_at plan r left explains e.caller made.0 made.1 made.2 in
-          let listed : slice_get (shared_in (items_in line.0.spelt)) made.0 ≡ Some made.1 = ap (λ (l : List Item). slice_get l made.0) (sym (calls_at plan r left explains e.caller line.0 line.1)) ∙ made.2 in
-          let unused = ap (list_any _) (sym (script_at plan r left explains e.caller line.0 line.1)) ∙ owned e.caller (script_of line.0) (scripted e.caller line.0 line.1) apart in
+          let line = line_at plan r left explains plainly e.caller made.0 made.1 made.2 in
+          let listed : slice_get (shared_in (items_in line.0.spelt)) made.0 ≡ Some made.1 = ap (λ (l : List Item). slice_get l made.0) (sym (calls_at plan r left explains plainly e.caller line.0 line.1)) ∙ made.2 in
+          let unused = ap (list_any _) (sym (script_at plan r left explains plainly e.caller line.0 line.1)) ∙ owned e.caller (script_of line.0) (scripted e.caller line.0 line.1) apart in
           let off = script_off plan place object at kind key known named plain e.caller 0 line.0.spelt (explains.are.each e.caller line.0 line.1).calls (keyed e.caller line.0 line.1) unused in
           subst (λ (call : SharedCall). is_on_key (map_number plan.objects place) (key_number (keys_in plan.scripts) key) call ≡ false) made.5
           (item_off plan place object at kind key known named plain e.caller (shared_in (items_in line.0.spelt)) made.0 made.1 off listed)
@@ -108,14 +108,14 @@ module _ (plan : Plan) (r : Record) (left : Report) (explains : Explains plan (D
         by_line : (o : Option Line) → slice_get explains.lines worker ≡ o → value_at (contents_after (contents_of plan) r.history) (map_number plan.objects place) (key_number (keys_in plan.scripts) key) ≡ get (map_of place script) key
         by_line None none = absurd (none-some script (sym (ap (option_map script_of) none) ∙ (sym (slice_get-map script_of explains.lines worker) ∙ (ap (λ (l : List (List Call)). slice_get l worker) script_lines ∙ is))))
         by_line (Some line) some =
-            let calls : calls_in line.spelt ≡ script = sym (script_at plan r left explains worker line some) ∙ same_Some (script_of line) script (sym (scripted worker line some) ∙ is) in
-            along_own ∙ (ap (key_along (map_number plan.objects place) (key_number (keys_in plan.scripts) key) None) (calls_at plan r left explains worker line some)
+            let calls : calls_in line.spelt ≡ script = sym (script_at plan r left explains plainly worker line some) ∙ same_Some (script_of line) script (sym (scripted worker line some) ∙ is) in
+            along_own ∙ (ap (key_along (map_number plan.objects place) (key_number (keys_in plan.scripts) key) None) (calls_at plan r left explains plainly worker line some)
             ∙ (ap (λ (v : Option ℕ). key_along (map_number plan.objects place) (key_number (keys_in plan.scripts) key) v (shared_in (items_in line.spelt))) (sym (get-empty (slice_cmp nat_cmp) key))
             ∙ (script_along plan place object at kind key known named plain worker 0 line.spelt empty (explains.are.each worker line some).calls (keyed worker line some) ∙ ap (λ (l : List Call). get (map_of place l) key) calls)))
 
       -- and none, where there is no such worker
       pub no_value : slice_get plan.scripts worker ≡ None → value_at (contents_after (contents_of plan) r.history) (map_number plan.objects place) (key_number (keys_in plan.scripts) key) ≡ None
-      no_value is = along_own ∙ ap (key_along (map_number plan.objects place) (key_number (keys_in plan.scripts) key) None) (calls_past plan r left explains worker (by_line (slice_get explains.lines worker) refl)) where
+      no_value is = along_own ∙ ap (key_along (map_number plan.objects place) (key_number (keys_in plan.scripts) key) None) (calls_past plan r left explains plainly worker (by_line (slice_get explains.lines worker) refl)) where
         by_line : (o : Option Line) → slice_get explains.lines worker ≡ o → slice_get explains.lines worker ≡ None
         by_line None none = none
         by_line (Some line) some = absurd (none-some (script_of line) (sym is ∙ scripted worker line some))

@@ -1,6 +1,7 @@
 mod AddItems
 mod AddedUp
 mod AnyCall
+mod AroundScripts
 mod AsMany
 mod Backs
 mod ByCaller
@@ -11,6 +12,7 @@ mod DoneLines
 mod EachOf
 mod EdgesByAnswer
 mod EndsShown
+mod EntriesIn
 mod ExplainedCircle
 mod ExplainedCond
 mod ExplainedMap
@@ -20,6 +22,7 @@ mod ExplainedOnceFunc
 mod ExplainedOnceValue
 mod ExplainedPool
 mod ExplainedRwMutex
+mod ExplainedStarts
 mod ExplainedWaitGroup
 mod ExplainedWriter
 mod FrontNumbers

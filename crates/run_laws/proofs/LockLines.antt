@@ -10,7 +10,6 @@ use Rattle.script_calls.specs.declared.call.Operation.{Operation}
 use Rattle.script_calls.specs.declared.call.Operation.TheVariants as operations
 use Rattle.script_calls.specs.declared.call.Reply.{Reply}
 use Rattle.script_calls.specs.declared.call.Reply.TheVariants as replies
-use Rattle.sync_model.specs.declared.item.Item.{Item}
 use Rattle.sync_model.specs.declared.journal.Deed.{Deed}
 use Rattle.sync_model.specs.declared.journal.Deed.TheVariants.{Event, Refused, Halt}
 use Rattle.sync_model.specs.declared.journal.Entry.{Entry}
@@ -36,26 +35,16 @@ use Rattle.run_record.specs.declared.entered.ObjectReply.{ObjectReply}
 use Rattle.run_record.specs.declared.entered.ObjectReply.TheVariants as reply
 use Rattle.run_record.specs.declared.made.Made.{Made}
 use Rattle.run_record.specs.declared.made.Made.TheVariants.{Shared, Entered}
-use Rattle.run_record.specs.Lines.{SpeltCall, LineEnd, whole, misused, halted, unfinished, Line, script_of, items_of, IsHalt, AreHalts, AreSpelt, EndsBy, IsLineOf}
+use Rattle.run_record.specs.Lines.{SpeltCall, LineEnd, whole, misused, halted, unfinished, stayed, Line, script_of, items_of, IsHalt, AreHalts, AreSpelt, EndsBy, IsLineOf}
 use Rattle.run_record.specs.MutexKind.{mutex_call, mutex_stage}
+use Rattle.run_record.specs.Objects.{starts_number}
 use Rattle.run_record.specs.Parts.{lifted, lifted_deed, with_outcome}
 use Rattle.run_record.specs.Record.{ObjectEntry, object_number, shared_in, entries_in}
 use Rattle.run_laws.specs.Locks.{has_plain_objects, is_in_turn, keeps_lock}
+use Rattle.run_laws.proofs.AroundScripts.{starts_apart, closing_elsewhere, begun_elsewhere, first_elsewhere}
+use Rattle.run_laws.proofs.EntriesIn.{entries_append, entries_shared, entries_elsewhere}
 use Rattle.run_laws.proofs.Holders.{IsHolders, OnlyHolder, holds_after}
 use Rattle.run_laws.proofs.PlainCalls.{PlainCall, on_map, on_range, on_atomic, on_test, on_mutex, IsOfKind, plain_call}
-
--- the entries of an object in lists
-pub entries_append : (object : ℕ) (xs ys : List Made) → entries_in object (xs ++ ys) ≡ entries_in object xs ++ entries_in object ys
-entries_append object [] ys = refl
-entries_append object (Shared x ∷ xs) ys = entries_append object xs ys
-entries_append object (Entered other entry ∷ xs) ys = ap (λ (es : List ObjectEntry). cond (other == object) (entry ∷ es) es) (entries_append object xs ys) ∙ chosen (other == object) where
-  chosen : (b : Bool) → cond b (entry ∷ (entries_in object xs ++ entries_in object ys)) (entries_in object xs ++ entries_in object ys) ≡ cond b (entry ∷ entries_in object xs) (entries_in object xs) ++ entries_in object ys
-  chosen true = refl
-  chosen false = refl
-
-pub entries_shared : (object : ℕ) (made : List Item) → entries_in object (map Shared made) ≡ []
-entries_shared object [] = refl
-entries_shared object (x ∷ made) = entries_shared object made
 
 -- the entries of a call on a mutex
 abbrev pub entered : ℕ → List (Entry MutexEvent MutexReply) → List Made
@@ -72,12 +61,6 @@ entries_here object other [] same = refl
 entries_here object other (x ∷ entries) same =
     let rest = entries_in object (entered other entries) in
     ap (λ (b : Bool). cond b (lifted event.Mutex reply.Mutex x ∷ rest) rest) same ∙ ap (λ (es : List ObjectEntry). lifted event.Mutex reply.Mutex x ∷ es) (entries_here object other entries same)
-
-entries_elsewhere : (object other : ℕ) (entries : List (Entry MutexEvent MutexReply)) → (other == object) ≡ false → entries_in object (entered other entries) ≡ []
-entries_elsewhere object other [] apart = refl
-entries_elsewhere object other (x ∷ entries) apart =
-    let rest = entries_in object (entered other entries) in
-    ap (λ (b : Bool). cond b (lifted event.Mutex reply.Mutex x ∷ rest) rest) apart ∙ entries_elsewhere object other entries apart
 
 only_first : (held : Bool) (xs ys : List ObjectEntry) → OnlyHolder held (xs ++ ys) → OnlyHolder held xs
 only_first held [] ys only = tt
@@ -224,7 +207,7 @@ module _ (plan : Plan) (plain : has_plain_objects plan ≡ true) (place : ℕ) (
         subst (λ (es : List ObjectEntry). OnlyHolder held (es ++ rest)) (sym (ap (λ (l : List Made). entries_in (object_number place) l) is ∙ entries_here (object_number place) (object_number call.object) entries (eq-eqb (object_number call.object) (object_number place) (ap object_number (eqb-true call.object place same)))))
         (by_turn held m entries given rest (subst (λ (o : Operation). is_in_turn held o ≡ true) asks turn) spelt (of_given (not held) behind))
     by_object false apart turn behind =
-        subst (λ (es : List ObjectEntry). OnlyHolder held (es ++ rest)) (sym (ap (λ (l : List Made). entries_in (object_number place) l) is ∙ entries_elsewhere (object_number place) (object_number call.object) entries (ne_eqb (object_number call.object) (object_number place) (λ same. eqb-false call.object place apart (omega (arith, same))))))
+        subst (λ (es : List ObjectEntry). OnlyHolder held (es ++ rest)) (sym (ap (λ (l : List Made). entries_in (object_number place) l) is ∙ entries_elsewhere event.Mutex reply.Mutex (object_number place) (object_number call.object) entries (ne_eqb (object_number call.object) (object_number place) (λ same. eqb-false call.object place apart (omega (arith, same))))))
         (only given (of_given held behind))
 
   untimely : (held : Bool) (call : Call) (operation : Operation) → call.operation ≡ operation → ((h : Bool) → is_in_turn h operation ≡ false) → is_in_turn held call.operation ≡ false
@@ -266,26 +249,36 @@ module _ (plan : Plan) (plain : has_plain_objects plan ≡ true) (place : ℕ) (
     unhalted : (halts : List Made) → halts ≡ [] → (held : Bool) → OnlyHolder held (entries_in (object_number place) halts)
     unhalted halts none held = subst (λ (l : List Made). OnlyHolder held (entries_in (object_number place) l)) (sym none) tt
 
+    apart : (starts_number plan == object_number place) ≡ false
+    apart = starts_apart plan place mutex.0 mutex.1
+
+    closed : (last halts : List Made) (held : Bool) → entries_in (object_number place) last ≡ [] → OnlyHolder held (entries_in (object_number place) halts) → OnlyHolder held (entries_in (object_number place) last ++ entries_in (object_number place) halts)
+    closed last halts held none only = subst (λ (es : List ObjectEntry). OnlyHolder held (es ++ entries_in (object_number place) halts)) (sym none) only
+
     last_turns : (before : ℕ) (ending : LineEnd) (left : List Call) (last halts : List Made) → EndsBy plan worker before ending left last → AreHalts ending halts → (held : Bool) → keeps_lock place held left ≡ true
         → OnlyHolder held (entries_in (object_number place) last ++ entries_in (object_number place) halts)
-    last_turns before whole left last halts ends none held keeps = subst (λ (l : List Made). OnlyHolder held (entries_in (object_number place) l ++ entries_in (object_number place) halts)) (sym ends.1) (unhalted halts none held)
-    last_turns before (misused m) [] last halts ends all held keeps = absurd ends
+    last_turns before whole left last halts ends none held keeps = closed last halts held (closing_elsewhere plan (object_number place) apart worker last (Done (Ok tt)) ends.1) (unhalted halts none held)
+    last_turns before (misused m) [] last halts ends all held keeps = closed last halts held (closing_elsewhere plan (object_number place) apart worker last (Done (Err m)) ends) (halts_only (object_number place) m halts all held)
     last_turns before (misused m) (call ∷ left) last halts spelt all held keeps =
         call_turns held call last (Done (Err m)) (entries_in (object_number place) halts) (plain_call plan plain worker before call last (Done (Err m)) spelt) (keeps_on place held call left keeps).0 (halts_only (object_number place) m halts all)
-    last_turns before (halted m) [] last halts ends none held keeps = absurd ends
+    last_turns before (halted m) [] last halts ends none held keeps = closed last halts held (closing_elsewhere plan (object_number place) apart worker last (Halted m) ends) (unhalted halts none held)
     last_turns before (halted m) (call ∷ left) last halts spelt none held keeps =
         call_turns held call last (Halted m) (entries_in (object_number place) halts) (plain_call plan plain worker before call last (Halted m) spelt) (keeps_on place held call left keeps).0 (unhalted halts none)
-    last_turns before unfinished [] last halts ends none held keeps = absurd ends
+    last_turns before unfinished [] last halts (later, answer, some, ends) none held keeps =
+        closed last halts held (begun_elsewhere plan (object_number place) apart last later (closing_elsewhere plan (object_number place) apart worker (last ++ later) answer ends)) (unhalted halts none held)
+    last_turns before (stayed stay) left last halts ends none held keeps = closed last halts held (ap (λ (l : List Made). entries_in (object_number place) l) ends) (unhalted halts none held)
     last_turns before unfinished (call ∷ left) last halts (later, answer, spelt) none held keeps =
         subst (λ (l : List Made). OnlyHolder held (entries_in (object_number place) last ++ entries_in (object_number place) l)) (sym none)
         (subst (λ (es : List ObjectEntry). OnlyHolder held es) (sym (append-nil (entries_in (object_number place) last)))
         (only_first held (entries_in (object_number place) last) (entries_in (object_number place) later) (subst (λ (es : List ObjectEntry). OnlyHolder held es) (entries_append (object_number place) last later)
         (only_first held (entries_in (object_number place) (last ++ later)) [] (call_turns held call (last ++ later) answer [] (plain_call plan plain worker before call (last ++ later) answer spelt) (keeps_on place held call left keeps).0 (behind_nothing answer (next_held place held call)))))))
 
-    -- the whole list
+    -- the whole list; what stands around the script has no entry of the mutex
     pub line_turns : (line : Line) → IsLineOf plan worker line → keeps_lock place false (script_of line) ≡ true → OnlyHolder false (entries_in (object_number place) (items_of line))
     line_turns line is keeps =
-        let first = flat_map (λ spelt. spelt.items) line.spelt in
+        let calls = flat_map (λ spelt. spelt.items) line.spelt in
         subst (λ (es : List ObjectEntry). OnlyHolder false es)
-        (sym (entries_append (object_number place) first (line.last ++ line.halts) ∙ ap (λ (es : List ObjectEntry). entries_in (object_number place) first ++ es) (entries_append (object_number place) line.last line.halts)))
+        (sym (entries_append (object_number place) line.first (calls ++ (line.last ++ line.halts))
+        ∙ (ap (λ (es : List ObjectEntry). es ++ entries_in (object_number place) (calls ++ (line.last ++ line.halts))) (first_elsewhere plan (object_number place) apart worker line.ending line.spelt line.first is.opens)
+        ∙ (entries_append (object_number place) calls (line.last ++ line.halts) ∙ ap (λ (es : List ObjectEntry). entries_in (object_number place) calls ++ es) (entries_append (object_number place) line.last line.halts)))))
         (spelt_turns 0 line.spelt line.rest false (entries_in (object_number place) line.last ++ entries_in (object_number place) line.halts) is.calls keeps (λ h left. last_turns _ line.ending line.rest line.last line.halts is.ends is.halts h left))

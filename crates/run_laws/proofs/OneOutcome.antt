@@ -1,6 +1,6 @@
 -- That a record explains one outcome, where each call is spelt in one way.
-use Rattle.std.proofs.Common.{◌≡◌, ◌≢◌, ℕ, zero, suc, ◌+◌, Bool, true, false, List, [], ◌∷◌, ◌++◌, map, drop, length, get_or, Some, slice_get, refl, sym, ap, ◌∙◌, subst, append_assoc, arith}
-use Rattle.std.specs.Prelude.{All, Ok, Err}
+use Rattle.std.proofs.Common.{◌≡◌, ◌≢◌, ◌⊎◌, inl, inr, ℕ, zero, suc, ◌+◌, Bool, true, false, List, [], ◌∷◌, ◌++◌, map, drop, length, get_or, Some, slice_get, refl, sym, ap, ◌∙◌, subst, append_assoc, arith}
+use Rattle.std.specs.Prelude.{Ok, Err}
 use Rattle.std.specs.List.{flat_map}
 use Rattle.std.proofs.lemmas.Bool.{false≢true}
 use Rattle.std.proofs.lemmas.Option.{none-some, same_Some}
@@ -21,9 +21,12 @@ use Rattle.run_record.specs.declared.made.Made.{Made}
 use Rattle.run_record.specs.declared.made.Made.TheVariants.{Shared, Entered}
 use Rattle.run_record.specs.Calls.{SpellsCall}
 use Rattle.run_record.specs.Explains.{AreLines, IsRecordOf, HasEnded, Explains}
-use Rattle.run_record.specs.Lines.{SpeltCall, LineEnd, whole, misused, halted, unfinished, Line, calls_made, items_of, replies_of, AreSpelt, EndsBy, IsLineOf}
+use Rattle.run_record.specs.Lines.{SpeltCall, LineEnd, whole, misused, halted, unfinished, stayed, never, stopped, waits, Line, calls_made, items_of, replies_of, AreSpelt, EndsBy, OpensBy, IsLineOf}
 use Rattle.run_record.specs.Record.{Record, stop, journal_of, shared_in}
+use Rattle.run_record.specs.StartsKind.{opening}
 use Rattle.run_laws.specs.OneSpelling.{IsCertain}
+use Rattle.run_laws.proofs.AroundScripts.{opening_certain}
+use Rattle.run_laws.proofs.LineEnds.{has_ended}
 use Rattle.run_laws.proofs.OneWay.{tail_of}
 use Rattle.run_laws.proofs.LinesOneWay.{AreCertain, reply_in, same_spelt}
 
@@ -49,21 +52,41 @@ dropped_at zero i xs x at = (i, at)
 dropped_at (suc n) i [] x at = absurd (none-some x at)
 dropped_at (suc n) i (y ∷ xs) x at = let there = dropped_at n i xs x at in (suc there.0, there.1)
 
+-- the worker came to its script, and has ended there
+abbrev HasCalled : LineEnd → Type 0
+HasCalled whole = Unit {0}
+HasCalled (misused misuse) = Unit {0}
+HasCalled (halted misuse) = Unit {0}
+HasCalled unfinished = ⊥
+HasCalled (stayed stay) = ⊥
+
+-- what a worker was told before its script that has ended so
+abbrev told : LineEnd → CallAnswer Bool
+told (stayed never) = Done (Ok false)
+told (stayed (stopped misuse)) = Halted misuse
+told ending = Done (Ok true)
+
+abbrev is_told_to_come : CallAnswer Bool → Bool
+is_told_to_come (Done (Ok comes)) = comes
+is_told_to_come (Done (Err misuse)) = false
+is_told_to_come (Halted misuse) = false
+
 module _ (plan : Plan) (worker : ℕ) where
   -- a list that ends before a call doesn't begin with that call
   cut_short : (before : ℕ) (o : SpeltCall) (calls left : List Call) (last halts behind : List Made) (ends : LineEnd) → IsCertain (SpellsCall plan worker before o.call) → left ≡ o.call ∷ calls
-      → SpellsCall plan worker before o.call o.items (Done (Ok o.reply)) → EndsBy plan worker before ends left last → HasEnded ends → last ++ halts ≡ o.items ++ behind → ⊥
+      → SpellsCall plan worker before o.call o.items (Done (Ok o.reply)) → EndsBy plan worker before ends left last → HasCalled ends → last ++ halts ≡ o.items ++ behind → ⊥
   cut_short before o calls left last halts behind ends certain is spells cut ended same = by_end ends (subst (λ (l : List Call). EndsBy plan worker before ends l last) is cut) ended where
-    by_end : (ends : LineEnd) → EndsBy plan worker before ends (o.call ∷ calls) last → HasEnded ends → ⊥
+    by_end : (ends : LineEnd) → EndsBy plan worker before ends (o.call ∷ calls) last → HasCalled ends → ⊥
     by_end whole cut ended = absurd (omega (arith, ap (λ (l : List Call). length l) cut.0))
     by_end (misused misuse) cut ended = false≢true (ap is_reply (certain last o.items halts behind (Done (Err misuse)) (Done (Ok o.reply)) cut spells same).2)
     by_end (halted misuse) cut ended = false≢true (ap is_reply (certain last o.items halts behind (Halted misuse) (Done (Ok o.reply)) cut spells same).2)
     by_end unfinished cut ended = ended
+    by_end (stayed stay) cut ended = ended
 
   one_line : (before : ℕ) (spelt other : List SpeltCall) (script left right : List Call) (last halts more behind : List Made) (ends given : LineEnd) → AreCertain plan worker script
       → RunsAlong script (made_in spelt) left → RunsAlong script (made_in other) right → AreSpelt plan worker before spelt → AreSpelt plan worker before other
       → EndsBy plan worker (before + length (shared_in (items_in spelt))) ends left last → EndsBy plan worker (before + length (shared_in (items_in other))) given right more
-      → HasEnded ends → HasEnded given → items_in spelt ++ (last ++ halts) ≡ items_in other ++ (more ++ behind) → spelt ≡ other
+      → HasCalled ends → HasCalled given → items_in spelt ++ (last ++ halts) ≡ items_in other ++ (more ++ behind) → spelt ≡ other
   one_line before [] [] script left right last halts more behind ends given certain run other_run a b at_end at_other ended also same = refl
   one_line before [] (o ∷ other) script left right last halts more behind ends given certain run (rest, is, later) a b at_end at_other ended also same =
       absurd (cut_short before o rest left last halts (items_in other ++ (more ++ behind)) ends
@@ -95,11 +118,42 @@ module _ (plan : Plan) (worker : ℕ) where
       (subst (λ (l : List Made). AreSpelt plan worker (before + length (shared_in l)) other) (sym one.0) b.1) first_end other_end ended also one.1 in
       ap (λ (x : SpeltCall). x ∷ spelt) first ∙ ap (λ (xs : List SpeltCall). o ∷ xs) later
 
+  opened : (ending : LineEnd) (spelt : List SpeltCall) (first : List Made) → HasEnded ending → OpensBy plan worker ending spelt first → opening plan worker first (told ending)
+  opened whole spelt first ended opens = opens
+  opened (misused misuse) spelt first ended opens = opens
+  opened (halted misuse) spelt first ended opens = opens
+  opened unfinished spelt first ended opens = absurd ended
+  opened (stayed never) spelt first ended opens = opens.1
+  opened (stayed (stopped misuse)) spelt first ended opens = opens.1
+  opened (stayed waits) spelt first ended opens = absurd ended
+
+  -- it made calls where it was told to come, and else none
+  came : (ending : LineEnd) (spelt : List SpeltCall) (first : List Made) → HasEnded ending → OpensBy plan worker ending spelt first
+      → (HasCalled ending × (is_told_to_come (told ending) ≡ true)) ⊎ ((spelt ≡ []) × (is_told_to_come (told ending) ≡ false))
+  came whole spelt first ended opens = inl (tt, refl)
+  came (misused misuse) spelt first ended opens = inl (tt, refl)
+  came (halted misuse) spelt first ended opens = inl (tt, refl)
+  came unfinished spelt first ended opens = absurd ended
+  came (stayed never) spelt first ended opens = inr (opens.0, refl)
+  came (stayed (stopped misuse)) spelt first ended opens = inr (opens.0, refl)
+  came (stayed waits) spelt first ended opens = absurd ended
+
   pub same_line : (script : List Call) (line other : Line) → AreCertain plan worker script → RunsAlong script (calls_made line) line.rest → RunsAlong script (calls_made other) other.rest → items_of line ≡ items_of other
       → IsLineOf plan worker line → IsLineOf plan worker other → HasEnded line.ending → HasEnded other.ending → line.spelt ≡ other.spelt
   same_line script line other certain run other_run items is also ended given =
-      one_line 0 line.spelt other.spelt script line.rest other.rest line.last line.halts other.last other.halts line.ending other.ending certain run other_run is.calls also.calls
-      (subst (λ (n : ℕ). EndsBy plan worker n line.ending line.rest line.last) (omega arith) is.ends) (subst (λ (n : ℕ). EndsBy plan worker n other.ending other.rest other.last) (omega arith) also.ends) ended given items
+      by_both (came line.ending line.spelt line.first ended is.opens) (came other.ending other.spelt other.first given also.opens) where
+        one : (line.first ≡ other.first) × (items_in line.spelt ++ (line.last ++ line.halts) ≡ items_in other.spelt ++ (other.last ++ other.halts)) × (told line.ending ≡ told other.ending)
+        one = opening_certain plan worker line.first other.first (items_in line.spelt ++ (line.last ++ line.halts)) (items_in other.spelt ++ (other.last ++ other.halts)) (told line.ending) (told other.ending)
+            (opened line.ending line.spelt line.first ended is.opens) (opened other.ending other.spelt other.first given also.opens) items
+
+        by_both : (HasCalled line.ending × (is_told_to_come (told line.ending) ≡ true)) ⊎ ((line.spelt ≡ []) × (is_told_to_come (told line.ending) ≡ false))
+            → (HasCalled other.ending × (is_told_to_come (told other.ending) ≡ true)) ⊎ ((other.spelt ≡ []) × (is_told_to_come (told other.ending) ≡ false)) → line.spelt ≡ other.spelt
+        by_both (inl (called, comes)) (inl (calls, also_comes)) =
+            one_line 0 line.spelt other.spelt script line.rest other.rest line.last line.halts other.last other.halts line.ending other.ending certain run other_run is.calls also.calls
+            (subst (λ (n : ℕ). EndsBy plan worker n line.ending line.rest line.last) (omega arith) is.ends) (subst (λ (n : ℕ). EndsBy plan worker n other.ending other.rest other.last) (omega arith) also.ends) called calls one.1
+        by_both (inr (none, stays)) (inr (none_either, also_stays)) = none ∙ sym none_either
+        by_both (inl (called, comes)) (inr (none, stays)) = absurd (false≢true (sym stays ∙ (sym (ap is_told_to_come one.2) ∙ comes)))
+        by_both (inr (none, stays)) (inl (calls, comes)) = absurd (false≢true (sym stays ∙ (ap is_told_to_come one.2 ∙ comes)))
 
 module _ (plan : Plan) where
   -- lines of the workers that are numbered so
@@ -126,12 +180,6 @@ module _ (plan : Plan) where
       ∙ ap (λ (rs : List (List (Reply ℕ))). replies_of o ∷ rs) (same_replies (λ i. worker (suc i)) scripts lines others (omega (arith, count)) (λ i line at. runs (suc i) line at) (λ i line at. also (suc i) line at)
       (ap (λ (s : List (List Made)). tail_of s) items) (λ i line at. a (suc i) line at) (λ i line at. b (suc i) line at) (λ i line at. certain (suc i) line at))
 
-module _ {A : Type 0} where
-  all_at : (P : A → Type 0) (xs : List A) → All P xs → (i : ℕ) (x : A) → slice_get xs i ≡ Some x → P x
-  all_at P [] all i x at = absurd (none-some x at)
-  all_at P (y ∷ xs) all zero x at = subst P (same_Some y x at) (all 0 y (omega arith))
-  all_at P (y ∷ xs) all (suc i) x at = all_at P xs (λ k d less. all (suc k) d (omega (arith, less))) i x at
-
 abbrev report_of : List (List (Reply ℕ)) → List End → Report
 report_of replies ends = record { replies = replies; ends = ends }
 
@@ -142,15 +190,10 @@ module _ (plan : Plan) (r : Record) (certain : (worker : ℕ) (script : List Cal
     (done : (left : Report) (explains : Explains plan (DoneWith left) r) (worker : ℕ) (line : Line) (misuse : Misuse) → slice_get explains.lines worker ≡ Some line → line.ending ≢ misused misuse)
     (met : (lines : List Line) (outcome : Outcome) (misuse : Misuse) → AreLines plan r outcome lines → IsRecordOf plan r → halt_of (journal_of r stop) ≡ Some misuse
     → (worker : ℕ) × (line : Line) × (slice_get lines worker ≡ Some line) × (line.ending ≡ misused misuse)) where
-  has_ended : (outcome : Outcome) (explains : Explains plan outcome r) (i : ℕ) (line : Line) → slice_get explains.lines i ≡ Some line → HasEnded line.ending
-  has_ended (DoneWith left) explains i line at = subst HasEnded (sym (all_at (λ (l : Line). l.ending ≡ whole) explains.lines explains.agrees.0 i line at)) tt
-  has_ended (Misused left misuse) explains i line at = all_at (λ (l : Line). HasEnded l.ending) explains.lines explains.agrees.0 i line at
-  has_ended (Deadlocked left) explains i line at = absurd explains.agrees
-
   replies_same : (one other : Outcome) (first : Explains plan one r) (second : Explains plan other r) → (left_by one).replies ≡ (left_by other).replies
   replies_same one other first second =
       sym first.are.replies ∙ (same_replies plan (λ i. i) plan.scripts first.lines second.lines first.are.count first.are.runs second.are.runs (first.are.lists ∙ sym second.are.lists)
-      (λ i line at. (first.are.each i line at, has_ended one first i line at)) (λ i line at. (second.are.each i line at, has_ended other second i line at)) certain ∙ second.are.replies)
+      (λ i line at. (first.are.each i line at, has_ended plan r first.lines one first.agrees i line at)) (λ i line at. (second.are.each i line at, has_ended plan r second.lines other second.agrees i line at)) certain ∙ second.are.replies)
 
   not_both : (left right : Report) (misuse : Misuse) → Explains plan (DoneWith left) r → Explains plan (Misused right misuse) r → ⊥
   not_both left right misuse first second =

@@ -1,5 +1,5 @@
 -- Where all workers keep to their locks, nobody meets a misuse.
-use Rattle.std.proofs.Common.{◌≡◌, ◌⊎◌, inl, inr, ℕ, zero, suc, ◌<◌, ◌≤◌, ◌==◌, Bool, true, false, cond, List, [], ◌∷◌, ◌++◌, length, get_or, Some, None, slice_get, refl, sym, ap, ◌∙◌, subst}
+use Rattle.std.proofs.Common.{◌≡◌, ◌⊎◌, inl, inr, ℕ, zero, suc, ◌<◌, ◌≤◌, ◌==◌, Bool, true, false, cond, List, [], ◌∷◌, ◌++◌, length, get_or, Some, None, slice_get, refl, sym, ap, ◌∙◌, subst, append_assoc}
 use Rattle.std.specs.Prelude.{Ok, Err}
 use Rattle.std.specs.List.{flat_map}
 use Rattle.std.specs.Option.{option_map}
@@ -41,9 +41,11 @@ use Rattle.run_record.specs.Parts.{lifted_deed, with_outcome}
 use Rattle.run_record.specs.Record.{Record, ObjectEntry, object_number, journal_of, list_of, shared_in, entries_in}
 use Rattle.run_record.specs.Runs.{SpellScripts}
 use Rattle.run_laws.specs.Locks.{keeps_lock, KeepsItsLocks}
+use Rattle.run_laws.proofs.AroundScripts.{closing_is_no_misuse}
+use Rattle.run_laws.proofs.EntriesIn.{entries_append}
 use Rattle.run_laws.proofs.EachOf.{each_left, each_right}
 use Rattle.run_laws.proofs.Holders.{IsUse, AreUses, OnlyHolder, is_misuse, journal_uses}
-use Rattle.run_laws.proofs.LockLines.{entries_append, entries_here, of_kind, deeds, line_turns}
+use Rattle.run_laws.proofs.LockLines.{entries_here, of_kind, deeds, line_turns}
 use Rattle.run_laws.proofs.PlainCalls.{PlainCall, on_map, on_range, on_atomic, on_test, on_mutex, IsOfKind, list_all_at, plain_call}
 
 -- whether an answer is a misuse
@@ -145,6 +147,9 @@ module _ (keeps_valid : (s : State) (c : ℕ) (e : MutexEvent) → IsValid s →
 
   pub nobody_misuses : (worker : ℕ) (line : Line) (m : Misuse) → slice_get lines worker ≡ Some line → line.ending ≡ misused m → ⊥
   nobody_misuses worker line m at ending = ended line.rest line.last (subst (λ (e : LineEnd). EndsBy plan worker (length (shared_in (flat_map (λ spelt. spelt.items) line.spelt))) e line.rest line.last) ending (are.each worker line at).ends) (list_at worker line at) where
-    ended : (left : List Call) (last : List Made) → EndsBy plan worker (length (shared_in (flat_map (λ spelt. spelt.items) line.spelt))) (misused m) left last → list_of r worker ≡ flat_map (λ spelt. spelt.items) line.spelt ++ (last ++ line.halts) → ⊥
-    ended [] last ends is = ends
-    ended (call ∷ left) last spelt is = no_call worker line at call last (flat_map (λ spelt. spelt.items) line.spelt) line.halts m is (plain_call plan keeps.plain worker _ call last (Done (Err m)) spelt)
+    calls : List Made
+    calls = flat_map (λ spelt. spelt.items) line.spelt
+
+    ended : (left : List Call) (last : List Made) → EndsBy plan worker (length (shared_in calls)) (misused m) left last → list_of r worker ≡ line.first ++ (calls ++ (last ++ line.halts)) → ⊥
+    ended [] last ends is = closing_is_no_misuse plan worker last m ends
+    ended (call ∷ left) last spelt is = no_call worker line at call last (line.first ++ calls) line.halts m (is ∙ sym (append_assoc line.first calls (last ++ line.halts))) (plain_call plan keeps.plain worker _ call last (Done (Err m)) spelt)

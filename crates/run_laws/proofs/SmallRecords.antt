@@ -1,9 +1,10 @@
 -- What makes a small record one that explains a run: of two workers whose journals' entries know of no call on a map or an atomic.
 use Rattle.std.proofs.Common.{◌≡◌, ◌↔◌, ℕ, zero, suc, ◌+◌, ◌<◌, ◌≤◌, ◌==◌, Bool, true, false, cond, List, [], ◌∷◌, length, take, Option, Some, slice_get, slice_index, refl, sym, ap, ◌∙◌, subst, arith}
-use Rattle.std.specs.Prelude.{nat_lt, unwrap_or, get_or, All}
-use Rattle.std.specs.List.{AllByRecursion}
+use Rattle.std.specs.Prelude.{nat_lt, unwrap_or, get_or, All, Ok}
+use Rattle.std.specs.List.{AllByRecursion, list_any}
 use Rattle.std.proofs.lemmas.Bool.{false≢true, eqb-true, eqb-false, ltb-true, ltb-false}
 use Rattle.std.proofs.lemmas.Option.{none-some}
+use Rattle.sync_model.specs.declared.answer.Answer.TheVariants.{Done}
 use Rattle.sync_model.specs.declared.item.Item.{Item}
 use Rattle.sync_model.specs.declared.journal.Entry.{Entry}
 use Rattle.sync_model.specs.Front.{AtLeast}
@@ -14,17 +15,19 @@ use Rattle.script_calls.specs.declared.outcome.Outcome.{Outcome}
 use Rattle.script_calls.specs.Runs.{have_tests}
 use Rattle.workload.specs.declared.object.ObjectKind.TheVariants as kinds
 use Rattle.workload.specs.declared.object.ObjectLine.{ObjectLine}
-use Rattle.workload.specs.Plan.{Plan}
+use Rattle.workload.specs.Plan.{Plan, has_dormant, is_dormant}
 use Rattle.workload.specs.Puts.{puts_at}
 use Rattle.run_record.specs.declared.made.Made.{Made}
 use Rattle.run_record.specs.declared.made.Made.TheVariants.{Shared, Entered}
 use Rattle.run_record.specs.Calls.{IsJournalOf}
-use Rattle.run_record.specs.Explains.{KeepsFronts, IsRecordOf, AreLines}
+use Rattle.run_record.specs.Explains.{KeepsFronts, IsRecordOf, IsAtEnd, AreLines}
 use Rattle.run_record.specs.Lines.{SpeltCall, Line, whole, AreSpelt, IsLineOf}
-use Rattle.run_record.specs.Objects.{contents_of, first_part, object_count, is_pool}
+use Rattle.run_record.specs.Objects.{contents_of, first_part, object_count, is_pool, starts_number}
+use Rattle.run_record.specs.Parts.{returns}
 use Rattle.run_record.specs.PoolKind.{IsPartJournal}
 use Rattle.run_record.specs.Record.{Record, ObjectEntry, object_number, journal_of, list_of, calls_of, shared_in, entries_in, front_of}
 use Rattle.run_record.specs.Runs.{SpellScripts}
+use Rattle.run_record.specs.StartsKind.{wait_start_part, end_part, IsStartsJournal}
 use Rattle.run_laws.specs.Examples.{none_known, record_of}
 
 -- the lines of a workload without tests are those of its scripts
@@ -135,6 +138,7 @@ pub record IsSmall (plan : Plan) (journals : List (List ObjectEntry)) (first sec
   pub two : AllByRecursion (AllByRecursion IsOfTwo) journals
   pub follow : EachFrom 0 (λ place object. IsJournalOf plan place object.kind (journal_of (record_of journals first second) (object_number place))) plan.objects
   pub parts : (place part : ℕ) (object : ObjectLine) → slice_get plan.objects place ≡ Some object → object.kind ≡ kinds.Pool → part < plan.workers → IsPartJournal (puts_at place plan.scripts) (journal_of (record_of journals first second) (first_part plan place + part))
+  pub starts : has_dormant plan ≡ true → IsStartsJournal plan.dormant (journal_of (record_of journals first second) (starts_number plan))
   pub once_first : Below (suc (length journals)) (λ object. entries_in object first ≡ by 0 (journal_of (record_of journals first second) object))
   pub once_second : Below (suc (length journals)) (λ object. entries_in object second ≡ by 1 (journal_of (record_of journals first second) object))
 
@@ -190,6 +194,7 @@ module _ (plan : Plan) (journals : List (List ObjectEntry)) (first second : List
     stops = λ k d within. absurd (omega (arith, within));
     journals = λ place object at. subst (λ (k : ℕ). IsJournalOf plan k object.kind (journal_of r (object_number k))) (omega arith) (from_at (λ place object. IsJournalOf plan place object.kind (journal_of r (object_number place))) 0 plan.objects small.follow place object at);
     parts = small.parts;
+    starts = small.starts;
     once = once;
     fronts = fronts;
   }
@@ -200,17 +205,38 @@ pub no_parts : (plan : Plan) (journals : List (List ObjectEntry)) (first second 
 no_parts plan journals first second none place part object at pool within =
     absurd (false≢true (sym (each_at (λ (o : ObjectLine). is_pool o.kind ≡ false) plan.objects none place object at) ∙ ap is_pool pool))
 
+-- neither of the two workers waits to be started
+abbrev pub NoneWaits : Plan → Type 0
+NoneWaits plan = plan.dormant ≡ false ∷ false ∷ []
+
+none_waits : (plan : Plan) → NoneWaits plan → has_dormant plan ≡ false
+none_waits plan none = ap (λ (l : List Bool). list_any (λ waits. waits) l) none
+
+-- and then there is no journal of Starts
+pub no_starts : (plan : Plan) (journal : List ObjectEntry) → NoneWaits plan → has_dormant plan ≡ true → IsStartsJournal plan.dormant journal
+no_starts plan journal none waits = absurd (false≢true (sym (none_waits plan none) ∙ waits))
+
 -- a line whose calls were all completed
 abbrev pub whole_line : List SpeltCall → Line
-whole_line spelt = record { spelt = spelt; last = []; halts = []; rest = []; ending = whole }
+whole_line spelt = record { first = []; spelt = spelt; last = []; halts = []; rest = []; ending = whole }
 
-pub are_whole : (plan : Plan) (first second : List SpeltCall) → AreSpelt plan 0 0 first → AreSpelt plan 1 0 second
+is_whole : (plan : Plan) (worker : ℕ) (spelt : List SpeltCall) → is_dormant plan worker ≡ false → has_dormant plan ≡ false → AreSpelt plan worker 0 spelt → IsLineOf plan worker (whole_line spelt)
+is_whole plan worker spelt live none are = record {
+  opens = subst (λ (b : Bool). cond b (wait_start_part (starts_number plan)) (returns true) [] (Done (Ok true))) (sym live) (refl, refl);
+  calls = are;
+  ends = (refl, subst (λ (b : Bool). cond b (end_part (starts_number plan)) (returns tt) [] (Done (Ok tt))) (sym none) (refl, refl));
+  halts = refl;
+}
+
+pub are_whole : (plan : Plan) → NoneWaits plan → (first second : List SpeltCall) → AreSpelt plan 0 0 first → AreSpelt plan 1 0 second
     → (worker : ℕ) (line : Line) → slice_get (whole_line first ∷ whole_line second ∷ []) worker ≡ Some line → IsLineOf plan worker line
-are_whole plan first second spelt also zero line at = subst (IsLineOf plan 0) (ap (λ (o : Option Line). unwrap_or o line) at) (record { calls = spelt; ends = (refl, refl); halts = refl })
-are_whole plan first second spelt also (suc zero) line at = subst (IsLineOf plan 1) (ap (λ (o : Option Line). unwrap_or o line) at) (record { calls = also; ends = (refl, refl); halts = refl })
-are_whole plan first second spelt also (suc (suc worker)) line at = absurd (none-some line at)
+are_whole plan none first second spelt also zero line at =
+    subst (IsLineOf plan 0) (ap (λ (o : Option Line). unwrap_or o line) at) (is_whole plan 0 first (ap (λ (l : List Bool). get_or l 0 false) none) (none_waits plan none) spelt)
+are_whole plan none first second spelt also (suc zero) line at =
+    subst (IsLineOf plan 1) (ap (λ (o : Option Line). unwrap_or o line) at) (is_whole plan 1 second (ap (λ (l : List Bool). get_or l 1 false) none) (none_waits plan none) also)
+are_whole plan none first second spelt also (suc (suc worker)) line at = absurd (none-some line at)
 
-pub both_ended : (first second : List SpeltCall) → All (λ (line : Line). line.ending ≡ whole) (whole_line first ∷ whole_line second ∷ [])
-both_ended first second zero d within = refl
-both_ended first second (suc zero) d within = refl
+pub both_ended : (first second : List SpeltCall) → All (λ (line : Line). IsAtEnd line.ending) (whole_line first ∷ whole_line second ∷ [])
+both_ended first second zero d within = tt
+both_ended first second (suc zero) d within = tt
 both_ended first second (suc (suc k)) d within = absurd (omega (arith, within))

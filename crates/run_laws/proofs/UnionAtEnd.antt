@@ -37,7 +37,7 @@ use Rattle.run_record.specs.Record.{Record, shared_in}
 use Rattle.run_laws.specs.Locks.{has_plain_objects}
 use Rattle.workload.specs.OwnMaps.{NamedMap, after_operation, after_script, map_of, union_of}
 use Rattle.run_laws.specs.Owners.{is_on_name, uses_key, AreApart}
-use Rattle.run_laws.proofs.DoneLines.{calls_in, items_in, shared_append, script_at, calls_at, line_at}
+use Rattle.run_laws.proofs.DoneLines.{Plainly, calls_in, items_in, shared_append, script_at, calls_at, line_at}
 use Rattle.run_laws.proofs.EachOf.{Each, each_at, each_both}
 use Rattle.run_laws.proofs.KeyAtEnd.{Facts, scripted, map_there, starts_empty, own_value, no_value}
 use Rattle.run_laws.proofs.MapItems.{MapItems, one_call, no_call, is_no_map, map_items, op_value, named_call}
@@ -115,7 +115,7 @@ module _ (place : ℕ) (key : List ℕ) where
       each zero script at = ap (list_any (uses_key place key)) (sym (same_Some x script at)) ∙ unused
       each (suc i) script at = none i script at
 
-module _ (plan : Plan) (r : Record) (left : Report) (explains : Explains plan (Done left) r) (script_lines : map script_of explains.lines ≡ plan.scripts) (facts : Facts r) (plain : has_plain_objects plan ≡ true)
+module _ (plan : Plan) (r : Record) (left : Report) (explains : Explains plan (Done left) r) (plainly : Plainly plan) (script_lines : map script_of explains.lines ≡ plan.scripts) (facts : Facts r) (plain : has_plain_objects plan ≡ true)
     (among : (name : List ℕ) → list_any (bytes_eq name) (keys_in plan.scripts) ≡ list_any (bytes_eq name) (all_keys plan.scripts))
     (named_so : (name : List ℕ) → list_any (bytes_eq name) (all_keys plan.scripts) ≡ true → key_name (keys_in plan.scripts) (key_number (keys_in plan.scripts) name) ≡ name)
     (numbered : (name : List ℕ) (n : ℕ) → number_in (keys_in plan.scripts) name ≡ Some n → slice_get (keys_in plan.scripts) n ≡ Some name)
@@ -127,8 +127,8 @@ module _ (plan : Plan) (r : Record) (left : Report) (explains : Explains plan (D
   -- the key of each call is one of the workload's
   known_in : (worker : ℕ) (line : Line) → slice_get explains.lines worker ≡ Some line → (i : ℕ) (call : Call) (op : MapCall (List ℕ)) (name : List ℕ) → slice_get (calls_in line.spelt) i ≡ Some call → call.operation ≡ operations.Map op → map_key op ≡ Some name
       → list_any (bytes_eq name) (all_keys plan.scripts) ≡ true
-  known_in worker line is i call op name in_script asks has = key_of_call plan.scripts worker i (script_of line) call op name (scripted plan r left explains script_lines facts plain named_so place object at kind worker line is)
-      (ap (λ (l : List Call). slice_get l i) (script_at plan r left explains worker line is) ∙ in_script) asks has
+  known_in worker line is i call op name in_script asks has = key_of_call plan.scripts worker i (script_of line) call op name (scripted plan r left explains plainly script_lines facts plain named_so place object at kind worker line is)
+      (ap (λ (l : List Call). slice_get l i) (script_at plan r left explains plainly worker line is) ∙ in_script) asks has
 
   -- no call leaves anything at a number that is no key's
   module _ (number : ℕ) (past : length (keys_in plan.scripts) ≤ number) where
@@ -166,10 +166,10 @@ module _ (plan : Plan) (r : Record) (left : Report) (explains : Explains plan (D
         (of_script worker (before + length (shared_in call.items)) spelt are.1 (λ i c op name in_script asks has. known (suc i) c op name in_script asks has)))
 
     nothing_past : get contents number ≡ None
-    nothing_past = after_none (map_number plan.objects place) number r.history (contents_of plan) (map_there plan r left explains script_lines facts plain named_so place object at kind) (starts_empty plan r left explains script_lines facts plain named_so place object at kind number) (λ i e is.
+    nothing_past = after_none (map_number plan.objects place) number r.history (contents_of plan) (map_there plan r left explains plainly script_lines facts plain named_so place object at kind) (starts_empty plan r left explains plainly script_lines facts plain named_so place object at kind number) (λ i e is.
         let made = facts.call i e is in
-        let line = line_at plan r left explains e.caller made.0 made.1 made.2 in
-        let listed : slice_get (shared_in (items_in line.0.spelt)) made.0 ≡ Some made.1 = ap (λ (l : List Item). slice_get l made.0) (sym (calls_at plan r left explains e.caller line.0 line.1)) ∙ made.2 in
+        let line = line_at plan r left explains plainly e.caller made.0 made.1 made.2 in
+        let listed : slice_get (shared_in (items_in line.0.spelt)) made.0 ≡ Some made.1 = ap (λ (l : List Item). slice_get l made.0) (sym (calls_at plan r left explains plainly e.caller line.0 line.1)) ∙ made.2 in
         subst (λ (call : SharedCall). shared_key_after (map_number plan.objects place) number call None ≡ None) made.5
         (each_at LeavesNoneHere (shared_in (items_in line.0.spelt)) made.0 made.1 (of_script e.caller 0 line.0.spelt (explains.are.each e.caller line.0 line.1).calls (known_in e.caller line.0 line.1)) listed))
 
@@ -189,10 +189,10 @@ module _ (plan : Plan) (r : Record) (left : Report) (explains : Explains plan (D
             → get contents (key_number (keys_in plan.scripts) name) ≡ find (slice_cmp nat_cmp) name (flat_map (λ script. entries (map_of place script)) plan.scripts)
         by_user known (inl (w, script, is, uses)) =
             let owned = apart name w script is uses in
-            own_value plan r left explains script_lines facts plain named_so place object at kind name known w owned script is
+            own_value plan r left explains plainly script_lines facts plain named_so place object at kind name known w owned script is
             ∙ sym (find_one (slice_cmp nat_cmp) name (map_of place) plan.scripts w script is (λ i other in_scripts unequal. unused_none place name other (owned i other in_scripts unequal)))
         by_user known (inr none) =
-            no_value plan r left explains script_lines facts plain named_so place object at kind name known (length plan.scripts) (λ other script is unequal. none other script is) (slice_get_past plan.scripts (length plan.scripts) (omega arith))
+            no_value plan r left explains plainly script_lines facts plain named_so place object at kind name known (length plan.scripts) (λ other script is unequal. none other script is) (slice_get_past plan.scripts (length plan.scripts) (omega arith))
             ∙ sym (find_none (slice_cmp nat_cmp) name (map_of place) plan.scripts (λ i script is. unused_none place name script (none i script is)))
 
         by_known : (list_any (bytes_eq name) (all_keys plan.scripts) ≡ true) ⊎ (list_any (bytes_eq name) (all_keys plan.scripts) ≡ false)

@@ -1,4 +1,4 @@
--- The edges that Go's memory model and the documentation of its `sync` state, kind by kind: by which event, answered how, a call comes to the point that they name. What comes first of the two releases, and what comes later acquires.
+-- The edges that Go's memory model and the documentation of its `sync` state, kind by kind: by which event, answered how, a call comes to the point that they name. What comes first of the two releases, and what comes later acquires. One more release is this profile's own (`WorkerEnds`).
 use Rattle.std.specs.Prelude.{ℕ, negsuc, Bool, true, false}
 use Rattle.mutex_core.specs.declared.event.MutexEvent.{MutexEvent}
 use Rattle.mutex_core.specs.declared.event.MutexEvent.TheVariants as on_mutex
@@ -18,6 +18,10 @@ use Rattle.rw_core.specs.declared.reply.RwReply.TheVariants as of_rw
 use Rattle.rw_core.specs.declared.reply.Arrival.TheVariants as rw_arrival
 use Rattle.rw_core.specs.declared.reply.Resumption.TheVariants as rw_resumption
 use Rattle.rw_core.specs.declared.reply.Unlocking.TheVariants as rw_unlocking
+use Rattle.starts_core.specs.declared.starts.StartEvent.{StartEvent}
+use Rattle.starts_core.specs.declared.starts.StartEvent.TheVariants as on_starts
+use Rattle.starts_core.specs.declared.starts.StartReply.{StartReply}
+use Rattle.starts_core.specs.declared.starts.StartReply.TheVariants as of_starts
 use Rattle.wait_cores.specs.declared.group.GroupEvent.{GroupEvent}
 use Rattle.wait_cores.specs.declared.group.GroupEvent.TheVariants as on_group
 use Rattle.wait_cores.specs.declared.group.GroupReply.{GroupReply}
@@ -93,6 +97,17 @@ pub data Gets : PoolEvent ℕ → PoolReply ℕ → Type 0 where
   of_another_part : (part item : ℕ) → Gets (LookOther part) (Item item)
   of_the_victims : (part item : ℕ) → Gets (LookVictim part) (Item item)
 
+-- "The go statement that starts a new goroutine is synchronized before the start of the goroutine's execution." A worker that waits to be started is such a goroutine, and begins its execution where it goes.
+pub data GoStarts : StartEvent → StartReply → Type 0 where
+  a_worker : (worker : ℕ) → GoStarts (on_starts.Start worker) of_starts.Done
+
+pub data StartedGoes : StartEvent → StartReply → Type 0 where
+  was_started : StartedGoes on_starts.Leave of_starts.Go
+
+-- Go names no edge from the exit of a goroutine: that the end of a worker releases is a choice of this profile.
+pub data WorkerEnds : StartEvent → StartReply → Type 0 where
+  made_its_calls : WorkerEnds on_starts.End of_starts.Done
+
 -- whether the answer is one of an object of the event's kind
 abbrev pub is_of_its_kind : ObjectEvent → ObjectReply → Bool
 is_of_its_kind (event.Mutex e) (reply.Mutex r) = true
@@ -103,4 +118,5 @@ is_of_its_kind (event.Once e) (reply.Once r) = true
 is_of_its_kind (event.OnceFunc e) (reply.OnceFunc r) = true
 is_of_its_kind (event.OnceValue e) (reply.OnceValue r) = true
 is_of_its_kind (event.Pool e) (reply.Pool r) = true
+is_of_its_kind (event.Starts e) (reply.Starts r) = true
 is_of_its_kind e r = false

@@ -1,5 +1,5 @@
 -- The words of small examples: workloads of two workers without a call on a map or an atomic, and records of their runs.
-use Rattle.std.specs.Prelude.{ℕ, List, [], ◌∷◌}
+use Rattle.std.specs.Prelude.{ℕ, false, List, [], ◌∷◌}
 use Rattle.script_calls.specs.declared.call.Call.{Call}
 use Rattle.script_calls.specs.declared.call.Operation.{Operation}
 use Rattle.script_calls.specs.declared.call.Reply.{Reply}
@@ -21,9 +21,9 @@ declared letter kind = record { name = letter ∷ []; kind = kind }
 abbrev pub on : ℕ → Operation → Call
 on place operation = record { object = place; operation = operation }
 
--- a workload, by its objects and the scripts of its two workers
+-- a workload, by its objects and the scripts of its two workers, neither of which waits to be started
 abbrev pub plan_of : List ObjectLine → List Call → List Call → Plan
-plan_of objects first second = record { workers = 2; objects = objects; scripts = first ∷ second ∷ []; schedule = [] }
+plan_of objects first second = record { workers = 2; objects = objects; dormant = false ∷ false ∷ []; scripts = first ∷ second ∷ []; schedule = [] }
 
 -- each call of the two workers returned, with these replies
 abbrev pub returned : List (Reply ℕ) → List (Reply ℕ) → Outcome

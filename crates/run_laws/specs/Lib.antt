@@ -10,6 +10,7 @@ pub mod ExamplesOnceFunc
 pub mod ExamplesOnceValue
 pub mod ExamplesPool
 pub mod ExamplesRwMutex
+pub mod ExamplesStarts
 pub mod ExamplesWaitGroup
 pub mod Known
 pub mod Locks

@@ -1,6 +1,6 @@
 //! What one event makes known to another: the edges between the events of a run's objects are those that Go documents, and a front
 //! counts calls that were made. Each law is the contract of a function that does nothing.
-ghost use Rattle.std.specs.Prelude.{◌≡◌, ◌↔◌, ◌<◌, ℕ, ℤ, true, IsFalse, Some, slice_get, slice_index};
+ghost use Rattle.std.specs.Prelude.{◌≡◌, ◌↔◌, ◌⊎◌, ◌<◌, ℕ, ℤ, true, IsFalse, Some, slice_get, slice_index};
 ghost use Rattle.mutex_core.specs.MutexMachine as mutex;
 ghost use Rattle.pool_core.specs.PartMachine.{PartState, part_next};
 ghost use Rattle.rw_core.specs.RwMachine as rw;
@@ -9,19 +9,21 @@ ghost use Rattle.workload.specs.Plan.{Plan};
 ghost use Rattle.run_record.specs.Edges.{frees, takes};
 ghost use Rattle.run_record.specs.Explains.{IsRecordOf};
 ghost use Rattle.run_record.specs.Record.{Record, list_of, calls_of, front_of};
-ghost use Rattle.run_laws.specs.DocumentedEdges.{CondWaitGoesOn, Dones, FunctionCompletes, Gets, GroupWaitReturns, Locks, Notifies, OnceCallReturns, Puts, RwLocks, RwUnlocks, Unlocks, is_of_its_kind};
+ghost use Rattle.run_laws.specs.DocumentedEdges.{CondWaitGoesOn, Dones, FunctionCompletes, Gets, GoStarts, GroupWaitReturns, Locks, Notifies, OnceCallReturns, Puts, RwLocks, RwUnlocks, StartedGoes, Unlocks, WorkerEnds, is_of_its_kind};
 
 use mutex_core::MutexEvent;
 use pool_core::PoolEvent;
 use run_record::Made;
 use run_record::entered::{ObjectEvent, ObjectReply};
 use rw_core::RwEvent;
+use starts_core::{StartEvent, StartReply};
 use sync_model::Item;
 use wait_cores::{GroupEvent, GroupReply, NotifyEvent, NotifyReply, OnceEvent};
 
 /// An event releases exactly where Go's memory model, or the documentation of its `sync`, names it as the first of two that
 /// are synchronized, and acquires exactly where it is the second: of each kind of object, whatever its state is and
 /// whoever makes the event. An event that is answered by a misuse, by an object of another kind, or not at all, does neither.
+/// One release more is a choice of this profile: the end of a worker in a workload where some wait to be started.
 pub fn the_edges_are_those_that_go_documents()
     ensures mutex { (state : mutex.State) (caller : ℕ) (event : MutexEvent) → let reply = (mutex.next state caller event).1 in
         (frees (ObjectEvent.Mutex event) (ObjectReply.Mutex reply) ≡ true ↔ Unlocks event reply)
@@ -47,6 +49,9 @@ pub fn the_edges_are_those_that_go_documents()
     ensures pool { (state : PartState ℕ) (caller : ℕ) (event : PoolEvent ℕ) → let reply = (part_next state caller event).1 in
         (frees (ObjectEvent.Pool event) (ObjectReply.Pool reply) ≡ true ↔ Puts event reply)
         × (takes (ObjectEvent.Pool event) (ObjectReply.Pool reply) ≡ true ↔ Gets event reply) }
+    ensures starts { (event : StartEvent) (reply : StartReply)
+        → (frees (ObjectEvent.Starts event) (ObjectReply.Starts reply) ≡ true ↔ GoStarts event reply ⊎ WorkerEnds event reply)
+        × (takes (ObjectEvent.Starts event) (ObjectReply.Starts reply) ≡ true ↔ StartedGoes event reply) }
     ensures apart { (event : ObjectEvent) (reply : ObjectReply)
         → IsFalse (is_of_its_kind event reply) → IsFalse (frees event reply) × IsFalse (takes event reply) }
 {

@@ -9,6 +9,7 @@ ghost use Rattle.run_laws.specs.ExamplesOnceFunc as once_func;
 ghost use Rattle.run_laws.specs.ExamplesOnceValue as once_value;
 ghost use Rattle.run_laws.specs.ExamplesPool as pool;
 ghost use Rattle.run_laws.specs.ExamplesRwMutex as rw_mutex;
+ghost use Rattle.run_laws.specs.ExamplesStarts as starts;
 ghost use Rattle.run_laws.specs.ExamplesWaitGroup as wait_group;
 
 use run_record::laws::runs::scripts_without_tests_are_spelt_call_by_call;
@@ -89,6 +90,15 @@ pub fn a_function_is_not_run_twice()
 pub fn no_item_is_got_that_nobody_put()
     ensures explained { Explains pool.plan (pool.outcome 5) (pool.got 5) }
     ensures refused { (outcome : Outcome) → Explains pool.plan outcome (pool.got 6) → ⊥ }
+{
+    scripts_without_tests_are_spelt_call_by_call();
+}
+
+/// A worker that waits to be started, and is told that it never will be once the other one has ended, is explained: it makes no call, and
+/// the run is done. One that is told so before isn't, since the other one might start it.
+pub fn a_worker_is_not_given_up_while_another_is_live()
+    ensures explained { Explains starts.plan starts.outcome starts.told_at_the_end }
+    ensures refused { (outcome : Outcome) → Explains starts.plan outcome starts.told_too_early → ⊥ }
 {
     scripts_without_tests_are_spelt_call_by_call();
 }

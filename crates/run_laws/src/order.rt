@@ -14,6 +14,7 @@ ghost use Rattle.run_laws.specs.Order.{EventOf, First, IsSame, InJournal, InList
 use run_record::Made;
 use run_record::laws::returns::what_a_wait_group_call_has_done;
 use run_record::laws::runs::scripts_without_tests_are_spelt_call_by_call;
+use run_record::laws::starts::where_nobody_waits_to_be_started_lists_are_of_calls;
 use script_calls::{Outcome, Report};
 use wait_cores::{GroupEvent, GroupReply};
 use workload::{ObjectKind, ObjectLine};
@@ -55,6 +56,7 @@ pub fn a_circle_of_waits_is_never_done()
     ensures { (r : Record) (left : Report) → InOneOrder r → Explains circle.plan (Outcome.Done left) r → ⊥ }
 {
     scripts_without_tests_are_spelt_call_by_call();
+    where_nobody_waits_to_be_started_lists_are_of_calls();
     what_a_wait_group_call_has_done();
     what_was_waited_for_happened_before();
 }

@@ -1,4 +1,4 @@
-use Rattle.std.proofs.Common.{◌≡◌, ◌+◌, List, ◌++◌, ap, ◌∙◌, append_assoc}
+use Rattle.std.proofs.Common.{◌≡◌, ◌+◌, List, ◌++◌, sym, ap, ◌∙◌, append_assoc}
 use Rattle.std.specs.Prelude.{Ok}
 use Rattle.script_calls.specs.declared.call.ComposedCall.TheVariants.{IfEqual}
 use Rattle.script_calls.specs.declared.call.Operation.TheVariants as operations
@@ -18,11 +18,12 @@ returns c plan r outcome explains worker i passes line spelt object type value t
     let a = atomic_number plan.objects spelt.call.object in
     let found = spelt_at plan worker 0 line.spelt i spelt (explains.are.each worker line there).calls at in
     let ends : List Made = line.last ++ line.halts in
-    let whole : list_of r worker ≡ found.earlier ++ (spelt.items ++ (found.later ++ ends)) =
+    let earlier : List Made = line.first ++ found.earlier in
+    let whole : list_of r worker ≡ earlier ++ (spelt.items ++ (found.later ++ ends)) =
     c.a_call_that_was_passed_over_leaves_no_item.ensures.list plan r outcome explains.lines worker line explains.are there
-    ∙ (ap (λ (l : List Made). l ++ ends) found.items ∙ (append_assoc found.earlier (spelt.items ++ found.later) ends
-    ∙ ap (λ (l : List Made). found.earlier ++ l) (append_assoc spelt.items found.later ends))) in
-    let one = test_replies plan r explains.lawful worker found.earlier (found.later ++ ends) spelt.items whole a value spelt.reply
+    ∙ (ap (λ (l : List Made). line.first ++ l) (ap (λ (l : List Made). l ++ ends) found.items ∙ (append_assoc found.earlier (spelt.items ++ found.later) ends
+    ∙ ap (λ (l : List Made). found.earlier ++ l) (append_assoc spelt.items found.later ends))) ∙ sym (append_assoc line.first found.earlier (spelt.items ++ (found.later ++ ends)))) in
+    let one = test_replies plan r explains.lawful worker earlier (found.later ++ ends) spelt.items whole a value spelt.reply
     (spelt_on plan worker found.before object spelt.call (kinds.Atomic type) (operations.Composed (IfEqual value passes)) spelt.items (Done (Ok spelt.reply)) is kind asks found.spells) in
     let held = number_at (contents_at (contents_of plan) r.history one.0.place) a in
     let over = passed_by c.only_an_ifeq_answered_false_passes_calls_over.ensures.passes c.only_an_ifeq_answered_false_passes_calls_over.ensures.only spelt.call value passes spelt.reply (is_same held value) asks one.3 in (

@@ -20,10 +20,11 @@ returns c plan r outcome explains worker i mutex atomic tries line spelt value t
     let cond = object_number spelt.call.object in
     let found = spelt_at plan worker 0 line.spelt i spelt (explains.are.each worker line there).calls at in
     let ends : List Made = line.last ++ line.halts in
-    let whole : list_of r worker ≡ found.earlier ++ (spelt.items ++ (found.later ++ ends)) =
+    let earlier : List Made = line.first ++ found.earlier in
+    let whole : list_of r worker ≡ earlier ++ (spelt.items ++ (found.later ++ ends)) =
     c.a_call_that_was_passed_over_leaves_no_item.ensures.list plan r outcome explains.lines worker line explains.are there
-    ∙ (ap (λ (l : List Made). l ++ ends) found.items ∙ (append_assoc found.earlier (spelt.items ++ found.later) ends
-    ∙ ap (λ (l : List Made). found.earlier ++ l) (append_assoc spelt.items found.later ends))) in
+    ∙ (ap (λ (l : List Made). line.first ++ l) (ap (λ (l : List Made). l ++ ends) found.items ∙ (append_assoc found.earlier (spelt.items ++ found.later) ends
+    ∙ ap (λ (l : List Made). found.earlier ++ l) (append_assoc spelt.items found.later ends))) ∙ sym (append_assoc line.first found.earlier (spelt.items ++ (found.later ++ ends)))) in
     let one = c.a_waitfor_waits_until_a_load_finds_the_value.ensures.returned plan worker found.before mutex atomic tries value spelt.call spelt.items spelt.reply is found.spells in
     let met = one.0 in
     let made = one.2 in
@@ -31,16 +32,16 @@ returns c plan r outcome explains worker i mutex atomic tries line spelt value t
     (subst (λ (reply : Reply _). SpellsCall plan worker found.before spelt.call spelt.items (Done (Ok reply))) one.1 found.spells) in
     let rounds = flat_map round_items made.rounds in
     let behind : List Made = found.later ++ ends in
-    let by_rounds : list_of r worker ≡ found.earlier ++ (rounds ++ (Shared made.last ∷ behind)) =
-    whole ∙ ap (λ (l : List Made). found.earlier ++ l) (ap (λ (l : List Made). l ++ behind) made.are ∙ append_assoc rounds (Shared made.last ∷ []) behind) in
+    let by_rounds : list_of r worker ≡ earlier ++ (rounds ++ (Shared made.last ∷ behind)) =
+    whole ∙ ap (λ (l : List Made). earlier ++ l) (ap (λ (l : List Made). l ++ behind) made.are ∙ append_assoc rounds (Shared made.last ∷ []) behind) in
     let holds = found_where met _ (held_at plan r a made.last ≡ value) (sym made.found)
-    (where_found plan r explains.lawful worker a value (found.earlier ++ rounds) behind made.last (by_rounds ∙ sym (append_assoc found.earlier rounds (Shared made.last ∷ behind))) made.loads) in
+    (where_found plan r explains.lawful worker a value (earlier ++ rounds) behind made.last (by_rounds ∙ sym (append_assoc earlier rounds (Shared made.last ∷ behind))) made.loads) in
     record {
       met = met;
       answers = one.1;
       made = made;
       holds = holds;
-      held_another = rounds_miss plan r explains.lawful worker a value cond (object_number mutex) made.rounds found.earlier (Shared made.last ∷ behind) by_rounds made.each;
+      held_another = rounds_miss plan r explains.lawful worker a value cond (object_number mutex) made.rounds earlier (Shared made.last ∷ behind) by_rounds made.each;
       loads = counted.0;
       few = counted.1;
       fails = not_where met (held_at plan r a made.last ≡ value) (tickets_of cond spelt.items ≡ tries) holds counted.2;
