@@ -9,5 +9,6 @@ mod PoolCut
 mod RangeCut
 mod RwMutexCut
 mod SharedCut
+mod StartsCut
 mod WaitForCut
 mod WriterCut

@@ -10,4 +10,5 @@ pub mod PoolCuts
 pub mod RangeCuts
 pub mod RwMutexCuts
 pub mod SharedCuts
+pub mod StartsCuts
 pub mod WaitForCuts

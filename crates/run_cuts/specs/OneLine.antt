@@ -17,8 +17,8 @@ abbrev pub CutsCalls : Plan → ℕ → (Call → Bool) → (ℕ → Call → Cu
 CutsCalls plan worker told cut = (before : ℕ) (call : Call) → told call ≡ true → Cuts (SpellsCall plan worker before call) (cut before call)
 
 -- What a list and a script are cut into is a line of them, along a run of the script. A line of them that has ended is what they are cut into; one that hasn't may have a last call that is spelt whole, which is cut as a completed one. Each call of the script passes the test.
-pub record CutsLines (plan : Plan) (worker : ℕ) (told : Call → Bool) (cut : ℕ → Call → Cutter (Reply ℕ)) : Type 0 where
-  pub is_line : (script : List Call) (list : List Made) (line : Line) → list_all told script ≡ true → line_cut cut 0 script list ≡ Some line
+pub record CutsLines (plan : Plan) (worker : ℕ) (opens : Cutter Bool) (closes : Cutter (Unit {0})) (told : Call → Bool) (cut : ℕ → Call → Cutter (Reply ℕ)) : Type 0 where
+  pub is_line : (script : List Call) (list : List Made) (line : Line) → list_all told script ≡ true → line_cut opens closes cut 0 script list ≡ Some line
       → RunsAlong script (calls_made line) line.rest × (items_of line ≡ list) × IsLineOf plan worker line
   pub is_cut : (script : List Call) (line : Line) → list_all told script ≡ true → RunsAlong script (calls_made line) line.rest → HasEnded line.ending → IsLineOf plan worker line
-      → line_cut cut 0 script (items_of line) ≡ Some line
+      → line_cut opens closes cut 0 script (items_of line) ≡ Some line

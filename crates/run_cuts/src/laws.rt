@@ -11,6 +11,7 @@ ghost use Rattle.run_record.specs.MutexKind.{mutex_call};
 ghost use Rattle.run_record.specs.OnceKind.{do_call, func_call, value_call};
 ghost use Rattle.run_record.specs.PoolKind.{pool_call};
 ghost use Rattle.run_record.specs.RwMutexKind.{rw_mutex_call};
+ghost use Rattle.run_record.specs.StartsKind.{opening, closing, wait_start_part, end_part};
 ghost use Rattle.run_record.specs.Tests.{if_equal_call, wait_for_call};
 ghost use Rattle.run_record.specs.WaitGroupKind.{wait_group_call};
 ghost use Rattle.run_cuts.specs.CallCuts.{call_cut, is_told};
@@ -24,6 +25,7 @@ ghost use Rattle.run_cuts.specs.PoolCuts.{pool_cut};
 ghost use Rattle.run_cuts.specs.RangeCuts.{CutsRange};
 ghost use Rattle.run_cuts.specs.RwMutexCuts.{rw_mutex_cut};
 ghost use Rattle.run_cuts.specs.SharedCuts.{adds_cut, atomic_cut, if_equal_cut, map_cut};
+ghost use Rattle.run_cuts.specs.StartsCuts.{opening_cut, closing_cut, wait_start_cut, end_cut};
 ghost use Rattle.run_cuts.specs.WaitForCuts.{wait_for_cut};
 
 use sync_types::{
@@ -32,7 +34,8 @@ use sync_types::{
 
 /// The calls of each kind but a `range` are cut from a list by a function just as they are spelt. What is found spells the call. What
 /// spells it is found, whatever stands behind it. A list that ends within it goes on to one that spells it. One that begins with no such
-/// call still does so, however it goes on. Of a writer's `lock` the answers `Still` are found with it, wherever they may stand.
+/// call still does so, however it goes on. Of a writer's `lock` the answers `Still` are found with it, wherever they may stand. So are cut, too, what
+/// a worker makes before its script, where it waits to be started, and what it makes behind it.
 pub fn calls_are_cut_as_they_are_spelt()
     ensures mutex { (object : ℕ) (call : MutexCall) → Cuts (mutex_call object call) (mutex_cut object call) }
     ensures rw_mutex { (object : ℕ) (call : RwMutexCall) → Cuts (rw_mutex_call object call) (rw_mutex_cut object call) }
@@ -47,6 +50,7 @@ pub fn calls_are_cut_as_they_are_spelt()
     ensures once_value { (object value : ℕ) → Cuts (value_call object value) (value_cut object value) }
     ensures pool { (workers worker first : ℕ) (call : PoolCall) → Cuts (pool_call workers worker first call) (pool_cut workers worker first call) }
     ensures wait_group { (object : ℕ) (call : WaitGroupCall) → Cuts (wait_group_call object call) (group_cut object call) }
+    ensures starts { (object : ℕ) → Cuts (wait_start_part object) (wait_start_cut object) × Cuts (end_part object) (end_cut object) }
 {}
 
 /// The items of a `range`, with the pairs that it showed, are cut from a list by a function just as they are spelt. It may reply these
@@ -63,12 +67,14 @@ pub fn a_call_is_cut_as_it_is_spelt()
     ensures { (plan : Plan) (worker before : ℕ) (call : Call) → is_told call.operation ≡ true → Cuts (SpellsCall plan worker before call) (call_cut plan worker call) }
 {}
 
-/// Where each call of a script is cut as it is spelt, a list and the script are cut into one line: the calls that returned, along a run
-/// of the script, and what stands behind them. What they are cut into is a line of them, and a line of them that has ended is what they
-/// are cut into. So it is of
-/// the list of each worker whose script has no `range`. A worker that hasn't ended may have made all the items of its last call, and not
-/// have returned from it. Its list is the same as if it had, so the list doesn't tell, and the function takes the call as done.
+/// Where each call of a script, and what stands before and behind the script, is cut as it is spelt, a list and the script are cut into
+/// one line: what stands before the script, the calls that returned, along a run of the script, and what stands behind them. What they
+/// are cut into is a line of them, and a line of them that has ended is what they are cut into. So it is of
+/// the list of each worker whose script has no `range`, whether it waits to be started or not. A worker that hasn't ended may have made
+/// all the items of its last call, and not have returned from it. Its list is the same as if it had, so the list doesn't tell, and the
+/// function takes the call as done.
 pub fn a_list_is_cut_into_one_line()
-    ensures by { (plan : Plan) (worker : ℕ) (told : Call → Bool) (cut : ℕ → Call → Cutter (Reply ℕ)) → CutsCalls plan worker told cut → CutsLines plan worker told cut }
-    ensures lines { (plan : Plan) (worker : ℕ) → CutsLines plan worker (λ call. is_told call.operation) (λ before call. call_cut plan worker call) }
+    ensures by { (plan : Plan) (worker : ℕ) (opens : Cutter Bool) (closes : Cutter (Unit {0})) (told : Call → Bool) (cut : ℕ → Call → Cutter (Reply ℕ))
+        → Cuts (opening plan worker) opens → Cuts (closing plan worker) closes → CutsCalls plan worker told cut → CutsLines plan worker opens closes told cut }
+    ensures lines { (plan : Plan) (worker : ℕ) → CutsLines plan worker (opening_cut plan worker) (closing_cut plan worker) (λ call. is_told call.operation) (λ before call. call_cut plan worker call) }
 {}
