@@ -1,18 +1,18 @@
 -- Objects that are as the workload declares them.
-use Rattle.std.proofs.Common.{ℕ, ◌+◌, ◌<◌, List, length, refl, subst, arith}
+use Rattle.std.proofs.Common.{◌≡◌, ℕ, ◌+◌, ◌<◌, true, List, length, refl, subst, arith, ◌∙◌}
 use Rattle.std.proofs.lemmas.Option.{slice_get_within}
 use Rattle.workload.specs.declared.object.ObjectKind.{ObjectKind}
 use Rattle.workload.specs.declared.object.ObjectKind.TheVariants as kinds
 use Rattle.workload.specs.declared.object.ObjectWord.TheVariants as words
-use Rattle.workload.specs.Plan.{Plan}
-use Rattle.run_record.specs.Objects.{first_part, object_count}
+use Rattle.workload.specs.Plan.{Plan, has_dormant}
+use Rattle.run_record.specs.Objects.{first_part, object_count, starts_number}
 use Rattle.thread_objects.specs.Catalog.{IsAt}
 use Rattle.run_record.specs.Record.{stop, object_number}
 use Rattle.thread_objects.specs.declared.object.AnyObject.{AnyObject}
 use Rattle.thread_objects.specs.declared.object.AnyObject.TheVariants as those
-use Rattle.thread_objects.specs.AsDeclared.{AreDeclared, IsDeclared, IsPartOf, IsStopOf}
+use Rattle.thread_objects.specs.AsDeclared.{AreDeclared, IsDeclared, IsPartOf, IsStartsOf, IsStopOf}
 use Rattle.thread_objects.specs.Desks.{IsObjectAt}
-use Rattle.thread_objects.specs.Kinds.{HasWord, IsStop, IsOfKind}
+use Rattle.thread_objects.specs.Kinds.{HasWord, IsStarts, IsStop, IsOfKind}
 use Rattle.thread_objects.proofs.ColumnLists.{there_is}
 
 module _ {N H : Type 0} (at : H → N → Type 0) (home : H) (plan : Plan) where
@@ -46,9 +46,20 @@ module _ {N H : Type 0} (at : H → N → Type 0) (home : H) (plan : Plan) where
   part_of place object is = absurd is
 
   -- the object with a part's number is a part of a pool
-  pub part_at : (all : List (AnyObject N H)) (place part : ℕ) → AreDeclared at home plan all → IsAt plan place kinds.Pool → part < plan.workers → first_part plan place + part < object_count plan
+  pub part_at : (all : List (AnyObject N H)) (place part : ℕ) → AreDeclared at home plan all → IsAt plan place kinds.Pool → part < plan.workers → first_part plan place + part < starts_number plan
       → (first_part plan place + part < length all) × IsObjectAt (HasWord words.Pool) all (first_part plan place + part)
   part_at all place part declared is below room =
       let within : first_part plan place + part < length all = omega (arith, room, declared.count) in
       let object = there_is all (first_part plan place + part) within in
       (within, (object.0, object.1, part_of place object.0 (declared.parts place part is.0 object.0 is.1 is.2 below object.1)))
+
+  starts_of : (object : AnyObject N H) → IsStartsOf at home plan object → IsStarts object
+  starts_of (those.Starts o) is = tt
+  starts_of object is = absurd is
+
+  -- where some workers wait to be started, the last object is Starts
+  pub starts_is_last : (all : List (AnyObject N H)) → AreDeclared at home plan all → has_dormant plan ≡ true → object_count plan ≡ starts_number plan + 1 → (length all ≡ starts_number plan + 1) × IsObjectAt IsStarts all (starts_number plan)
+  starts_is_last all declared waits last =
+      let sized = declared.count ∙ last in
+      let object = there_is all (starts_number plan) (omega (arith, sized)) in
+      (sized, (object.0, object.1, starts_of object.0 (declared.starts object.0 waits object.1)))

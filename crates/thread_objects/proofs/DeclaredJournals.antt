@@ -10,9 +10,10 @@ use Rattle.run_record.specs.Calls.{IsJournalOf}
 use Rattle.run_record.specs.Journals.{FollowsFrom, IsStops}
 use Rattle.run_record.specs.PoolKind.{IsPartJournal}
 use Rattle.run_record.specs.Record.{ObjectEntry}
+use Rattle.run_record.specs.StartsKind.{IsStartsJournal}
 use Rattle.thread_objects.specs.declared.object.AnyObject.{AnyObject}
 use Rattle.thread_objects.specs.declared.object.AnyObject.TheVariants as objects
-use Rattle.thread_objects.specs.AsDeclared.{IsDeclared, IsPartOf, IsStopOf}
+use Rattle.thread_objects.specs.AsDeclared.{IsDeclared, IsPartOf, IsStartsOf, IsStopOf}
 use Rattle.thread_objects.specs.Columns.{IsJournalAt}
 
 module _ {S E R : Type 0} (event : E → ObjectEvent) (reply : R → ObjectReply) (next : S → ℕ → E → S × R) (frees takes : E → R → Bool) where
@@ -32,3 +33,8 @@ module _ {N H : Type 0} (at : H → N → Type 0) (home : H) (plan : Plan) (plac
   pub of_part : (object : AnyObject N H) → IsPartOf at home plan place object → IsJournalAt object journal → IsPartJournal (puts_at place plan.scripts) journal
   of_part (objects.PoolPart o) is follows = begun_so _ _ _ _ _ _ _ journal follows is.begun
   of_part object is follows = absurd is
+
+module _ {N H : Type 0} (at : H → N → Type 0) (home : H) (plan : Plan) (journal : List ObjectEntry) where
+  pub of_starts : (object : AnyObject N H) → IsStartsOf at home plan object → IsJournalAt object journal → IsStartsJournal plan.dormant journal
+  of_starts (objects.Starts o) is follows = begun_so _ _ _ _ _ _ _ journal follows is.begun
+  of_starts object is follows = absurd is

@@ -1,5 +1,5 @@
 -- The journals of the objects so far.
-use Rattle.std.proofs.Common.{◌≡◌, ◌⊎◌, inl, inr, ℕ, ◌+◌, ◌<◌, ◌≤◌, List, [], ◌∷◌, ◌++◌, length, get_or, Option, Some, None, slice_get, refl, sym, ap, ◌∙◌, subst, arith, length-append}
+use Rattle.std.proofs.Common.{◌≡◌, ◌⊎◌, inl, inr, ℕ, ◌+◌, ◌<◌, ◌≤◌, true, List, [], ◌∷◌, ◌++◌, length, get_or, Option, Some, None, slice_get, refl, sym, ap, ◌∙◌, subst, arith, length-append}
 use Rattle.std.proofs.lemmas.Bool.{cases_lt}
 use Rattle.std.proofs.lemmas.List.{get_or_append_left}
 use Rattle.std.proofs.Math.Seq.{get_or-append_seam}
@@ -8,8 +8,8 @@ use Rattle.sync_types.specs.declared.misuse.Misuse.{Misuse}
 use Rattle.sync_model.specs.Journal.{by, halt_of, TimesRise}
 use Rattle.workload.specs.declared.object.ObjectKind.TheVariants as kinds
 use Rattle.workload.specs.declared.object.ObjectLine.{ObjectLine}
-use Rattle.workload.specs.Plan.{Plan}
-use Rattle.run_record.specs.Objects.{first_part, object_count}
+use Rattle.workload.specs.Plan.{Plan, has_dormant}
+use Rattle.run_record.specs.Objects.{first_part, object_count, starts_number}
 use Rattle.run_record.specs.Record.{ObjectEntry, stop, object_number}
 use Rattle.thread_objects.specs.declared.column.AnyColumn.{AnyColumn}
 use Rattle.thread_objects.specs.declared.column.AnyColumn.TheVariants as columns
@@ -20,7 +20,7 @@ use Rattle.thread_objects.specs.Columns.{AreParts, IsJournalAt}
 use Rattle.thread_objects.specs.Rows.{AreJournals, made_on}
 use Rattle.thread_objects.proofs.ColumnLemmas.{IsTold}
 use Rattle.thread_objects.proofs.ColumnLists.{got, got_none, there_is}
-use Rattle.thread_objects.proofs.DeclaredJournals.{of_declared, of_part, of_stop}
+use Rattle.thread_objects.proofs.DeclaredJournals.{of_declared, of_part, of_starts, of_stop}
 
 module _ {N H : Type 0} (objects : List (AnyObject N H)) (all : List (AnyColumn N)) where
   -- the journals of the first objects, by the columns that were there at the start
@@ -102,8 +102,9 @@ module _ {N H : Type 0} (objects : List (AnyObject N H)) (all : List (AnyColumn 
 
   -- the journals of all objects
   module _ (at : H → N → Type 0) (home : H) (plan : Plan) (stopped : Option Misuse) (declared : AreDeclared at home plan objects) (sized : length all ≡ length objects) (told : ToldTo stopped (length objects)) where
-    pub are_journals : ((place part : ℕ) (line : ObjectLine) → slice_get plan.objects place ≡ Some line → line.kind ≡ kinds.Pool → part < plan.workers → first_part plan place + part < object_count plan) → AreJournals plan told.journals
-    are_journals rooms = record {
+    pub are_journals : ((place part : ℕ) (line : ObjectLine) → slice_get plan.objects place ≡ Some line → line.kind ≡ kinds.Pool → part < plan.workers → first_part plan place + part < starts_number plan)
+        → (has_dormant plan ≡ true → object_count plan ≡ starts_number plan + 1) → AreJournals plan told.journals
+    are_journals rooms last = record {
       count = told.count ∙ declared.count;
       times = told.times;
       stops =
@@ -122,6 +123,11 @@ module _ {N H : Type 0} (objects : List (AnyObject N H)) (all : List (AnyColumn 
           let object = there_is objects (first_part plan place + part) within in
           let column = there_is all (first_part plan place + part) (omega (arith, sized, within)) in
           of_part at home plan place (get_or told.journals (first_part plan place + part) []) object.0 (declared.parts place part line object.0 here pool below object.1) (told.each (first_part plan place + part) object.0 column.0 within object.1 column.1).0;
+      starts = λ waits.
+          let within : starts_number plan < length objects = omega (arith, declared.count, last waits) in
+          let object = there_is objects (starts_number plan) within in
+          let column = there_is all (starts_number plan) (omega (arith, sized, within)) in
+          of_starts at home plan (get_or told.journals (starts_number plan) []) object.0 (declared.starts object.0 waits object.1) (told.each (starts_number plan) object.0 column.0 within object.1 column.1).0;
     }
 
     pub are_parts : (object worker : ℕ) → made_on all object worker ≡ by worker (get_or told.journals object [])

@@ -1,8 +1,12 @@
 -- Parts of calls, and what they add to what their worker has done.
-use Rattle.std.proofs.Common.{◌≡◌, ℕ, List, [], ◌++◌, refl, sym, subst, Option}
+use Rattle.std.proofs.Common.{◌≡◌, ◌≢◌, ℕ, Bool, true, false, List, [], ◌++◌, Option, Result, Ok, Err, refl, sym, ◌∙◌, subst}
+use Rattle.std.proofs.lemmas.Bool.{false≢true}
+use Rattle.sync_types.specs.declared.misuse.Misuse.{Misuse}
+use Rattle.sync_model.specs.declared.answer.Answer.TheVariants.{Done, Halted}
 use Rattle.sync_model.specs.Front.{Front}
 use Rattle.sync_model.specs.Note.{Holding}
 use Rattle.protocols.specs.Spelling.{CallAnswer}
+use Rattle.call_loop.specs.Calls.{IsGiven}
 use Rattle.run_record.specs.Parts.{Part, read_as, with_outcome, and_then, GoesOn}
 use Rattle.run_record.specs.Record.{ObjectEntry}
 use Rattle.thread_objects.specs.Laws.{Stays, Joins}
@@ -42,3 +46,9 @@ module _ {O P : Type 0} (first : Part O) (next : O → Part P) where
 -- nothing is made, and that is the part
 pub rests : Stays → {O : Type 0} (part : Part O) (desk : Desk) (answer : CallAnswer O) → part [] answer → Works part desk answer desk
 rests stays part desk answer spelt = record { items = []; moves = stays desk; spelt = spelt }
+
+-- where a part never gives a misuse, neither does it as it is read
+pub unmisused : {O P : Type 0} (f : O → P) (gives : Result O Misuse → Bool) (given : CallAnswer O) (answer : CallAnswer P) (misuse : Misuse) → ((other : Misuse) → gives (Err other) ≡ false) → IsGiven gives given → answer ≡ with_outcome f given → answer ≢ Done (Err misuse)
+unmisused f gives (Done (Ok outcome)) answer misuse refuses gave is = λ misused. absurd cc
+unmisused f gives (Done (Err other)) answer misuse refuses gave is = λ misused. absurd (false≢true (sym (refuses other) ∙ gave))
+unmisused f gives (Halted other) answer misuse refuses gave is = λ misused. absurd cc

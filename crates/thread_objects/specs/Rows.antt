@@ -1,15 +1,16 @@
 -- The passes of all workers to all objects of a run, and the journals of the objects.
-use Rattle.std.specs.Prelude.{◌≡◌, ℕ, ◌+◌, ◌<◌, List, [], ◌∷◌, ◌++◌, length, get_or, Some, slice_get}
+use Rattle.std.specs.Prelude.{◌≡◌, ℕ, ◌+◌, ◌<◌, true, List, [], ◌∷◌, ◌++◌, length, get_or, Some, slice_get}
 use Rattle.sync_model.specs.Journal.{TimesRise}
 use Rattle.workload.specs.declared.object.ObjectKind.TheVariants.{Pool}
 use Rattle.workload.specs.declared.object.ObjectLine.{ObjectLine}
-use Rattle.workload.specs.Plan.{Plan}
+use Rattle.workload.specs.Plan.{Plan, has_dormant}
 use Rattle.workload.specs.Puts.{puts_at}
 use Rattle.run_record.specs.Calls.{IsJournalOf}
 use Rattle.run_record.specs.Journals.{IsStops}
-use Rattle.run_record.specs.Objects.{first_part, object_count}
+use Rattle.run_record.specs.Objects.{first_part, object_count, starts_number}
 use Rattle.run_record.specs.PoolKind.{IsPartJournal}
 use Rattle.run_record.specs.Record.{ObjectEntry, stop, object_number}
+use Rattle.run_record.specs.StartsKind.{IsStartsJournal}
 use Rattle.thread_objects.specs.declared.column.AnyColumn.{AnyColumn}
 use Rattle.thread_objects.specs.declared.column.AnyColumn.TheVariants as columns
 use Rattle.thread_objects.specs.declared.object.AnyObject.{AnyObject}
@@ -28,12 +29,13 @@ pub record AreColumns {N H : Type 0} (at : H → N → Type 0) (home : H) (worke
 abbrev pub made_on : {N : Type 0} → List (AnyColumn N) → (object worker : ℕ) → List ObjectEntry
 made_on all object worker = owns_of (passes_in (get_or all object (columns.None 0))) worker
 
--- the journals of a run's objects: one of Stop, one of each object of the workload, in order of declaration, and one of each part of its pools. In each the numbers of the entries rise
+-- the journals of a run's objects: one of Stop, one of each object of the workload, in order of declaration, one of each part of its pools, and one of Starts where some workers wait to be started. In each the numbers of the entries rise
 pub record AreJournals (plan : Plan) (journals : List (List ObjectEntry)) : Type 0 where
   pub count : length journals ≡ object_count plan
   pub stops : IsStops (get_or journals stop [])
   pub each : (place : ℕ) (object : ObjectLine) → slice_get plan.objects place ≡ Some object → IsJournalOf plan place object.kind (get_or journals (object_number place) [])
   pub parts : (place part : ℕ) (object : ObjectLine) → slice_get plan.objects place ≡ Some object → object.kind ≡ Pool → part < plan.workers → IsPartJournal (puts_at place plan.scripts) (get_or journals (first_part plan place + part) [])
+  pub starts : has_dormant plan ≡ true → IsStartsJournal plan.dormant (get_or journals (starts_number plan) [])
   pub times : (object : ℕ) → TimesRise (get_or journals object [])
 
 -- from each of these columns one pass was taken, the last one: these, in order of the objects. What is left is in those

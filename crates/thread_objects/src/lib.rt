@@ -20,6 +20,7 @@ pub mod parts;
 mod pass;
 mod rows;
 mod seated;
+mod starting;
 
 pub use calling::call_any;
 pub use column::AnyColumn;
@@ -34,3 +35,4 @@ pub use parts::{
 };
 pub use pass::AnyPass;
 pub use rows::{deal_row, put_row};
+pub use starting::{tell_end, wait_start};

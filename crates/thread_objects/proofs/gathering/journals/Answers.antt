@@ -58,7 +58,7 @@ returns g c =
     record {
       journals = (
         told.journals,
-        are_journals objects columns g.N.Note.at c.args.crew.now.home.now c.args._workload.now c.first_halt-stopped.result c.requires.declared c.requires.columns.sized told (c.parts_have_numbers_of_their_own.ensures.within c.args._workload.now),
+        are_journals objects columns g.N.Note.at c.args.crew.now.home.now c.args._workload.now c.first_halt-stopped.result c.requires.declared c.requires.columns.sized told (c.parts_have_numbers_of_their_own.ensures.within c.args._workload.now) (c.parts_have_numbers_of_their_own.ensures.starts c.args._workload.now),
         told.stops,
         are_parts objects columns g.N.Note.at c.args.crew.now.home.now c.args._workload.now c.first_halt-stopped.result c.requires.declared c.requires.columns.sized told,
       );
