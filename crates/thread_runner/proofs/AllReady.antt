@@ -23,7 +23,7 @@ use Rattle.thread_runner.proofs.Ended.{held_number}
 
 -- a workload that was read has a script for each worker
 pub one_script_each : (plan : Plan) → is_valid plan ≡ true → length plan.scripts ≡ plan.workers
-one_script_each plan valid = eqb-true (length plan.scripts) plan.workers (and_parts (length plan.scripts == plan.workers) (list_all (list_all (λ call. is_on plan.objects (slice_get plan.objects call.object) call)) plan.scripts && (list_all (is_turn plan.workers) plan.schedule && list_all (λ object. refers plan.objects object.kind) plan.objects)) valid).0
+one_script_each plan valid = eqb-true (length plan.scripts) plan.workers (and_parts (length plan.scripts == plan.workers) (list_all (list_all (λ call. is_on plan.objects (slice_get plan.objects call.object) call)) plan.scripts && (list_all (is_turn plan.workers) plan.schedule && (list_all (λ object. refers plan.objects object.kind) plan.objects && (length plan.dormant == plan.workers)))) valid).0
 
 -- the item of a list that a mapped list's item comes from
 mapped_from : {A B : Type 0} (f : A → B) (xs : List A) (k : ℕ) (y : B) → slice_get (map f xs) k ≡ Some y → (x : A) × (slice_get xs k ≡ Some x) × (f x ≡ y)

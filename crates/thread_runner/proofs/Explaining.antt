@@ -9,17 +9,17 @@ use Rattle.script_calls.specs.declared.outcome.Outcome.TheVariants.{Done, Misuse
 use Rattle.script_calls.specs.declared.outcome.Report.{Report}
 use Rattle.sync_model.specs.Journal.{halt_of}
 use Rattle.workload.specs.Plan.{Plan}
-use Rattle.run_record.specs.Explains.{AreLines, IsRecordOf, HasEnded}
-use Rattle.run_record.specs.Lines.{Line, whole, HaltsStop}
+use Rattle.run_record.specs.Explains.{AreLines, IsRecordOf, HasEnded, IsAtEnd}
+use Rattle.run_record.specs.Lines.{Line, HaltsStop}
 use Rattle.run_record.specs.Record.{Record, ObjectEntry, stop, journal_of}
 use Rattle.thread_objects.specs.Working.{Desk}
 use Rattle.thread_runner.specs.Runs.{IsExplained, ends_after}
 use Rattle.thread_runner.proofs.Joining.{AllDone, Knowing, SameLists, is_record, are_lines, have_ended, halt_each, halt_stop, in_one_order, joined, joined_calls}
 
--- where Stop isn't halted, each script is at its end
+-- where Stop isn't halted, each script is at its end but those of workers that were never started
 abbrev pub StopSays : Type 0
 StopSays = (plan : Plan) (r : Record) (outcome : Outcome) (lines : List Line) → AreLines plan r outcome lines → IsRecordOf plan r → All (λ line. HasEnded line.ending) lines
-    → ((worker : ℕ) (line : Line) → slice_get lines worker ≡ Some line → HaltsStop line) → halt_of (journal_of r stop) ≡ None → All (λ line. line.ending ≡ whole) lines
+    → ((worker : ℕ) (line : Line) → slice_get lines worker ≡ Some line → HaltsStop line) → halt_of (journal_of r stop) ≡ None → All (λ line. IsAtEnd line.ending) lines
 
 module _ (plan : Plan) (history : List SharedEntry) (journals : List (List ObjectEntry)) (calls : ℕ → List Item) (replies : List (List (Reply ℕ))) (start desk : ℕ → Desk) (lines : List Line) (all : AllDone plan history journals calls replies start desk lines) (knowing : Knowing) (same : SameLists) where
   abbrev it : Record

@@ -13,12 +13,12 @@ use Rattle.workload.specs.declared.object.ObjectKind.{ObjectKind}
 use Rattle.workload.specs.declared.object.ObjectKind.TheVariants as kinds
 use Rattle.workload.specs.declared.object.ObjectWord.TheVariants as words
 use Rattle.workload.specs.declared.object.ObjectLine.{ObjectLine}
-use Rattle.workload.specs.Plan.{Plan}
+use Rattle.workload.specs.Plan.{Plan, has_dormant}
 use Rattle.run_record.specs.declared.made.Made.{Made}
 use Rattle.run_record.specs.declared.made.Made.TheVariants.{Shared, Entered}
-use Rattle.run_record.specs.Halts.{halted_at, halted_from, halted_with_stop, entered_on}
+use Rattle.run_record.specs.Halts.{halted_at, halted_from, halted_starts, halted_with_stop, entered_on}
 use Rattle.run_record.specs.Lines.{IsHalt}
-use Rattle.run_record.specs.Objects.{first_part, is_pool}
+use Rattle.run_record.specs.Objects.{first_part, is_pool, starts_number}
 use Rattle.run_record.specs.Record.{ObjectEntry, stop, object_number}
 use Rattle.thread_objects.specs.Working.{Desk, Works, alone, desk_at, number_in}
 use Rattle.thread_objects.specs.declared.object.AnyObject.{AnyObject}
@@ -26,7 +26,7 @@ use Rattle.thread_objects.specs.declared.object.AnyObject.TheVariants as objects
 use Rattle.thread_objects.specs.AsDeclared.{IsDeclared}
 use Rattle.thread_objects.specs.HaltOne.{Halts}
 use Rattle.thread_objects.specs.Halting.{AreHalted}
-use Rattle.thread_objects.specs.Kinds.{HasWord, IsStop}
+use Rattle.thread_objects.specs.Kinds.{HasWord, IsStarts, IsStop}
 use Rattle.thread_runner.specs.Halting.{halted_one, halting, HaltsAll}
 use Rattle.thread_objects.specs.Laws.{Stays, Joins, Counts}
 use Rattle.thread_runner.proofs.Working.{rests}
@@ -66,12 +66,25 @@ module _ (plan : Plan) where
       ap (λ (l : List ℕ). halted_at plan place x.kind ++ l) (from_append (place + 1) lines line ∙ ap (λ (n : ℕ). halted_from plan (place + 1) lines ++ halted_at plan n line.kind) (omega arith))
       ∙ sym (append_assoc (halted_at plan place x.kind) (halted_from plan (place + 1) lines) (halted_at plan (place + length (x ∷ lines)) line.kind))
 
+  -- behind Stop and Starts nothing is halted yet
+  pub halted_none : stop ∷ halted_starts plan ≡ halted_with_stop plan []
+  halted_none = ap (λ (l : List ℕ). stop ∷ l) (sym (append-nil (halted_starts plan)))
+
+  -- Starts is what is halted behind Stop, where some workers wait to be started, and else nothing is
+  pub starts_halted : has_dormant plan ≡ true → starts_number plan ∷ [] ≡ halted_starts plan
+  starts_halted has = ap (λ (b : Bool). cond b (starts_number plan ∷ []) []) (sym has)
+
+  pub no_starts_halted : has_dormant plan ≡ false → [] ≡ halted_starts plan
+  no_starts_halted has = ap (λ (b : Bool). cond b (starts_number plan ∷ []) []) (sym has)
+
   -- what is declared at one more place is halted behind what is declared before it
   pub halted_more : (place : ℕ) (line : ObjectLine) → slice_get plan.objects place ≡ Some line → halted_with_stop plan (take place plan.objects) ++ halted_at plan place line.kind ≡ halted_with_stop plan (take (place + 1) plan.objects)
   halted_more place line at =
       let within = slice_get_within plan.objects place line at in
+      let before = halted_from plan 0 (take place plan.objects) in
       sym (ap (λ (l : List ObjectLine). halted_with_stop plan l) (take_more plan.objects place line within ∙ ap (λ (x : ObjectLine). take place plan.objects ++ x ∷ []) (get_or_from_slice_get plan.objects place line line at))
-      ∙ ap (λ (l : List ℕ). stop ∷ l) (from_append 0 (take place plan.objects) line ∙ ap (λ (n : ℕ). halted_from plan 0 (take place plan.objects) ++ halted_at plan n line.kind) (omega (arith, length-take-le place plan.objects (omega arith)))))
+      ∙ ap (λ (l : List ℕ). stop ∷ (halted_starts plan ++ l)) (from_append 0 (take place plan.objects) line ∙ ap (λ (n : ℕ). before ++ halted_at plan n line.kind) (omega (arith, length-take-le place plan.objects (omega arith))))
+      ∙ ap (λ (l : List ℕ). stop ∷ l) (sym (append_assoc (halted_starts plan) before (halted_at plan place line.kind))))
 
   -- all that the workload declares was halted
   pub all_halted : (misuse : Misuse) (place : ℕ) (old new : Desk) → length plan.objects ≤ place → Works (halting misuse (halted_with_stop plan (take place plan.objects))) old (Done (Ok tt)) new → HaltsAll plan misuse old new
@@ -99,10 +112,14 @@ line_at (x ∷ lines) zero below = (x, refl)
 line_at (x ∷ lines) (suc place) below = line_at lines place (omega arith)
 
 module _ {N H : Type 0} where
-  -- Stop, and a part of a pool, can be halted
+  -- Stop, Starts, and a part of a pool, can be halted
   pub halts_stop : (number : ℕ) (object : AnyObject N H) → IsStop object → halted_one number object ≡ number ∷ []
   halts_stop number objects.Shared is = absurd is
   halts_stop number object is = refl
+
+  pub halts_starts : (number : ℕ) (object : AnyObject N H) → IsStarts object → halted_one number object ≡ number ∷ []
+  halts_starts number (objects.Starts o) is = refl
+  halts_starts number object is = absurd is
 
   pub halts_part : (number : ℕ) (object : AnyObject N H) → HasWord words.Pool object → halted_one number object ≡ number ∷ []
   halts_part number objects.Shared is = absurd is

@@ -146,6 +146,7 @@ module _ (plan : Plan) (history : List SharedEntry) (journals : List (List Objec
     stops = all.objects.stops;
     journals = all.objects.each;
     parts = all.objects.parts;
+    starts = all.objects.starts;
     once = once;
     fronts = record { rises = rises; own = own; made = made };
   }

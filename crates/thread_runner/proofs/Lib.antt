@@ -5,6 +5,7 @@ pub mod Explaining
 pub mod Hiring
 pub mod ItemLists
 pub mod Joining
+pub mod LastObject
 pub mod LineSteps
 pub mod Made
 pub mod NameTables
@@ -21,4 +22,5 @@ pub mod HaltLemmas
 pub mod PoolLooks
 pub mod Slots
 pub mod Tries
+pub mod WholeLines
 pub mod Working

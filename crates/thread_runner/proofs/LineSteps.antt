@@ -1,5 +1,5 @@
 -- A worker's line, call by call.
-use Rattle.std.proofs.Common.{◌≡◌, ℕ, ◌+◌, List, [], ◌∷◌, ◌++◌, length, drop, map, All, refl, sym, ap, ◌∙◌, subst, arith, Ok, Err}
+use Rattle.std.proofs.Common.{◌≡◌, ℕ, ◌+◌, List, [], ◌∷◌, ◌++◌, length, drop, map, refl, sym, ap, ◌∙◌, subst, arith, Ok, Err}
 use Rattle.std.specs.List.{flat_map}
 use Rattle.std.proofs.lemmas.List.{append-nil, append_assoc, map_push, length-append}
 use Rattle.sync_model.specs.declared.answer.Answer.TheVariants.{Done, Halted}
@@ -11,11 +11,10 @@ use Rattle.sync_types.specs.declared.misuse.Misuse.{Misuse}
 use Rattle.workload.specs.Plan.{Plan}
 use Rattle.run_record.specs.declared.made.Made.{Made}
 use Rattle.run_record.specs.Calls.{SpellsCall}
-use Rattle.run_record.specs.Halts.{entered_on, halted_numbers}
-use Rattle.run_record.specs.Lines.{Line, SpeltCall, whole, misused, halted, AreSpelt, IsHalt}
+use Rattle.run_record.specs.Lines.{SpeltCall, AreSpelt}
 use Rattle.run_record.specs.Record.{shared_in}
 use Rattle.thread_objects.specs.Working.{Desk, Moves, Works}
-use Rattle.thread_runner.specs.DidLines.{DidLine, Went}
+use Rattle.thread_runner.specs.DidLines.{MadeCalls, Went}
 
 -- what two lists of items do, one after the other, both do
 abbrev pub Joins : Type 0
@@ -47,9 +46,6 @@ abbrev pairs_in : List SpeltCall → List (Call × Reply ℕ)
 pairs_in spelt = map (λ s. (s.call, s.reply)) spelt
 
 module _ (plan : Plan) (worker : ℕ) (script : List Call) (old : Desk) (none : old.calls ≡ []) where
-  abbrev DidLineOf : List Call → List (Reply ℕ) → Desk → Desk → Type 0
-  DidLineOf calls replies from to = (line : Line) × DidLine plan worker calls replies from to line
-
   -- nothing is done yet
   pub begun : Moves old [] old → Went plan worker script 0 [] old old
   begun rests = record { spelt = []; are = tt; calls = refl; answers = refl; moves = rests }
@@ -83,45 +79,41 @@ module _ (plan : Plan) (worker : ℕ) (script : List Call) (old : Desk) (none : 
           moves = subst (λ (l : List Made). Moves old l new) (sym (items_push went.spelt one)) (all_moves works.items works.moves);
         }
 
-    -- a call that is a misuse, and the halts by it
-    pub ends_misused : (misuse : Misuse) (items halts : List Made) (last : Desk) → SpellsCall plan worker (length now.calls) call items (Done (Err misuse)) → Moves now items new → Moves new halts last
-        → All (IsHalt misuse) halts → entered_on halts ≡ halted_numbers plan → DidLineOf script replies old last
-    ends_misused misuse items halts last spelt first second are order = (
-      record { spelt = went.spelt; last = items; halts = halts; rest = call ∷ drop (place + 1) script; ending = misused misuse },
-      record {
-        is = record { calls = went.are; ends = spelt_here items (Done (Err misuse)) spelt; halts = are };
-        calls = next_is;
-        answers = went.answers;
-        ended = tt;
-        halts = order;
-        moves = subst (λ (l : List Made). Moves old l last) (append_assoc (items_in went.spelt) items halts) (joins old new last (items_in went.spelt ++ items) halts (all_moves items first) second);
-      },
-    )
+    -- a call that is a misuse is the last one
+    pub ends_misused : (misuse : Misuse) → Works (SpellsCall plan worker (length now.calls) call) now (Done (Err misuse)) new → MadeCalls plan worker script replies old (Done (Err misuse)) new
+    ends_misused misuse works = record {
+      spelt = went.spelt;
+      last = works.items;
+      rest = call ∷ drop (place + 1) script;
+      are = went.are;
+      calls = next_is;
+      answers = went.answers;
+      end = spelt_here works.items (Done (Err misuse)) works.spelt;
+      moves = all_moves works.items works.moves;
+    }
 
-    -- a call that met a halt
-    pub ends_halted : (misuse : Misuse) → Works (SpellsCall plan worker (length now.calls) call) now (Halted misuse) new → DidLineOf script replies old new
-    ends_halted misuse works = (
-      record { spelt = went.spelt; last = works.items; halts = []; rest = call ∷ drop (place + 1) script; ending = halted misuse },
-      record {
-        is = record { calls = went.are; ends = spelt_here works.items (Halted misuse) works.spelt; halts = refl };
-        calls = next_is;
-        answers = went.answers;
-        ended = tt;
-        halts = refl;
-        moves = subst (λ (l : List Made). Moves old (items_in went.spelt ++ l) new) (sym (append-nil works.items)) (all_moves works.items works.moves);
-      },
-    )
+    -- and so is one that met a halt
+    pub ends_halted : (misuse : Misuse) → Works (SpellsCall plan worker (length now.calls) call) now (Halted misuse) new → MadeCalls plan worker script replies old (Halted misuse) new
+    ends_halted misuse works = record {
+      spelt = went.spelt;
+      last = works.items;
+      rest = call ∷ drop (place + 1) script;
+      are = went.are;
+      calls = next_is;
+      answers = went.answers;
+      end = spelt_here works.items (Halted misuse) works.spelt;
+      moves = all_moves works.items works.moves;
+    }
 
   -- the end of the script
-  pub ends_whole : (replies : List (Reply ℕ)) (now : Desk) (place : ℕ) → drop place script ≡ [] → Went plan worker script place replies old now → DidLineOf script replies old now
-  ends_whole replies now place past went = (
-    record { spelt = went.spelt; last = []; halts = []; rest = []; ending = whole },
-    record {
-      is = record { calls = went.are; ends = (refl, refl); halts = refl };
-      calls = subst (RunsAlong script (pairs_in went.spelt)) past went.calls;
-      answers = went.answers;
-      ended = tt;
-      halts = refl;
-      moves = subst (λ (l : List Made). Moves old l now) (sym (append-nil (items_in went.spelt))) went.moves;
-    },
-  )
+  pub ends_whole : (replies : List (Reply ℕ)) (now : Desk) (place : ℕ) → drop place script ≡ [] → Went plan worker script place replies old now → MadeCalls plan worker script replies old (Done (Ok tt)) now
+  ends_whole replies now place past went = record {
+    spelt = went.spelt;
+    last = [];
+    rest = [];
+    are = went.are;
+    calls = subst (RunsAlong script (pairs_in went.spelt)) past went.calls;
+    answers = went.answers;
+    end = (refl, refl);
+    moves = subst (λ (l : List Made). Moves old l now) (sym (append-nil (items_in went.spelt))) went.moves;
+  }

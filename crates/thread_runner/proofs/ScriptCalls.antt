@@ -62,14 +62,14 @@ module _ (plan : Plan) (worker : ℕ) (call : Call) (scripted : IsScripted plan 
   pub on_object : is_valid plan ≡ true → is_on plan.objects (slice_get plan.objects call.object) call ≡ true
   on_object valid =
       let on = list_all (list_all (λ (c : Call). is_on plan.objects (slice_get plan.objects c.object) c)) plan.scripts in
-      let rest = list_all (is_turn plan.workers) plan.schedule && list_all (λ (o : ObjectLine). refers plan.objects o.kind) plan.objects in
+      let rest = list_all (is_turn plan.workers) plan.schedule && (list_all (λ (o : ObjectLine). refers plan.objects o.kind) plan.objects && (length plan.dormant == plan.workers)) in
       of_each (λ c. is_on plan.objects (slice_get plan.objects c.object) c) (and_parts on rest (and_parts (length plan.scripts == plan.workers) (on && rest) valid).1).0
 
   -- it is a worker of the run
   pub worker_within : is_valid plan ≡ true → worker < plan.workers
   worker_within valid =
       let on = list_all (list_all (λ (c : Call). is_on plan.objects (slice_get plan.objects c.object) c)) plan.scripts in
-      let rest = list_all (is_turn plan.workers) plan.schedule && list_all (λ (o : ObjectLine). refers plan.objects o.kind) plan.objects in
+      let rest = list_all (is_turn plan.workers) plan.schedule && (list_all (λ (o : ObjectLine). refers plan.objects o.kind) plan.objects && (length plan.dormant == plan.workers)) in
       omega (arith, slice_get_within plan.scripts worker found.0 found.1, eqb-true (length plan.scripts) plan.workers (and_parts (length plan.scripts == plan.workers) (on && rest) valid).0)
 
   pub in_range : IsReadable plan → is_call call ≡ true
@@ -85,7 +85,9 @@ refers_at plan place line valid at =
     let on = list_all (list_all (λ (c : Call). is_on plan.objects (slice_get plan.objects c.object) c)) plan.scripts in
     let turns = list_all (is_turn plan.workers) plan.schedule in
     let refer = list_all (λ (o : ObjectLine). refers plan.objects o.kind) plan.objects in
-    all_at (λ (o : ObjectLine). refers plan.objects o.kind) plan.objects place line (and_parts turns refer (and_parts on (turns && refer) (and_parts count (on && (turns && refer)) valid).1).1).1 at
+    let dormant = length plan.dormant == plan.workers in
+    let all = and_parts turns (refer && dormant) (and_parts on (turns && (refer && dormant)) (and_parts count (on && (turns && (refer && dormant))) valid).1).1 in
+    all_at (λ (o : ObjectLine). refers plan.objects o.kind) plan.objects place line (and_parts refer dormant all.1).0 at
 
 -- one of the names has a place among them
 position_of : (p : List ℕ → Bool) (from : ℕ) (names : List (List ℕ)) → list_any p names ≡ true → (n : ℕ) × (position_from p from names ≡ Some n)

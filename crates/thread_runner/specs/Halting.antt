@@ -21,7 +21,7 @@ halted_one number object = number ∷ []
 abbrev pub halting : Misuse → List ℕ → Part (Unit {0})
 halting misuse numbers items answer = AllByRecursion (IsHalt misuse) items × (entered_on items ≡ numbers) × (answer ≡ Done (Ok tt))
 
--- A worker halts by this misuse Stop first, and then each object of the workload in order of declaration, the parts of a pool in order at its place.
+-- A worker halts by this misuse Stop first, Starts next, where there is one, and then each object of the workload in order of declaration, the parts of a pool in order at its place.
 pub record HaltsAll (plan : Plan) (misuse : Misuse) (old new : Desk) : Type 0 where
   pub items : List Made
   pub moves : Moves old items new

@@ -1,7 +1,7 @@
 //! The objects of a run, and dealing their passes to the workers.
 ghost use Rattle.std.specs.Prelude.{◌≡◌, ℕ, ◌+◌, ◌<◌, ◌≤◌, IfOk, List, [], length, get_or, map, Some, slice_get};
 ghost use Rattle.sync_model.specs.Note.{SameHome};
-ghost use Rattle.run_record.specs.Objects.{first_part, object_count};
+ghost use Rattle.run_record.specs.Objects.{first_part, object_count, starts_number};
 ghost use Rattle.run_record.specs.Record.{object_number};
 ghost use Rattle.thread_objects.specs.AsDeclared.{AreDeclared};
 ghost use Rattle.thread_objects.specs.Catalog.{IsAt};
@@ -15,7 +15,8 @@ use run_record::laws::numbers::parts_have_numbers_of_their_own;
 use std::alloc::{AllocError, Global};
 use sync_model::{Caller, Note};
 use thread_objects::{
-    AnyColumn, AnyObject, AnyPass, Crew, deal_row, make_object, make_part, make_stop, put_row,
+    AnyColumn, AnyObject, AnyPass, Crew, deal_row, make_object, make_part, make_starts, make_stop,
+    put_row,
 };
 use workload::{ObjectKind, Workload};
 
@@ -59,7 +60,7 @@ fn make_pools<N: Note>(
     requires note { N.at crew.now.home.now note.old }
     requires made { AreMade N.at crew.now.home.now crew.now.workers workload.now (object_number (length workload.now.objects)) objects.old.items columns.old.items }
     ensures note { SameHome N.at note.old note.new × (N.own note.new ≡ N.own note.old) × (N.front note.new ≡ N.front note.old) }
-    ensures made { IfOk result (λ done. AreMade N.at crew.now.home.now crew.now.workers workload.now (object_count workload.now) objects.new.items columns.new.items) }
+    ensures made { IfOk result (λ done. AreMade N.at crew.now.home.now crew.now.workers workload.now (starts_number workload.now) objects.new.items columns.new.items) }
 {
     parts_have_numbers_of_their_own();
     let _workers = workload.workers();
@@ -71,8 +72,33 @@ fn make_pools<N: Note>(
     Ok(())
 }
 
-/// Stop, the objects that the workload declares, and the parts of its pools, with the passes of all workers. Each object keeps a copy
-/// of the note.
+// Starts, behind the parts of all pools, where some workers wait to be started.
+fn make_last<N: Note>(
+    alloc: Global,
+    crew: &Crew<N>,
+    workload: &Workload,
+    note: &mut N,
+    objects: &mut Vec<AnyObject<N>>,
+    columns: &mut Vec<AnyColumn<N>>,
+) -> Result<(), AllocError>
+    requires workers { crew.now.workers ≡ workload.now.workers }
+    requires note { N.at crew.now.home.now note.old }
+    requires made { AreMade N.at crew.now.home.now crew.now.workers workload.now (starts_number workload.now) objects.old.items columns.old.items }
+    ensures note { SameHome N.at note.old note.new × (N.own note.new ≡ N.own note.old) × (N.front note.new ≡ N.front note.old) }
+    ensures made { IfOk result (λ done. AreMade N.at crew.now.home.now crew.now.workers workload.now (object_count workload.now) objects.new.items columns.new.items) }
+{
+    parts_have_numbers_of_their_own();
+    if !workload.has_dormant() {
+        return Ok(());
+    }
+    let (object, passes) = make_starts(alloc, crew, workload, note.copy(crew.home))?;
+    objects.push(object)?;
+    columns.push(passes)?;
+    Ok(())
+}
+
+/// Stop, the objects that the workload declares, the parts of its pools, and Starts where some workers wait to be started, with the
+/// passes of all workers. Each object keeps a copy of the note.
 pub(crate) fn make_objects<N: Note>(
     alloc: Global,
     crew: &Crew<N>,
@@ -99,6 +125,7 @@ pub(crate) fn make_objects<N: Note>(
         columns.push_reserved(passes);
     }
     make_pools(alloc, crew, workload, note, &mut objects, &mut columns)?;
+    make_last(alloc, crew, workload, note, &mut objects, &mut columns)?;
     Ok((objects, columns))
 }
 

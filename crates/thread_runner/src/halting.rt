@@ -4,7 +4,7 @@ ghost use Rattle.std.specs.List.{range_with_len};
 ghost use Rattle.sync_model.specs.declared.answer.Answer.TheVariants.{Done};
 ghost use Rattle.workload.specs.declared.object.ObjectLine.{ObjectLine};
 ghost use Rattle.ruled_object.specs.Growth.{KeepsNote};
-ghost use Rattle.run_record.specs.Halts.{halted_at};
+ghost use Rattle.run_record.specs.Halts.{halted_at, halted_starts};
 ghost use Rattle.run_record.specs.Objects.{first_part};
 ghost use Rattle.thread_objects.specs.Working.{Works, desk_with};
 ghost use Rattle.thread_objects.specs.AsDeclared.{AreDeclared};
@@ -18,7 +18,9 @@ use std::sync::Wait;
 use sync_model::Note;
 use sync_outside::Clock;
 use sync_types::Misuse;
-use thread_objects::laws::{objects_are_of_their_kinds, stop_is_the_first_object};
+use thread_objects::laws::{
+    objects_are_of_their_kinds, starts_is_the_last_object, stop_is_the_first_object,
+};
 use thread_objects::parts::laws::{a_note_counts_its_calls, moves};
 use thread_objects::{AnyObject, AnyPass, Worker, halt_any};
 use workload::{ObjectKind, Workload};
@@ -120,7 +122,34 @@ fn halt_declared<N: Note, C: Clock, R: Wait>(
     }
 }
 
-/// Halts a run by a misuse: Stop first, and then each object in order of declaration, a pool's parts at its place, from part 0 up.
+// Halts Starts by a misuse, where some workers wait to be started.
+fn halt_starts<N: Note, C: Clock, R: Wait>(
+    rt: &R,
+    worker: &Worker<N, C>,
+    workload: &Workload,
+    objects: &[AnyObject<N>],
+    passes: &mut [AnyPass<N>],
+    note: &mut N,
+    misuse: Misuse,
+)
+    requires declared { AreDeclared N.at worker.now.at.home.now workload.now objects.now }
+    requires seats { AreSeats N.at worker.now.at.home.now worker.now.workers worker.now.number objects.now passes.old }
+    requires note { N.at worker.now.at.home.now note.old }
+    ensures seats { AreSeats N.at worker.now.at.home.now worker.now.workers worker.now.number objects.now passes.new }
+    ensures note { KeepsNote N.at N.own N.front note.old note.new }
+    ensures halted { Works (halting misuse (halted_starts workload.now)) (desk_with N.own N.front (owns_of passes.old) note.old) (Done (Ok tt)) (desk_with N.own N.front (owns_of passes.new) note.new) }
+{
+    moves();
+    starts_is_the_last_object::<N>();
+    if !workload.has_dormant() {
+        return;
+    }
+    let number = objects.len() - 1;
+    halt_at(rt, worker, objects, passes, note, misuse, number);
+}
+
+/// Halts a run by a misuse: Stop first, Starts next, where some workers wait to be started, and then each object in order of
+/// declaration, a pool's parts at its place, from part 0 up.
 /// Maps and atomics are left as they are. It wakes all who sleep at an object, and waits for nobody.
 pub(crate) fn halt_all<N: Note, C: Clock, R: Wait>(
     rt: &R,
@@ -144,6 +173,7 @@ pub(crate) fn halt_all<N: Note, C: Clock, R: Wait>(
     let _count = objects.len();
     let lines = workload.objects().len();
     halt_at(rt, worker, objects, passes, note, misuse, STOP);
+    halt_starts(rt, worker, workload, objects, passes, note, misuse);
     let mut first = lines + 1;
     for place in 0..lines {
         first = halt_declared(

@@ -16,6 +16,7 @@ mod hire;
 mod job;
 mod key_order;
 mod numbering;
+mod opening;
 mod placed_calls;
 mod pool;
 mod run;

@@ -1,5 +1,5 @@
-//! A worker's script, call by call.
-ghost use Rattle.std.specs.Prelude.{◌≡◌, ℕ, ◌<◌, ◌≤◌, ◌^◌, [], ◌⊎◌, get_or, length, Some, vec_len, All, Ok, Err};
+//! A worker's script, call by call, and what is done before and behind it.
+ghost use Rattle.std.specs.Prelude.{◌≡◌, ℕ, ◌<◌, ◌≤◌, ◌^◌, [], ◌⊎◌, get_or, length, Some, vec_len, All, Ok, Err, IfSome, IfNone};
 ghost use Rattle.std.specs.Option.{ForSome};
 ghost use Rattle.sync_model.specs.Shared.{IsCallerAt, IsHeldBy, items_of};
 ghost use Rattle.workload.specs.Keys.{keys_in};
@@ -10,21 +10,118 @@ ghost use Rattle.thread_objects.specs.GivenUp.{GaveUp};
 ghost use Rattle.thread_objects.specs.Passes.{owns_of};
 ghost use Rattle.thread_runner.specs.Sites.{IsSite, AreRooms, cost_of_calls, ranges_in_calls};
 ghost use Rattle.thread_objects.specs.Working.{desk_with};
-ghost use Rattle.thread_runner.specs.DidLines.{DidLine, IsFresh};
+ghost use Rattle.thread_runner.specs.DidLines.{DidLine, IsFresh, MadeCalls, WentThrough};
 
 use crate::dispatch::make_call;
 use crate::halting::halt_all;
+use crate::opening::{closes, opens};
 use crate::site::Site;
 use script_calls::Reply;
 use script_calls::laws::{a_run_goes_along_by_places, runs_go_on};
 use std::sync::Wait;
 use sync_model::{Answer, Caller, Note, Shared};
 use sync_outside::{Clock, Gate};
-use sync_types::BoundedSeq;
+use sync_types::{BoundedSeq, Misuse};
 use thread_objects::parts::laws::moves;
 use thread_objects::{AnyPass, Worker};
 
-/// Makes the calls of a worker's script in order, but those that a reply passes over, with the gate before and behind each. A misuse
+// Makes the calls of a worker's script in order, but those that a reply passes over, with the gate before and behind each. The first
+// that is a misuse or meets a halt is the last one, and its answer is this one's. `None`, where a call was given up.
+fn make_calls<S: Shared, C: Clock, G: Gate, R: Wait>(
+    rt: &R,
+    site: &Site<S>,
+    worker: &Worker<S::Mark, C>,
+    gate: &G,
+    caller: &mut Caller<S::Mark>,
+    passes: &mut [AnyPass<S::Mark>],
+    replies: &mut BoundedSeq<Reply<u32>>,
+    rooms: &mut Vec<BoundedSeq<(u32, u64)>>,
+) -> Option<Answer<Result<(), Misuse>>>
+    requires number { worker.now.number < site.now.catalog.workload.now.workers }
+    requires site { IsSite S.Mark.at worker.now.at.home.now site.now.catalog.workload.now (S.maps site.now.catalog.shared.now) (S.kinds site.now.catalog.shared.now) (S.takes site.now.catalog.shared.now) site.now.objects.now site.now.catalog.numbers.now }
+    requires homes { S.home_of site.now.catalog.shared.now ≡ worker.now.at.home.now }
+    requires workers { site.now.catalog.workload.now.workers ≡ worker.now.workers }
+    requires seats { AreSeats S.Mark.at worker.now.at.home.now worker.now.workers worker.now.number site.now.objects.now passes.old }
+    requires caller { IsCallerAt S.Mark.at S.Mark.own worker.now.at.home.now caller.old }
+    requires spare { ForSome (S.Mark.own caller.old.note) (λ holding. cost_of_calls (get_or site.now.catalog.workload.now.scripts worker.now.number []) ≤ holding.spare) }
+    requires none { items_of (S.Mark.own caller.old.note) ≡ [] }
+    requires few { length (get_or site.now.catalog.workload.now.scripts worker.now.number []) < 2 ^ 32 }
+    requires rooms { AreRooms (length (keys_in site.now.catalog.workload.now.scripts)) rooms.old.items }
+    requires enough { ranges_in_calls (get_or site.now.catalog.workload.now.scripts worker.now.number []) ≤ vec_len rooms.old }
+    requires replies { (replies.old.items ≡ []) × (length (get_or site.now.catalog.workload.now.scripts worker.now.number []) ≤ replies.old.room) }
+    ensures seats { AreSeats S.Mark.at worker.now.at.home.now worker.now.workers worker.now.number site.now.objects.now passes.new }
+    ensures caller { IsCallerAt S.Mark.at S.Mark.own worker.now.at.home.now caller.new }
+    ensures held { (c : ℕ) → IsHeldBy c (S.Mark.own caller.old.note) → IsHeldBy c (S.Mark.own caller.new.note) }
+    ensures calls { All (λ x. IsCallOf site.now.catalog.workload.now x.call) (items_of (S.Mark.own caller.new.note)) }
+    ensures given_up { IfNone result (GaveUp site.now.catalog.workload.now (items_of (S.Mark.own caller.new.note))) }
+    ensures made { IfSome result (λ answer. MadeCalls site.now.catalog.workload.now worker.now.number (get_or site.now.catalog.workload.now.scripts worker.now.number []) replies.new.items
+        (desk_with S.Mark.own S.Mark.front (owns_of passes.old) caller.old.note) answer (desk_with S.Mark.own S.Mark.front (owns_of passes.new) caller.new.note)) }
+{
+    moves();
+    a_run_goes_along_by_places();
+    runs_go_on::<u32>();
+    let script = site.catalog.workload.script(worker.number);
+    let mut place = 0;
+    while place < script.len() {
+        gate.before(rt, worker.number, place as u32);
+        let call = &script[place];
+        let answer = make_call(rt, site, worker, caller, passes, rooms, call);
+        gate.after(rt, worker.number, place as u32);
+        match answer {
+            None => return None,
+            Some(Answer::Done(Ok(reply))) => {
+                place += 1 + call.passed_over(&reply);
+                replies.push(reply);
+            }
+            Some(Answer::Done(Err(misuse))) => return Some(Answer::Done(Err(misuse))),
+            Some(Answer::Halted(misuse)) => return Some(Answer::Halted(misuse)),
+        }
+    }
+    Some(Answer::Done(Ok(())))
+}
+
+// Makes the calls of a worker's script, and closes it at its end.
+fn go_through<S: Shared, C: Clock, G: Gate, R: Wait>(
+    rt: &R,
+    site: &Site<S>,
+    worker: &Worker<S::Mark, C>,
+    gate: &G,
+    caller: &mut Caller<S::Mark>,
+    passes: &mut [AnyPass<S::Mark>],
+    replies: &mut BoundedSeq<Reply<u32>>,
+    rooms: &mut Vec<BoundedSeq<(u32, u64)>>,
+) -> Option<Answer<Result<(), Misuse>>>
+    requires number { worker.now.number < site.now.catalog.workload.now.workers }
+    requires site { IsSite S.Mark.at worker.now.at.home.now site.now.catalog.workload.now (S.maps site.now.catalog.shared.now) (S.kinds site.now.catalog.shared.now) (S.takes site.now.catalog.shared.now) site.now.objects.now site.now.catalog.numbers.now }
+    requires homes { S.home_of site.now.catalog.shared.now ≡ worker.now.at.home.now }
+    requires workers { site.now.catalog.workload.now.workers ≡ worker.now.workers }
+    requires seats { AreSeats S.Mark.at worker.now.at.home.now worker.now.workers worker.now.number site.now.objects.now passes.old }
+    requires caller { IsCallerAt S.Mark.at S.Mark.own worker.now.at.home.now caller.old }
+    requires spare { ForSome (S.Mark.own caller.old.note) (λ holding. cost_of_calls (get_or site.now.catalog.workload.now.scripts worker.now.number []) ≤ holding.spare) }
+    requires none { items_of (S.Mark.own caller.old.note) ≡ [] }
+    requires few { length (get_or site.now.catalog.workload.now.scripts worker.now.number []) < 2 ^ 32 }
+    requires rooms { AreRooms (length (keys_in site.now.catalog.workload.now.scripts)) rooms.old.items }
+    requires enough { ranges_in_calls (get_or site.now.catalog.workload.now.scripts worker.now.number []) ≤ vec_len rooms.old }
+    requires replies { (replies.old.items ≡ []) × (length (get_or site.now.catalog.workload.now.scripts worker.now.number []) ≤ replies.old.room) }
+    ensures seats { AreSeats S.Mark.at worker.now.at.home.now worker.now.workers worker.now.number site.now.objects.now passes.new }
+    ensures caller { IsCallerAt S.Mark.at S.Mark.own worker.now.at.home.now caller.new }
+    ensures held { (c : ℕ) → IsHeldBy c (S.Mark.own caller.old.note) → IsHeldBy c (S.Mark.own caller.new.note) }
+    ensures calls { All (λ x. IsCallOf site.now.catalog.workload.now x.call) (items_of (S.Mark.own caller.new.note)) }
+    ensures given_up { IfNone result (GaveUp site.now.catalog.workload.now (items_of (S.Mark.own caller.new.note))) }
+    ensures went { IfSome result (λ answer. WentThrough site.now.catalog.workload.now worker.now.number (get_or site.now.catalog.workload.now.scripts worker.now.number []) replies.new.items
+        (desk_with S.Mark.own S.Mark.front (owns_of passes.old) caller.old.note) answer (desk_with S.Mark.own S.Mark.front (owns_of passes.new) caller.new.note)) }
+{
+    moves();
+    match make_calls(rt, site, worker, gate, caller, passes, replies, rooms) {
+        None => None,
+        Some(Answer::Done(Ok(()))) => Some(closes(rt, site, worker, passes, &mut caller.note)),
+        Some(Answer::Done(Err(misuse))) => Some(Answer::Done(Err(misuse))),
+        Some(Answer::Halted(misuse)) => Some(Answer::Halted(misuse)),
+    }
+}
+
+/// Makes the calls of a worker's script in order, but those that a reply passes over, with the gate before and behind each. Where some
+/// workers wait to be started, one that does comes to its script once it was started, and each that comes to its end says so. A misuse
 /// halts Stop, and then every object, and ends the worker, as a halt does that it meets. A call that answers nothing ends it too:
 /// none does, as is known once all workers have ended.
 pub(crate) fn run_script<S: Shared, C: Clock, G: Gate, R: Wait>(
@@ -58,34 +155,24 @@ pub(crate) fn run_script<S: Shared, C: Clock, G: Gate, R: Wait>(
         ⊎ GaveUp site.now.catalog.workload.now (items_of (S.Mark.own caller.new.note)) }
 {
     moves();
-    a_run_goes_along_by_places();
-    runs_go_on::<u32>();
-    let script = site.catalog.workload.script(worker.number);
-    let mut place = 0;
-    while place < script.len() {
-        gate.before(rt, worker.number, place as u32);
-        let call = &script[place];
-        let answer = make_call(rt, site, worker, caller, passes, rooms, call);
-        gate.after(rt, worker.number, place as u32);
-        match answer {
-            None => return,
-            Some(Answer::Done(Ok(reply))) => {
-                place += 1 + call.passed_over(&reply);
-                replies.push(reply);
-            }
-            Some(Answer::Done(Err(misuse))) => {
-                halt_all(
-                    rt,
-                    worker,
-                    site.catalog.workload,
-                    site.objects,
-                    passes,
-                    &mut caller.note,
-                    misuse,
-                );
-                return;
-            }
-            Some(Answer::Halted(_misuse)) => return,
-        }
+    match opens(rt, site, worker, passes, &mut caller.note) {
+        Answer::Done(Ok(true)) => {}
+        Answer::Done(Ok(false)) => return,
+        Answer::Done(Err(_misuse)) => unreachable!(),
+        Answer::Halted(_misuse) => return,
+    }
+    match go_through(rt, site, worker, gate, caller, passes, replies, rooms) {
+        None => {}
+        Some(Answer::Done(Ok(()))) => {}
+        Some(Answer::Done(Err(misuse))) => halt_all(
+            rt,
+            worker,
+            site.catalog.workload,
+            site.objects,
+            passes,
+            &mut caller.note,
+            misuse,
+        ),
+        Some(Answer::Halted(_misuse)) => {}
     }
 }

@@ -13,7 +13,8 @@ use workload::{ObjectKind, Workload};
 pub(crate) struct Site<'a, S: Shared> {
     /// The workload that is run, and its maps and atomics.
     pub catalog: Catalog<'a, S>,
-    /// Stop, behind it the workload's other objects in order of declaration, and behind these the parts of its pools.
+    /// Stop, behind it the workload's other objects in order of declaration, behind these the parts of its pools, and behind all Starts,
+    /// where some workers wait to be started.
     pub objects: &'a [AnyObject<S::Mark>],
 }
 

@@ -36,4 +36,4 @@ make_pools-requires-clause-made g c =
     subst (λ n. AreMade g.N.Note.at c.args.crew.now.home.now c.args.crew.now.workers c.args.workload.now (n + 1) c.loop-place.objects.items c.loop-place.columns.items) all c.loop-place.invariant.made
 
 pub returns-clause-nothing : goal.returns-clause-nothing
-returns-clause-nothing g c = all_nothing g.N.Note.at c.args.crew.now.home.now c.args.crew.now.workers c.args.workload.now _ _ c.in_ok-make_pools.ensures.made
+returns-clause-nothing g c = all_nothing g.N.Note.at c.args.crew.now.home.now c.args.crew.now.workers c.args.workload.now _ _ c.in_ok-make_last.ensures.made

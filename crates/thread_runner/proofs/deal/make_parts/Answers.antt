@@ -24,7 +24,7 @@ loop-part-preserved g c =
     let line = c.requires.place in
     let some = some_parts (is_pool c.args.kind) workers part (omega (arith, c.loop-part-test.true, c.parts_of-part-end.ensures)) in
     let pool = line.2 ∙ of_pool c.args.kind some.0 in
-    let numbered = at_part at home workers plan (c.parts_have_numbers_of_their_own.ensures.apart plan) c.args.place part line.0 c.in_ok-object.object line.1 pool (omega (arith, some.1, c.requires.workers)) c.in_ok-object.ensures.part in
+    let numbered = at_part at home workers plan (c.parts_have_numbers_of_their_own.ensures.apart plan) (c.parts_have_numbers_of_their_own.ensures.within plan) c.args.place part line.0 c.in_ok-object.object line.1 pool (omega (arith, some.1, c.requires.workers)) c.in_ok-object.ensures.part in
     let more = next_made at home workers plan count c.loop-part.objects.items c.loop-part.columns.items c.in_ok-object.object c.in_ok-object.passes (omega arith) c.loop-part.invariant.made numbered c.in_ok-object.ensures.column c.in_ok-object.ensures.untouched in
     let next : count + 1 ≡ first_part plan c.args.place + (part + 1) = omega arith in
     record {

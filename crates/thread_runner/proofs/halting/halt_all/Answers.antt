@@ -1,9 +1,9 @@
 use Rattle.std.proofs.Common.{◌+◌, List, [], ◌∷◌, length, take, ap, arith}
 use Rattle.std.proofs.lemmas.Option.{slice_get_within}
 use Rattle.workload.specs.declared.object.ObjectLine.{ObjectLine}
-use Rattle.run_record.specs.Halts.{halted_at, halted_with_stop}
+use Rattle.run_record.specs.Halts.{halted_at, halted_starts, halted_with_stop}
 use Rattle.run_record.specs.Record.{stop}
-use Rattle.thread_runner.proofs.HaltLemmas.{all_halted, halted_more, halts_as, halts_on, halts_stop, line_at}
+use Rattle.thread_runner.proofs.HaltLemmas.{all_halted, halted_more, halted_none, halts_as, halts_on, halts_stop, line_at}
 use Rattle.thread_runner.proofs.Working.{keeps_on}
 use Rattle.thread_runner.proofs.halting.halt_all.Goals as goal
 
@@ -12,14 +12,19 @@ halt_at-requires-clause-there g c =
     let found = c.stop_is_the_first_object.ensures c.args.worker.now.at.home.now c.args.workload.now c.args.objects.now c.requires.declared in
     slice_get_within c.args.objects.now stop found.0 found.1
 
+pub halt_starts-requires-clause-note : goal.halt_starts-requires-clause-note
+halt_starts-requires-clause-note g c = c.halt_at.ensures.note.home _ c.requires.note
+
 pub loop-place-init : goal.loop-place-init
 loop-place-init g c =
+    let plan = c.args.workload.now in
     let found = c.stop_is_the_first_object.ensures c.args.worker.now.at.home.now c.args.workload.now c.args.objects.now c.requires.declared in
     record {
-      seats = c.halt_at.ensures.seats;
-      note = c.halt_at.ensures.note;
+      seats = c.halt_starts.ensures.seats;
+      note = keeps_on g.N.Note.at g.N.Note.own g.N.Note.front _ _ _ c.halt_at.ensures.note c.halt_starts.ensures.note;
       next = omega (arith, ap (λ (l : List ObjectLine). length l) c.objects-lines.ensures.objects);
-      halted = halts_as c.args.misuse _ (stop ∷ []) _ _ (halts_stop stop found.0 found.2) (c.halt_at.ensures.halted found.0 found.1);
+      halted = halts_as c.args.misuse _ (halted_with_stop plan []) _ _ (halted_none plan)
+          (halts_on c.moves.ensures.joined c.args.misuse (stop ∷ []) (halted_starts plan) _ _ _ (halts_as c.args.misuse _ (stop ∷ []) _ _ (halts_stop stop found.0 found.2) (c.halt_at.ensures.halted found.0 found.1)) c.halt_starts.ensures.halted);
     }
 
 pub halt_declared-first-requires-clause-note : goal.halt_declared-first-requires-clause-note

@@ -2,7 +2,7 @@ use Rattle.std.proofs.Common.{◌-◌, get_or, length, []}
 use Rattle.thread_objects.specs.Passes.{owns_of}
 use Rattle.thread_objects.specs.Working.{desk_with}
 use Rattle.thread_runner.proofs.ScriptLoop.{AtCall}
-use Rattle.thread_runner.proofs.script.run_script.Given as goal
+use Rattle.thread_runner.proofs.script.make_calls.Given as goal
 
 abbrev pub invariant-loop-place : goal.invariant-loop-place
 invariant-loop-place g l =

@@ -1,0 +1,216 @@
+-- A worker's line, from what stands before its script, what it did of it, and what stands behind it.
+use Rattle.std.proofs.Common.{◌≡◌, ℕ, zero, suc, Bool, true, false, cond, List, [], ◌∷◌, ◌++◌, length, get_or, map, refl, sym, ap, ◌∙◌, subst, Ok, Err}
+use Rattle.std.specs.List.{flat_map, list_any}
+use Rattle.std.proofs.lemmas.List.{append-nil, append_assoc}
+use Rattle.script_calls.specs.declared.call.Call.{Call}
+use Rattle.script_calls.specs.declared.call.Reply.{Reply}
+use Rattle.script_calls.specs.Runs.{RunsAlong}
+use Rattle.starts_core.specs.declared.protocol.StartsOutcome.{StartsOutcome}
+use Rattle.starts_core.specs.declared.protocol.StartsStage.TheVariants as stage
+use Rattle.starts_core.specs.declared.starts.StartEvent.{StartEvent}
+use Rattle.starts_core.specs.declared.starts.StartReply.{StartReply}
+use Rattle.starts_core.specs.declared.starts.StartReply.TheVariants as told
+use Rattle.starts_core.specs.StartsStages.{starts_event, starts_meaning}
+use Rattle.sync_model.specs.declared.answer.Answer.TheVariants.{Done, Halted}
+use Rattle.sync_model.specs.declared.journal.Deed.{Deed}
+use Rattle.sync_model.specs.declared.journal.Deed.TheVariants.{Event, Refused, Halt}
+use Rattle.sync_types.specs.declared.misuse.Misuse.{Misuse}
+use Rattle.protocols.specs.Spelling.{CallAnswer, Spells}
+use Rattle.workload.specs.Plan.{Plan, is_dormant, has_dormant}
+use Rattle.run_record.specs.declared.made.Made.{Made}
+use Rattle.run_record.specs.Lines.{Line, SpeltCall, whole, misused, halted, stayed, never, stopped, EndsBy}
+use Rattle.run_record.specs.Objects.{starts_number}
+use Rattle.run_record.specs.Parts.{Part, returns, with_outcome}
+use Rattle.run_record.specs.Plain.{EndsPlainly}
+use Rattle.run_record.specs.StartsKind.{opening, closing, wait_start_part, end_part, starts_part, was_started}
+use Rattle.thread_objects.specs.Laws.{Stays, Joins}
+use Rattle.thread_objects.specs.Working.{Desk, Moves, Works}
+use Rattle.thread_runner.specs.DidLines.{DidLine, MadeCalls, WentThrough, ending_by}
+use Rattle.thread_runner.specs.Halting.{HaltsAll}
+use Rattle.thread_runner.proofs.Working.{rests}
+
+-- where one worker waits to be started, some do
+pub some_dormant : (dormant : List Bool) (worker : ℕ) → get_or dormant worker false ≡ true → list_any (λ waits. waits) dormant ≡ true
+some_dormant [] worker is = absurd cc
+some_dormant (true ∷ dormant) worker is = refl
+some_dormant (false ∷ dormant) zero is = absurd cc
+some_dormant (false ∷ dormant) (suc worker) is = some_dormant dormant worker is
+
+-- a worker that asks whether it was started is told of no misuse
+no_misuse_told : (misuse : Misuse) (deeds : List (Deed StartEvent StartReply)) → Spells starts_event starts_meaning stage.WaitStart deeds (Done (Err misuse)) → ⊥
+no_misuse_told misuse [] spelt = spelt
+no_misuse_told misuse (Event event told.Done ∷ rest) spelt = spelt.1
+no_misuse_told misuse (Event event told.Go ∷ rest) spelt = let is = spelt.1.1 in absurd cc
+no_misuse_told misuse (Event event told.Never ∷ rest) spelt = let is = spelt.1.1 in absurd cc
+no_misuse_told misuse (Event event told.Still ∷ rest) spelt = no_misuse_told misuse rest spelt.1
+no_misuse_told misuse (Refused event other ∷ rest) spelt = let is = spelt.2 in absurd cc
+no_misuse_told misuse (Halt other ∷ rest) spelt = spelt
+
+no_misuse_asked : (misuse : Misuse) (object : ℕ) (items : List Made) (given : CallAnswer StartsOutcome) → starts_part object stage.WaitStart items given → Done (Err misuse) ≡ with_outcome was_started given → ⊥
+no_misuse_asked misuse object items (Done (Ok outcome)) part same = absurd cc
+no_misuse_asked misuse object items (Done (Err other)) part same = no_misuse_told other (map (λ entry. entry.deed) part.0) part.2
+no_misuse_asked misuse object items (Halted other) part same = absurd cc
+
+module _ (plan : Plan) (worker : ℕ) where
+  -- what stands before a script is no misuse
+  pub no_misuse_opens : (old new : Desk) (misuse : Misuse) → Works (opening plan worker) old (Done (Err misuse)) new → ⊥
+  no_misuse_opens old new misuse works = by_case (is_dormant plan worker) works.spelt where
+    by_case : (dormant : Bool) → cond dormant (wait_start_part (starts_number plan)) (returns true) works.items (Done (Err misuse)) → ⊥
+    by_case true spelt = no_misuse_asked misuse (starts_number plan) works.items spelt.0 spelt.1 spelt.2
+    by_case false spelt = let is = spelt.1 in absurd cc
+
+  -- what a worker makes before its script: where it waits to be started, it asks, and else it makes nothing
+  pub asks_first : (old new : Desk) (answer : CallAnswer Bool) → is_dormant plan worker ≡ true → Works (wait_start_part (starts_number plan)) old answer new → Works (opening plan worker) old answer new
+  asks_first old new answer is works = subst (λ (b : Bool). Works (cond b (wait_start_part (starts_number plan)) (returns true)) old answer new) (sym is) works
+
+  pub comes_at_once : Stays → (desk : Desk) → is_dormant plan worker ≡ false → Works (opening plan worker) desk (Done (Ok true)) desk
+  comes_at_once stays desk is = subst (λ (b : Bool). Works (cond b (wait_start_part (starts_number plan)) (returns true)) desk (Done (Ok true)) desk) (sym is) (rests stays (returns true) desk (Done (Ok true)) (refl, refl))
+
+  -- and behind it: where some workers wait, it tells that it has ended, and else it makes nothing
+  pub tells_last : (old new : Desk) (answer : CallAnswer (Unit {0})) → has_dormant plan ≡ true → Works (end_part (starts_number plan)) old answer new → Works (closing plan worker) old answer new
+  tells_last old new answer is works = subst (λ (b : Bool). Works (cond b (end_part (starts_number plan)) (returns tt)) old answer new) (sym is) works
+
+  pub ends_at_once : Stays → (desk : Desk) → has_dormant plan ≡ false → Works (closing plan worker) desk (Done (Ok tt)) desk
+  ends_at_once stays desk is = subst (λ (b : Bool). Works (cond b (end_part (starts_number plan)) (returns tt)) desk (Done (Ok tt)) desk) (sym is) (rests stays (returns tt) desk (Done (Ok tt)) (refl, refl))
+
+  -- what closes a script stands at its end
+  closed_by : (answer : CallAnswer (Unit {0})) (before : ℕ) (items : List Made) → closing plan worker items answer → EndsBy plan worker before (ending_by answer) [] items
+  closed_by (Done (Ok tt)) before items closes = (refl, closes)
+  closed_by (Done (Err misuse)) before items closes = closes
+  closed_by (Halted misuse) before items closes = closes
+
+  misused_by : (misuse : Misuse) (before : ℕ) (rest : List Call) (last : List Made) → EndsPlainly plan worker before (misused misuse) rest last → EndsBy plan worker before (misused misuse) rest last
+  misused_by misuse before [] last ends = absurd ends
+  misused_by misuse before (call ∷ rest) last ends = ends
+
+  halted_by : (misuse : Misuse) (before : ℕ) (rest : List Call) (last : List Made) → EndsPlainly plan worker before (halted misuse) rest last → EndsBy plan worker before (halted misuse) rest last
+  halted_by misuse before [] last ends = absurd ends
+  halted_by misuse before (call ∷ rest) last ends = ends
+
+  module _ (script : List Call) (replies : List (Reply ℕ)) where
+    abbrev items_in : List SpeltCall → List Made
+    items_in spelt = flat_map (λ s. s.items) spelt
+
+    -- behind all calls the script is closed
+    pub closes_behind : Joins → (old now new : Desk) (answer : CallAnswer (Unit {0})) → MadeCalls plan worker script replies old (Done (Ok tt)) now → Works (closing plan worker) now answer new → WentThrough plan worker script replies old answer new
+    closes_behind joined old now new answer made works =
+        let moves = subst (λ (l : List Made). Moves old l now) (ap (λ (l : List Made). items_in made.spelt ++ l) made.end.1 ∙ append-nil (items_in made.spelt)) made.moves in
+        record {
+          spelt = made.spelt;
+          last = works.items;
+          rest = [];
+          are = made.are;
+          calls = subst (RunsAlong script (map (λ s. (s.call, s.reply)) made.spelt)) made.end.0 made.calls;
+          answers = made.answers;
+          end = closed_by answer _ works.items works.spelt;
+          moves = joined old now new (items_in made.spelt) works.items moves works.moves;
+        }
+
+    -- and it isn't behind a call that is the last one
+    pub misused_before : (old now : Desk) (misuse : Misuse) → MadeCalls plan worker script replies old (Done (Err misuse)) now → WentThrough plan worker script replies old (Done (Err misuse)) now
+    misused_before old now misuse made = record {
+      spelt = made.spelt;
+      last = made.last;
+      rest = made.rest;
+      are = made.are;
+      calls = made.calls;
+      answers = made.answers;
+      end = misused_by misuse _ made.rest made.last made.end;
+      moves = made.moves;
+    }
+
+    pub halted_before : (old now : Desk) (misuse : Misuse) → MadeCalls plan worker script replies old (Halted misuse) now → WentThrough plan worker script replies old (Halted misuse) now
+    halted_before old now misuse made = record {
+      spelt = made.spelt;
+      last = made.last;
+      rest = made.rest;
+      are = made.are;
+      calls = made.calls;
+      answers = made.answers;
+      end = halted_by misuse _ made.rest made.last made.end;
+      moves = made.moves;
+    }
+
+    abbrev DidLineOf : Desk → Desk → Type 0
+    DidLineOf old new = (line : Line) × DidLine plan worker script replies old new line
+
+    -- a worker that was never started, and one that met a halt before it was told, make no call
+    pub stays_never : replies ≡ [] → (old new : Desk) → Works (opening plan worker) old (Done (Ok false)) new → DidLineOf old new
+    stays_never none old new works = (
+      record { first = works.items; spelt = []; last = []; halts = []; rest = script; ending = stayed never },
+      record {
+        is = record { opens = (refl, works.spelt); calls = tt; ends = refl; halts = refl };
+        calls = refl;
+        answers = sym none;
+        ended = tt;
+        halts = refl;
+        moves = subst (λ (l : List Made). Moves old l new) (sym (append-nil works.items)) works.moves;
+      },
+    )
+
+    pub stays_stopped : replies ≡ [] → (old new : Desk) (misuse : Misuse) → Works (opening plan worker) old (Halted misuse) new → DidLineOf old new
+    stays_stopped none old new misuse works = (
+      record { first = works.items; spelt = []; last = []; halts = []; rest = script; ending = stayed (stopped misuse) },
+      record {
+        is = record { opens = (refl, works.spelt); calls = tt; ends = refl; halts = refl };
+        calls = refl;
+        answers = sym none;
+        ended = tt;
+        halts = refl;
+        moves = subst (λ (l : List Made). Moves old l new) (sym (append-nil works.items)) works.moves;
+      },
+    )
+
+    module _ (joined : Joins) (start old now : Desk) (opens : Works (opening plan worker) start (Done (Ok true)) old) where
+      -- what was made before the script, and of it
+      both : (spelt : List SpeltCall) (last : List Made) → Moves old (items_in spelt ++ last) now → Moves start (opens.items ++ (items_in spelt ++ last)) now
+      both spelt last moves = joined start old now opens.items (items_in spelt ++ last) opens.moves moves
+
+      without_halts : (spelt : List SpeltCall) (last : List Made) → Moves old (items_in spelt ++ last) now → Moves start (opens.items ++ (items_in spelt ++ (last ++ []))) now
+      without_halts spelt last moves = subst (λ (l : List Made). Moves start (opens.items ++ (items_in spelt ++ l)) now) (sym (append-nil last)) (both spelt last moves)
+
+      -- the script was closed
+      pub line_whole : WentThrough plan worker script replies old (Done (Ok tt)) now → DidLineOf start now
+      line_whole went = (
+        record { first = opens.items; spelt = went.spelt; last = went.last; halts = []; rest = went.rest; ending = whole },
+        record {
+          is = record { opens = opens.spelt; calls = went.are; ends = went.end; halts = refl };
+          calls = went.calls;
+          answers = went.answers;
+          ended = tt;
+          halts = refl;
+          moves = without_halts went.spelt went.last went.moves;
+        },
+      )
+
+      -- a call, or the closing, met a halt
+      pub line_halted : (misuse : Misuse) → WentThrough plan worker script replies old (Halted misuse) now → DidLineOf start now
+      line_halted misuse went = (
+        record { first = opens.items; spelt = went.spelt; last = went.last; halts = []; rest = went.rest; ending = halted misuse },
+        record {
+          is = record { opens = opens.spelt; calls = went.are; ends = went.end; halts = refl };
+          calls = went.calls;
+          answers = went.answers;
+          ended = tt;
+          halts = refl;
+          moves = without_halts went.spelt went.last went.moves;
+        },
+      )
+
+      -- one is a misuse, and the halts by it stand behind
+      pub line_misused : (misuse : Misuse) (last : Desk) → WentThrough plan worker script replies old (Done (Err misuse)) now → HaltsAll plan misuse now last → DidLineOf start last
+      line_misused misuse last went halts =
+          let made = items_in went.spelt in
+          let all : (opens.items ++ (made ++ went.last)) ++ halts.items ≡ opens.items ++ (made ++ (went.last ++ halts.items)) =
+          append_assoc opens.items (made ++ went.last) halts.items ∙ ap (λ (l : List Made). opens.items ++ l) (append_assoc made went.last halts.items) in
+          (
+            record { first = opens.items; spelt = went.spelt; last = went.last; halts = halts.items; rest = went.rest; ending = misused misuse },
+            record {
+              is = record { opens = opens.spelt; calls = went.are; ends = went.end; halts = halts.halts };
+              calls = went.calls;
+              answers = went.answers;
+              ended = tt;
+              halts = halts.order;
+              moves = subst (λ (l : List Made). Moves start l last) all (joined start now last (opens.items ++ (made ++ went.last)) halts.items (both went.spelt went.last went.moves) halts.moves);
+            },
+          )
