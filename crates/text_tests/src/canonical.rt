@@ -2,7 +2,7 @@
 use std::test::Fail;
 use workload_text::{parse, print};
 
-const CANONICAL_TEXTS: [(&[u8], &[u8]); 8] = [
+const CANONICAL_TEXTS: [(&[u8], &[u8]); 10] = [
     (
         b"workers 1\nmap t\nint32 a\nint64 b\nuint32 c\nuint64 d\nbool e\nworker 0\nstore a -2147483648\nadd b -1\nand c 7\nor d 18446744073709551615\ncas e false true\nswap e true\nload a\n",
         b"workers 1\nmap t\nint32 a\nint64 b\nuint32 c\nuint64 d\nbool e\nworker 0\nstore a -2147483648\nadd b -1\nand c 7\nor d 18446744073709551615\ncas e false true\nswap e true\nload a\n",
@@ -27,6 +27,14 @@ const CANONICAL_TEXTS: [(&[u8], &[u8]); 8] = [
     (
         b"workers 2\nworker 1\nmap u\nload u k\nworker 0\nmap t\nstore t k 0\nworker 1\nload t k\n",
         b"workers 2\nmap u\nmap t\nworker 0\nstore t k 0\nworker 1\nload u k\nload t k\n",
+    ),
+    (
+        b"workers 5\ndormant 3\nworker 1\nmutex m\nlock m\n dormant  0\nunlock m\nschedule 0 3\ndormant 4",
+        b"workers 5\nmutex m\ndormant 0\ndormant 3\ndormant 4\nworker 0\nworker 1\nlock m\nunlock m\nworker 2\nworker 3\nworker 4\nschedule 0 3\n",
+    ),
+    (
+        b"workers 2\ndormant 1\ndormant 0\n",
+        b"workers 2\ndormant 0\ndormant 1\nworker 0\nworker 1\n",
     ),
     (
         b"workers 2\nschedule 0 1 0 1\nschedule 0 @5 0 1 1\n",

@@ -14,7 +14,7 @@ fn read(alloc: Global, text: &[u8]) -> Result<Workload, Fail> {
 }
 
 const PARTS: &[u8] =
-    b"workers 2\nmap t\nworker 1\nstore t k 1\nworker 0\nload t k\nworker 1\nload t l\nschedule 1 @5\nschedule 0\n";
+    b"workers 2\nmap t\nworker 1\nstore t k 1\nworker 0\nload t k\nworker 1\nload t l\nschedule 1 @5\ndormant 1\nschedule 0\n";
 
 const TURNS: [Turn; 3] = [Turn::Worker(1), Turn::Moment(5), Turn::Worker(0)];
 
@@ -25,7 +25,10 @@ fn the_parts_of_a_workload(rt: HostRuntime) -> Result<(), Fail> {
     assert!(rt; counts == (2, 1));
     if workload.workers() == 2 {
         assert!(rt; (workload.script(0).len(), workload.script(1).len()) == (1, 2));
+        assert!(rt; (workload.is_dormant(0), workload.is_dormant(1)) == (false, true));
     }
+    assert!(rt; workload.dormant() == [false, true].as_slice());
+    assert!(rt; workload.has_dormant());
     assert!(rt; workload.schedule() == TURNS.as_slice());
     Ok(())
 }
