@@ -22,6 +22,7 @@ mod NamedLemmas
 mod NumberLemmas
 mod ObjectJournals
 mod OnceReturns
+mod OpeningLemmas
 mod PairLemmas
 mod PartLemmas
 mod PlainLemmas
@@ -32,6 +33,7 @@ mod RoundCounts
 mod RoundLemmas
 mod RunLines
 mod RwReturns
+mod StartLemmas
 mod TwoCalls
 mod WaitLemmas
 mod WaitReturns
