@@ -1,10 +1,10 @@
 -- What stands before the script of a worker that waits to be started.
-use Rattle.std.proofs.Common.{◌≡◌, ℕ, ◌==◌, Bool, true, false, cond, List, [], ◌∷◌, ◌++◌, map, length, refl, sym, ap, ◌∙◌, subst, ne_eqb}
-use Rattle.std.specs.Prelude.{Ok, Err}
+use Rattle.std.proofs.Common.{◌≡◌, ℕ, Bool, true, false, cond, List, [], ◌∷◌, ◌++◌, map, length, refl, sym, ap, ◌∙◌, subst, ne_eqb}
+use Rattle.std.specs.Prelude.{Ok}
 use Rattle.std.specs.List.{flat_map}
 use Rattle.std.proofs.lemmas.Bool.{false≢true}
 use Rattle.std.proofs.lemmas.List.{append-nil}
-use Rattle.sync_model.specs.declared.answer.Answer.TheVariants.{Done, Halted}
+use Rattle.sync_model.specs.declared.answer.Answer.TheVariants.{Done}
 use Rattle.sync_model.specs.declared.journal.Deed.{Deed}
 use Rattle.sync_model.specs.declared.journal.Deed.TheVariants.{Event, Refused, Halt}
 use Rattle.sync_model.specs.declared.journal.Entry.{Entry}
@@ -18,9 +18,7 @@ use Rattle.starts_core.specs.declared.starts.StartReply.{StartReply}
 use Rattle.starts_core.specs.declared.starts.StartReply.TheVariants as answers
 use Rattle.starts_core.specs.StartsStages.{starts_event, starts_meaning}
 use Rattle.workload.specs.Plan.{Plan, is_dormant}
-use Rattle.run_record.specs.declared.entered.ObjectEvent.{ObjectEvent}
 use Rattle.run_record.specs.declared.entered.ObjectEvent.TheVariants as event
-use Rattle.run_record.specs.declared.entered.ObjectReply.{ObjectReply}
 use Rattle.run_record.specs.declared.entered.ObjectReply.TheVariants as reply
 use Rattle.run_record.specs.declared.made.Made.{Made}
 use Rattle.run_record.specs.declared.made.Made.TheVariants.{Shared, Entered}
@@ -32,6 +30,7 @@ use Rattle.run_record.specs.StartsKind.{was_started, wait_start_part, opening}
 use Rattle.run_record.proofs.Having.{Each}
 use Rattle.run_record.proofs.LineParts.{each_first}
 use Rattle.run_record.proofs.ListOrder.{entries_first}
+use Rattle.run_record.proofs.PlainLemmas.{comes}
 
 -- the item is an entry of this object
 abbrev IsOn : ℕ → Made → Type 0
@@ -95,11 +94,6 @@ deeds_of entries = map (λ entry. entry.deed) entries
 
 abbrev Waits : List (Deed StartEvent StartReply) → CallAnswer StartsOutcome → Type 0
 Waits deeds given = Spells starts_event starts_meaning stage.WaitStart deeds given
-
-abbrev comes : CallAnswer Bool → Bool
-comes (Done (Ok came)) = came
-comes (Done (Err misuse)) = false
-comes (Halted misuse) = false
 
 no_deeds : (entries : List (Entry StartEvent StartReply)) → deeds_of entries ≡ [] → entries ≡ []
 no_deeds [] none = refl

@@ -1,11 +1,11 @@
 -- How many pairs the replies of a record's outcome show.
 use Rattle.std.proofs.Common.{◌≡◌, ℕ, suc, ◌+◌, ◌<◌, ◌≤◌, Bool, true, ◌&&◌, ◌⊎◌, inl, inr, List, [], ◌∷◌, ◌++◌, length, map, get_or, Some, None, slice_get, refl, sym, ap, ◌∙◌, subst, arith, append_assoc}
-use Rattle.std.specs.Prelude.{All, Ok, Err}
+use Rattle.std.specs.Prelude.{All, Ok}
 use Rattle.std.specs.List.{AllByRecursion, flat_map, list_all}
 use Rattle.std.proofs.lemmas.List.{length-append, get_or_past, length-map}
 use Rattle.std.proofs.lemmas.List.Elements.{All-from_recursion}
 use Rattle.std.proofs.lemmas.Option.{slice_get_cases}
-use Rattle.sync_model.specs.declared.answer.Answer.TheVariants.{Done, Halted}
+use Rattle.sync_model.specs.declared.answer.Answer.TheVariants.{Done}
 use Rattle.script_calls.specs.declared.call.Call.{Call}
 use Rattle.script_calls.specs.declared.call.Operation.TheVariants as operations
 use Rattle.script_calls.specs.declared.call.Reply.{Reply}
@@ -30,7 +30,7 @@ use Rattle.run_record.specs.Parts.{Places}
 use Rattle.run_record.specs.Record.{Record, list_of, shared_in, calls_of}
 use Rattle.run_record.proofs.AskLemmas.{Asks, by_opening, by_closing, by_call}
 use Rattle.run_record.proofs.FewLemmas.{few_call}
-use Rattle.run_record.proofs.Having.{Each, each_both, each_left, get_at}
+use Rattle.run_record.proofs.Having.{Each, each_both, get_at}
 use Rattle.run_record.proofs.LineParts.{each_first, each_last, none_shared_first}
 use Rattle.run_record.proofs.Limits.{KnowsKey, item_of}
 use Rattle.run_record.proofs.RunLines.{each_along}

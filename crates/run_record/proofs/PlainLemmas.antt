@@ -1,5 +1,5 @@
 -- Lines of workers that don't wait to be started, and of workloads where nobody does.
-use Rattle.std.proofs.Common.{◌≡◌, ℕ, zero, suc, Bool, true, false, cond, List, [], ◌∷◌, ◌++◌, get_or, refl, sym, ap, ◌∙◌, subst}
+use Rattle.std.proofs.Common.{◌≡◌, ℕ, zero, suc, Bool, true, false, cond, List, [], ◌∷◌, ◌++◌, get_or, refl, sym, ap, subst}
 use Rattle.std.specs.Prelude.{Ok, Err}
 use Rattle.std.specs.List.{list_any}
 use Rattle.std.proofs.lemmas.Bool.{false≢true}
@@ -8,9 +8,9 @@ use Rattle.script_calls.specs.declared.call.Call.{Call}
 use Rattle.protocols.specs.Spelling.{CallAnswer}
 use Rattle.workload.specs.Plan.{Plan, is_dormant, has_dormant}
 use Rattle.run_record.specs.declared.made.Made.{Made}
-use Rattle.run_record.specs.Lines.{SpeltCall, Stay, never, stopped, waits, LineEnd, whole, misused, halted, unfinished, stayed, Line, AreHalts, EndsBy, OpensBy, IsLineOf}
+use Rattle.run_record.specs.Lines.{SpeltCall, Stay, never, stopped, waits, LineEnd, whole, misused, halted, unfinished, stayed, EndsBy, OpensBy}
 use Rattle.run_record.specs.Objects.{starts_number}
-use Rattle.run_record.specs.Parts.{Part, returns}
+use Rattle.run_record.specs.Parts.{returns}
 use Rattle.run_record.specs.Plain.{EndsPlainly}
 use Rattle.run_record.specs.StartsKind.{wait_start_part, end_part, opening, closing}
 
@@ -25,7 +25,8 @@ pub empty_second : (xs ys : List Made) → xs ++ ys ≡ [] → ys ≡ []
 empty_second [] ys is = is
 empty_second (x ∷ xs) ys is = cc
 
-abbrev comes : CallAnswer Bool → Bool
+-- whether the answer is that it comes to its script
+abbrev pub comes : CallAnswer Bool → Bool
 comes (Done (Ok came)) = came
 comes (Done (Err misuse)) = false
 comes (Halted misuse) = false

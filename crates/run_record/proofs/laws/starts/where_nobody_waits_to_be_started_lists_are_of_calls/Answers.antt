@@ -1,9 +1,8 @@
-use Rattle.std.proofs.Common.{◌≡◌, ℕ, ◌+◌, Bool, false, cond, length, refl, sym, ap, ◌∙◌, subst, arith}
+use Rattle.std.proofs.Common.{◌≡◌, ℕ, ◌+◌, Bool, false, cond, refl, sym, ap, subst, arith}
 use Rattle.workload.specs.Plan.{Plan, has_dormant}
 use Rattle.run_record.specs.Explains.{IsAtEnd}
-use Rattle.run_record.specs.Lines.{Stay, never, stopped, waits, LineEnd, whole, misused, halted, unfinished, stayed, Line, OpensBy, IsLineOf}
+use Rattle.run_record.specs.Lines.{Stay, LineEnd, whole, misused, halted, unfinished, stayed, Line, OpensBy, IsLineOf}
 use Rattle.run_record.specs.Objects.{starts_number}
-use Rattle.run_record.specs.Plain.{IsPlainLine}
 use Rattle.run_record.proofs.PlainLemmas.{nobody, none_first, none_stayed, opens_so, ends_plainly, ends_so, plainly_came}
 use Rattle.run_record.proofs.laws.starts.where_nobody_waits_to_be_started_lists_are_of_calls.Goals as goal
 
