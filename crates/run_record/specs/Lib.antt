@@ -23,8 +23,8 @@ pub mod Record
 pub mod Returns
 pub mod Rounds
 pub mod Runs
-pub mod StartsKind
 pub mod RwMutexKind
+pub mod StartsKind
 pub mod Tests
 pub mod WaitGroupKind
 pub mod Waits
