@@ -77,7 +77,7 @@ fn take_round(alloc: Global, workload: &Workload, state: &mut State) -> Result<S
     Ok(so_far)
 }
 
-/// Whether every script has ended.
+/// Whether every script has ended, but those of workers that wait to be started.
 fn has_ended(workload: &Workload, state: &State) -> bool
     requires { IsKeptFor workload.now state.now }
     ensures { result ≡ has_ended workload.now state.now.state }
@@ -90,7 +90,7 @@ fn has_ended(workload: &Workload, state: &State) -> bool
     true
 }
 
-/// Takes rounds until every script has ended, a turn is a misuse, or a whole round makes no event.
+/// Takes rounds until every such script has ended, a turn is a misuse, or a whole round makes no event.
 fn take_rounds(alloc: Global, workload: &Workload, state: &mut State) -> Result<Ending, AllocError>
     requires { IsKeptFor workload.now state.old }
     ensures { IfOk result (λ ending. all_rounds workload.now state.old.state ≡ (state.new.state, ending)) }
