@@ -5,24 +5,16 @@ use Rattle.std.proofs.lemmas.List.{append-nil, append_assoc}
 use Rattle.script_calls.specs.declared.call.Call.{Call}
 use Rattle.script_calls.specs.declared.call.Reply.{Reply}
 use Rattle.script_calls.specs.Runs.{RunsAlong}
-use Rattle.starts_core.specs.declared.protocol.StartsOutcome.{StartsOutcome}
-use Rattle.starts_core.specs.declared.protocol.StartsStage.TheVariants as stage
-use Rattle.starts_core.specs.declared.starts.StartEvent.{StartEvent}
-use Rattle.starts_core.specs.declared.starts.StartReply.{StartReply}
-use Rattle.starts_core.specs.declared.starts.StartReply.TheVariants as told
-use Rattle.starts_core.specs.StartsStages.{starts_event, starts_meaning}
 use Rattle.sync_model.specs.declared.answer.Answer.TheVariants.{Done, Halted}
-use Rattle.sync_model.specs.declared.journal.Deed.{Deed}
-use Rattle.sync_model.specs.declared.journal.Deed.TheVariants.{Event, Refused, Halt}
 use Rattle.sync_types.specs.declared.misuse.Misuse.{Misuse}
-use Rattle.protocols.specs.Spelling.{CallAnswer, Spells}
+use Rattle.protocols.specs.Spelling.{CallAnswer}
 use Rattle.workload.specs.Plan.{Plan, is_dormant, has_dormant}
 use Rattle.run_record.specs.declared.made.Made.{Made}
 use Rattle.run_record.specs.Lines.{Line, SpeltCall, whole, misused, halted, stayed, never, stopped, EndsBy}
 use Rattle.run_record.specs.Objects.{starts_number}
-use Rattle.run_record.specs.Parts.{Part, returns, with_outcome}
+use Rattle.run_record.specs.Parts.{returns}
 use Rattle.run_record.specs.Plain.{EndsPlainly}
-use Rattle.run_record.specs.StartsKind.{opening, closing, wait_start_part, end_part, starts_part, was_started}
+use Rattle.run_record.specs.StartsKind.{opening, closing, wait_start_part, end_part}
 use Rattle.thread_objects.specs.Laws.{Stays, Joins}
 use Rattle.thread_objects.specs.Working.{Desk, Moves, Works}
 use Rattle.thread_runner.specs.DidLines.{DidLine, MadeCalls, WentThrough, ending_by}
@@ -36,29 +28,7 @@ some_dormant (true ∷ dormant) worker is = refl
 some_dormant (false ∷ dormant) zero is = absurd cc
 some_dormant (false ∷ dormant) (suc worker) is = some_dormant dormant worker is
 
--- a worker that asks whether it was started is told of no misuse
-no_misuse_told : (misuse : Misuse) (deeds : List (Deed StartEvent StartReply)) → Spells starts_event starts_meaning stage.WaitStart deeds (Done (Err misuse)) → ⊥
-no_misuse_told misuse [] spelt = spelt
-no_misuse_told misuse (Event event told.Done ∷ rest) spelt = spelt.1
-no_misuse_told misuse (Event event told.Go ∷ rest) spelt = let is = spelt.1.1 in absurd cc
-no_misuse_told misuse (Event event told.Never ∷ rest) spelt = let is = spelt.1.1 in absurd cc
-no_misuse_told misuse (Event event told.Still ∷ rest) spelt = no_misuse_told misuse rest spelt.1
-no_misuse_told misuse (Refused event other ∷ rest) spelt = let is = spelt.2 in absurd cc
-no_misuse_told misuse (Halt other ∷ rest) spelt = spelt
-
-no_misuse_asked : (misuse : Misuse) (object : ℕ) (items : List Made) (given : CallAnswer StartsOutcome) → starts_part object stage.WaitStart items given → Done (Err misuse) ≡ with_outcome was_started given → ⊥
-no_misuse_asked misuse object items (Done (Ok outcome)) part same = absurd cc
-no_misuse_asked misuse object items (Done (Err other)) part same = no_misuse_told other (map (λ entry. entry.deed) part.0) part.2
-no_misuse_asked misuse object items (Halted other) part same = absurd cc
-
 module _ (plan : Plan) (worker : ℕ) where
-  -- what stands before a script is no misuse
-  pub no_misuse_opens : (old new : Desk) (misuse : Misuse) → Works (opening plan worker) old (Done (Err misuse)) new → ⊥
-  no_misuse_opens old new misuse works = by_case (is_dormant plan worker) works.spelt where
-    by_case : (dormant : Bool) → cond dormant (wait_start_part (starts_number plan)) (returns true) works.items (Done (Err misuse)) → ⊥
-    by_case true spelt = no_misuse_asked misuse (starts_number plan) works.items spelt.0 spelt.1 spelt.2
-    by_case false spelt = let is = spelt.1 in absurd cc
-
   -- what a worker makes before its script: where it waits to be started, it asks, and else it makes nothing
   pub asks_first : (old new : Desk) (answer : CallAnswer Bool) → is_dormant plan worker ≡ true → Works (wait_start_part (starts_number plan)) old answer new → Works (opening plan worker) old answer new
   asks_first old new answer is works = subst (λ (b : Bool). Works (cond b (wait_start_part (starts_number plan)) (returns true)) old answer new) (sym is) works

@@ -1,5 +1,6 @@
 //! What a worker does before its script, and behind it, where some workers wait to be started. It is done on Starts.
-ghost use Rattle.std.specs.Prelude.{◌≡◌, ◌<◌};
+ghost use Rattle.std.specs.Prelude.{◌≡◌, ◌≢◌, ◌<◌, Err};
+ghost use Rattle.sync_model.specs.declared.answer.Answer.TheVariants.{Done};
 ghost use Rattle.ruled_object.specs.Growth.{KeepsNote};
 ghost use Rattle.run_record.specs.StartsKind.{opening, closing};
 ghost use Rattle.thread_objects.specs.AsDeclared.{AreDeclared};
@@ -31,6 +32,7 @@ pub(crate) fn opens<S: Shared, C: Clock, R: Wait>(
     requires note { S.Mark.at worker.now.at.home.now note.old }
     ensures seats { AreSeats S.Mark.at worker.now.at.home.now worker.now.workers worker.now.number site.now.objects.now passes.new }
     ensures note { KeepsNote S.Mark.at S.Mark.own S.Mark.front note.old note.new }
+    ensures unmisused { (misuse : Misuse) → result ≢ Done (Err misuse) }
     ensures works { Works (opening site.now.catalog.workload.now worker.now.number) (desk_with S.Mark.own S.Mark.front (owns_of passes.old) note.old) result (desk_with S.Mark.own S.Mark.front (owns_of passes.new) note.new) }
 {
     moves();
