@@ -1,5 +1,6 @@
 pub mod AskedWords
 pub mod Counts
+pub mod Ended
 pub mod Endings
 pub mod Fronts
 pub mod MessageTexts

@@ -32,6 +32,8 @@ ghost use Rattle.gosync_call.specs.declared.status.Fault.TheVariants as faults;
 use run_record::laws::endings::{
     a_run_is_done_unless_it_was_misused, a_run_that_is_done_answers_each_call,
 };
+use run_record::laws::runs::replies_tell_which_calls_were_made;
+use run_record::laws::starts::nobody_who_was_not_started_makes_a_call;
 use step_runner::laws::each_run_has_one_outcome;
 use workload::laws::one_reading;
 
@@ -50,9 +52,9 @@ pub fn a_run_by_schedule_is_computed()
 }
 
 /// What the headline says in short, where all is written. In a run with threads that ends done every worker that was live has ended:
-/// nothing is left of any script but those of workers that were never started, and each call that was made was answered once. One that ends misused tells a misuse that some worker met. None is told to be deadlocked. The events
-/// of each stand in one order, and each reply is of a call that was made. Where the bytes are told, all this is so of the workload
-/// that they are read as.
+/// nothing is left of any script but those of workers that were never started, which made no call, and each call that was made was
+/// answered once. One that ends misused tells a misuse that some worker met. None is told to be deadlocked. The events of each stand in
+/// one order, and each reply is of a call that was made. Where the bytes are told, all this is so of the workload that they are read as.
 pub fn a_run_with_threads_is_explained()
     ensures done { (told old new : Option (List ℕ)) → Headline told old new (statuses.Ended endings.Done)
         → (plan : Plan) × (left : Report) × (r : Record) × IsReadFromFile told plan × Explains plan (outcomes.Done left) r × InOneOrder r × HasEnded plan left × Appends old new (report_text plan (outcomes.Done left)) }
@@ -67,6 +69,8 @@ pub fn a_run_with_threads_is_explained()
 {
     a_run_is_done_unless_it_was_misused();
     a_run_that_is_done_answers_each_call();
+    replies_tell_which_calls_were_made();
+    nobody_who_was_not_started_makes_a_call();
     one_reading();
 }
 

@@ -1,4 +1,5 @@
 pub mod Lines
+pub mod NoLines
 pub mod NumberLines
 pub mod ReplyTexts
 pub mod ReportNames

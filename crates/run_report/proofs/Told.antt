@@ -1,9 +1,9 @@
 -- What a report tells: the replies, line by line, and the ends behind them.
-use Rattle.std.proofs.Common.{◌≡◌, ◌∙◌, ℕ, suc, ◌+◌, ◌^◌, ◌<◌, ◌≤◌, Bool, true, false, ◌&&◌, eqb, List, [], ◌∷◌, ◌++◌, length, Option, Some, None, inl, inr, refl, sym, ap, subst, arith}
+use Rattle.std.proofs.Common.{◌≡◌, ◌∙◌, ℕ, suc, ◌+◌, ◌^◌, ◌<◌, ◌≤◌, Bool, true, false, ◌&&◌, List, [], ◌∷◌, ◌++◌, length, Option, Some, None, inl, inr, refl, sym, ap, subst, arith}
 use Rattle.std.specs.Prelude.{◌⊎◌, codes, drop, is_some, slice_get}
 use Rattle.std.specs.Fmt.{decimal}
 use Rattle.std.specs.List.{list_all}
-use Rattle.std.proofs.lemmas.Bool.{and_parts, and_from, eqb-true, ltb-true}
+use Rattle.std.proofs.lemmas.Bool.{and_parts, and_from, ltb-true}
 use Rattle.std.proofs.lemmas.Fmt.{decimal_injective}
 use Rattle.std.proofs.lemmas.List.{append_assoc, append_cancel_left}
 use Rattle.script_calls.specs.Outcome.{left_by}
@@ -18,7 +18,7 @@ use Rattle.sync_types.specs.declared.end.End.TheVariants as ends
 use Rattle.workload.specs.Canonical.{behind_spaces, name_of}
 use Rattle.workload.specs.Keys.{keys_in, key_name}
 use Rattle.workload.specs.NumberWords.{number_word}
-use Rattle.workload.specs.Plan.{Plan, is_on, is_turn, refers}
+use Rattle.workload.specs.Plan.{Plan}
 use Rattle.workload.specs.Readable.{IsReadable}
 use Rattle.workload.specs.declared.object.ObjectLine.{ObjectLine}
 use Rattle.workload_text.specs.ReportLines.{call_words, completed_line, end_line, reply_text, truth_text}
@@ -26,6 +26,7 @@ use Rattle.run_report.specs.ReportText.{calls_text, ends_text, outcome_ends, wor
 use Rattle.workload.specs.Forms.{have_forms, all_have_forms}
 use Rattle.sync_types.specs.Name.{is_name_byte}
 use Rattle.run_report.specs.Told.{has_64_bits, is_end, is_in_range, is_key, is_number_at, ReportTellsWhatIsLeft}
+use Rattle.run_report.proofs.Lines.{scripts_are}
 use Rattle.run_report.proofs.TextCuts.{lacks, cut, decimal_lacks, name_lacks, words_apart, words_lack, first_lacks}
 use Rattle.run_report.proofs.ReplyTexts.{AreKeys, no_feed, no_space, number_apart, number_lacks, number_word_lacks, reply_apart, reply_lacks, truth_lacks, type_at}
 use Rattle.run_report.proofs.ReportNames.{AreObjects, IsNumbered, keys_are, objects_are}
@@ -34,7 +35,7 @@ not_empty : (a : List ℕ) (x : ℕ) (t : List ℕ) → a ++ x ∷ t ≡ [] → 
 not_empty [] x t e = cc
 not_empty (c ∷ a) x t e = cc
 
-first_differs : (a : List ℕ) (x y : ℕ) (s t : List ℕ) → lacks y a ≡ true → (x ≡ y → ⊥) → a ++ x ∷ s ≡ y ∷ t → ⊥
+pub first_differs : (a : List ℕ) (x y : ℕ) (s t : List ℕ) → lacks y a ≡ true → (x ≡ y → ⊥) → a ++ x ∷ s ≡ y ∷ t → ⊥
 first_differs [] x y s t l differ e = differ (head e)
   where
     head : x ∷ s ≡ y ∷ t → x ≡ y
@@ -64,13 +65,13 @@ Behind worker text = (text ≡ []) ⊎ (LineBehind worker text ⊎ EndBehind tex
 abbrev Last : List ℕ → Type 0
 Last text = (text ≡ []) ⊎ EndBehind text
 
-no_e : (digit : ℕ) → 48 ≤ digit → digit ≤ 57 → digit ≡ 101 → ⊥
+pub no_e : (digit : ℕ) → 48 ≤ digit → digit ≤ 57 → digit ≡ 101 → ⊥
 no_e digit lo hi e = omega arith
 
-no_dot : (digit : ℕ) → 48 ≤ digit → digit ≤ 57 → digit ≡ 46 → ⊥
+pub no_dot : (digit : ℕ) → 48 ≤ digit → digit ≤ 57 → digit ≡ 46 → ⊥
 no_dot digit lo hi e = omega arith
 
-dot_e : ◌≡◌ {A = ℕ} 46 101 → ⊥
+pub dot_e : ◌≡◌ {A = ℕ} 46 101 → ⊥
 dot_e e = omega arith
 
 no_line : (worker : ℕ) (tail text : List ℕ) → worker < 2 ^ 64 → Behind (suc worker) text → decimal worker ++ 46 ∷ tail ≡ text → ⊥
@@ -89,7 +90,7 @@ behind_from worker text (inr end) = inr (inr end)
 line_split : (p a x : List ℕ) → ((p ++ a) ++ codes "\n") ++ x ≡ p ++ (a ++ 10 ∷ x)
 line_split p a x = append_assoc (p ++ a) (codes "\n") x ∙ append_assoc p a (10 ∷ x)
 
-line_front : (d b c e f g x : List ℕ) → ((((((d ++ codes ".") ++ b) ++ c) ++ e) ++ f) ++ g) ++ x ≡ d ++ 46 ∷ (b ++ (c ++ (e ++ (f ++ (g ++ x)))))
+pub line_front : (d b c e f g x : List ℕ) → ((((((d ++ codes ".") ++ b) ++ c) ++ e) ++ f) ++ g) ++ x ≡ d ++ 46 ∷ (b ++ (c ++ (e ++ (f ++ (g ++ x)))))
 line_front d b c e f g x =
     append_assoc (((((d ++ codes ".") ++ b) ++ c) ++ e) ++ f) g x
     ∙ append_assoc ((((d ++ codes ".") ++ b) ++ c) ++ e) f (g ++ x)
@@ -332,10 +333,8 @@ module _ (plan : Plan) (are : AreKeys (keys_in plan.scripts)) (objects : AreObje
       (ends_last (outcome_ends one)) (ends_last (outcome_ends other)) e in
       same_left (left_by one) (left_by other) parts.0 (is.shown ∙ ends_apart (outcome_ends one) (outcome_ends other) ends_one ends_other parts.1 ∙ sym also.shown)
 
-scripts_few : (plan : Plan) → IsReadable plan → length plan.scripts < 2 ^ 64
-scripts_few plan readable =
-    let valid = and_parts (eqb (length plan.scripts) plan.workers) (list_all (list_all (λ call. is_on plan.objects (slice_get plan.objects call.object) call)) plan.scripts && (list_all (is_turn plan.workers) plan.schedule && list_all (λ object. refers plan.objects object.kind) plan.objects)) readable.valid in
-    omega (arith, eqb-true (length plan.scripts) plan.workers valid.0, readable.few_workers)
+pub scripts_few : (plan : Plan) → IsReadable plan → length plan.scripts < 2 ^ 64
+scripts_few plan readable = omega (arith, scripts_are plan readable.valid, readable.few_workers)
 
 pub report_tells : (plan : Plan) → IsNumbered (keys_in plan.scripts) → IsReadable plan → ReportTellsWhatIsLeft plan
 report_tells plan numbered readable = left_apart plan (keys_are plan.scripts readable.calls numbered) (objects_are plan.objects readable.objects) (scripts_few plan readable)

@@ -1,5 +1,6 @@
 //! What it means that a report was written, and what it tells.
-ghost use Rattle.std.specs.Prelude.{◌≡◌, ◌↔◌, ◌≤◌, ◌+◌, ℕ, false, List, [], length, get_or, sum_by, Some, slice_get};
+ghost use Rattle.std.specs.Prelude.{◌≡◌, ◌≢◌, ◌↔◌, ◌≤◌, ◌+◌, ℕ, false, List, [], ◌++◌, codes, length, get_or, sum_by, Some, slice_get};
+ghost use Rattle.std.specs.Fmt.{decimal};
 ghost use Rattle.sync_types.specs.declared.end.End.{End};
 ghost use Rattle.sync_types.specs.declared.misuse.Misuse.{Misuse};
 ghost use Rattle.script_calls.specs.Outcome.{left_by};
@@ -29,6 +30,13 @@ pub fn a_report_has_a_line_for_each_call_and_end()
 {
     calls_keep_their_places::<u32>();
 }
+
+/// Who has no reply has no line: no line of the report begins with its number and a dot. So it is of a worker that waits to be started,
+/// and never is.
+pub fn who_has_no_reply_has_no_line()
+    ensures { (plan : Plan) (replies : List (List (Reply ℕ))) (ends : List End) (text : List ℕ) (shown : Shows plan replies ends text) (worker position : ℕ) (tail : List ℕ)
+        → IsReadable plan → length replies ≡ length plan.scripts → slice_get replies worker ≡ Some [] → slice_get shown.lines position ≢ Some (decimal worker ++ codes "." ++ tail) }
+{}
 
 /// Where no call may pass others over, each worker completes the first calls of its script, and the place in a line is how many calls
 /// its worker completed before.

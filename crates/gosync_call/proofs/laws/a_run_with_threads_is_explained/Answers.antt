@@ -1,13 +1,16 @@
-use Rattle.std.proofs.Common.{Some, refl, subst}
+use Rattle.std.proofs.Common.{◌∙◌, Some, refl, subst}
 use Rattle.sync_outside.specs.Bytes.{AppendsFront}
 use Rattle.script_calls.specs.declared.outcome.Outcome.{Outcome}
+use Rattle.script_calls.specs.declared.outcome.Outcome.TheVariants as outcomes
 use Rattle.workload.specs.Plan.{Plan}
 use Rattle.run_record.specs.Explains.{Explains}
 use Rattle.run_record.specs.InOneOrder.{InOneOrder}
+use Rattle.run_record.specs.Lines.{never}
 use Rattle.run_record.specs.Record.{Record}
 use Rattle.run_report.specs.ReportText.{report_text}
 use Rattle.gosync_call.specs.ComesTo.{EndsWithReport}
 use Rattle.gosync_call.specs.Headline.{HasEnded, RunsTo}
+use Rattle.gosync_call.proofs.Ended.{have_ended}
 use Rattle.gosync_call.proofs.Runs.{done_left, misused_left, plan_is}
 use Rattle.gosync_call.proofs.laws.a_run_with_threads_is_explained.Goals as goal
 
@@ -18,7 +21,12 @@ pub returns-clause-done : goal.returns-clause-done
 returns-clause-done c told old new comes =
     let left = done_left comes.0 old new comes.2 in
     let answers = c.a_run_that_is_done_answers_each_call.ensures in
-    let ended : HasEnded comes.0 left.0 = (λ worker. answers.left comes.0 left.1 left.0 worker left.2, λ none. answers.all comes.0 left.1 left.0 none left.2) in
+    let lines = left.2.lines in
+    let ended : HasEnded comes.0 left.0 = have_ended comes.0 left.0 left.1 left.2
+    (λ worker runs. answers.left comes.0 left.1 left.0 worker runs left.2) (λ worker line has came. answers.started comes.0 left.1 left.0 left.2 worker line has came)
+    (λ worker line has stays. c.replies_tell_which_calls_were_made.ensures.given comes.0 left.1 (outcomes.Done left.0) lines worker line left.2.are has
+    ∙ c.nobody_who_was_not_started_makes_a_call.ensures.replies comes.0 worker line never (left.2.are.each worker line has) stays)
+    (λ none nobody. answers.all comes.0 left.1 left.0 none nobody left.2) in
     (comes.0, left.0, left.1, comes.1, left.2, left.3, ended, left.4)
 
 pub returns-clause-replies : goal.returns-clause-replies
