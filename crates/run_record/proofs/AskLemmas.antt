@@ -1,5 +1,5 @@
 -- Which calls on maps and atomics a call of a workload is made of.
-use Rattle.std.proofs.Common.{◌≡◌, ℕ, List, [], ◌∷◌, ◌++◌, map, Some, None, sym, subst}
+use Rattle.std.proofs.Common.{◌≡◌, ℕ, Bool, true, false, cond, List, [], ◌∷◌, ◌++◌, map, Some, None, refl, sym, subst}
 use Rattle.std.specs.Prelude.{Ok, Err}
 use Rattle.sync_model.specs.declared.answer.Answer.TheVariants.{Done, Halted}
 use Rattle.sync_types.specs.declared.atomic_object.AtomicCall.{AtomicCall}
@@ -17,8 +17,10 @@ use Rattle.sync_types.specs.declared.map_object.MapCall.{MapCall}
 use Rattle.sync_types.specs.Renaming.{renamed_call}
 use Rattle.protocols.specs.Spelling.{CallAnswer}
 use Rattle.protocols.specs.declared.step.Step.{Step}
+use Rattle.starts_core.specs.declared.protocol.StartsStage.TheVariants as stage
+use Rattle.starts_core.specs.StartsStages.{starts_event, starts_meaning}
 use Rattle.workload.specs.Keys.{keys_in, key_number}
-use Rattle.workload.specs.Plan.{Plan}
+use Rattle.workload.specs.Plan.{Plan, is_dormant, has_dormant}
 use Rattle.run_record.specs.declared.entered.ObjectEvent.{ObjectEvent}
 use Rattle.run_record.specs.declared.entered.ObjectEvent.TheVariants as event
 use Rattle.run_record.specs.declared.entered.ObjectReply.{ObjectReply}
@@ -27,7 +29,10 @@ use Rattle.run_record.specs.declared.made.Made.{Made}
 use Rattle.run_record.specs.declared.made.Made.TheVariants.{Shared, Entered}
 use Rattle.run_record.specs.Calls.{SpellsCall}
 use Rattle.run_record.specs.Limits.{told}
+use Rattle.run_record.specs.Objects.{starts_number}
 use Rattle.run_record.specs.Parts.{Part, GoesOn, returns, never, and_then, read_as, Places, lifted, stages}
+use Rattle.run_record.specs.Record.{shared_in}
+use Rattle.run_record.specs.StartsKind.{starts_part, was_started, wait_start_part, end_part, opening, closing}
 use Rattle.run_record.proofs.CallParts.{HoldsOfParts, holds_of_call}
 use Rattle.run_record.proofs.Having.{Each, each_both}
 
@@ -44,6 +49,10 @@ module _ (P : SharedCall → Type 0) where
   module _ {O : Type 0} where
     by_returns : (outcome : O) → AsksOnly (returns outcome)
     by_returns outcome items answer is = subst (Each Asks) (sym is.0) tt
+
+    by_chosen : (b : Bool) (first second : Part O) → AsksOnly first → AsksOnly second → AsksOnly (cond b first second)
+    by_chosen true first second one other = one
+    by_chosen false first second one other = other
 
     by_never : AsksOnly (never {O = O})
     by_never items answer is = absurd is
@@ -75,6 +84,15 @@ module _ (P : SharedCall → Type 0) where
     by_stages : {G O : Type 0} (event_of : G → ℕ → E) (meaning : G → R → Step G O) (stage : G) → AsksOnly (stages event reply event_of meaning object stage)
     by_stages event_of meaning stage items answer (entries, is, spelt) = subst (Each Asks) (sym is) (by_entries entries)
 
+  -- what stands before a script asks nothing, nor what stands behind it
+  pub by_opening : (plan : Plan) (worker : ℕ) → AsksOnly (opening plan worker)
+  by_opening plan worker = by_chosen (is_dormant plan worker) (wait_start_part (starts_number plan)) (returns true)
+      (by_read was_started (starts_part (starts_number plan) stage.WaitStart) (by_stages event.Starts reply.Starts (starts_number plan) starts_event starts_meaning stage.WaitStart)) (by_returns true)
+
+  pub by_closing : (plan : Plan) (worker : ℕ) → AsksOnly (closing plan worker)
+  by_closing plan worker = by_chosen (has_dormant plan) (end_part (starts_number plan)) (returns tt)
+      (by_read (λ ended. tt) (starts_part (starts_number plan) stage.End) (by_stages event.Starts reply.Starts (starts_number plan) starts_event starts_meaning stage.End)) (by_returns tt)
+
   -- such are the calls of cursors and atomics
   module _ (begins : (m : ℕ) → P (calls.Begin m)) (steps : (begin : ℕ) → P (calls.Next begin)) (atomics : (a : ℕ) (call : AtomicCall) → P (calls.Atomic a call)) where
     shown_asked : (begin : ℕ) (shown : List (ℕ × ℕ)) → Each (λ (t : SharedCall × SharedReply). P t.0) (map (λ (pair : ℕ × ℕ). (calls.Next begin, answers.Shown (Some pair))) shown ++ (calls.Next begin, answers.Shown None) ∷ [])
@@ -105,3 +123,9 @@ module _ (P : SharedCall → Type 0) where
         → AsksOnly (SpellsCall plan worker before call)
     by_call plan worker before call keyed =
         holds_of_call (λ O part. AsksOnly part) asked plan worker before call (λ m op is items answer spelt. by_places _ items (keyed m op is, tt) spelt.1)
+
+-- where nothing is asked, there are no calls on maps and atomics
+pub none_asked : (items : List Made) → Each (Asks (λ call. ⊥)) items → shared_in items ≡ []
+none_asked [] each = refl
+none_asked (Shared x ∷ items) each = absurd each.0
+none_asked (Entered object entry ∷ items) each = none_asked items each.1

@@ -13,7 +13,7 @@ use Rattle.run_record.specs.Explains.{IsRecordOf}
 use Rattle.run_record.specs.Journals.{IsStops}
 use Rattle.run_record.specs.Record.{Record, ObjectEntry, stop, journal_of, list_of, shared_in}
 use Rattle.run_record.proofs.ListLemmas.{shared_before}
-use Rattle.run_record.proofs.ObjectJournals.{Keeps, nothing, of_kind, of_part}
+use Rattle.run_record.proofs.ObjectJournals.{Keeps, nothing, of_kind, of_part, of_starts}
 use Rattle.run_record.proofs.NumberLemmas.{each_journal}
 
 no_halt : (x : ObjectEntry) → (misuse : Misuse) × (x.deed ≡ Halt misuse) → is_such frees x.deed ≡ true → ⊥
@@ -28,7 +28,7 @@ of_stop journal stops i j x y before at_x at_y is_x is_y =
 
 module _ (plan : Plan) (r : Record) (lawful : IsRecordOf plan r) where
   pub of_object : (object : ℕ) → Keeps (journal_of r object)
-  of_object object = each_journal plan r lawful Keeps nothing (λ stops. of_stop (journal_of r stop) stops) (λ place kind journal is. of_kind plan place kind journal is) of_part object
+  of_object object = each_journal plan r lawful Keeps nothing (λ stops. of_stop (journal_of r stop) stops) (λ place kind journal is. of_kind plan place kind journal is) of_part of_starts object
 
   -- a call that stands before a releasing entry of its worker is counted by the front of each call behind an entry that acquires later
   pub counted : (giver taker i j k l object m n : ℕ) (known call : Item) (first second : ObjectEntry)

@@ -21,7 +21,7 @@ use Rattle.run_record.specs.declared.made.Made.{Made}
 use Rattle.run_record.specs.declared.made.Made.TheVariants.{Shared}
 use Rattle.run_record.specs.Calls.{IsJournalOf}
 use Rattle.run_record.specs.Example.{plan, example, store_call, load_call, store_item, load_item, entry, replies_by, done, held}
-use Rattle.run_record.specs.Explains.{IsRecordOf, AreLines, Explains}
+use Rattle.run_record.specs.Explains.{IsRecordOf, AreLines, Explains, IsAtEnd}
 use Rattle.run_record.specs.Lines.{Line, whole, IsLineOf}
 use Rattle.run_record.specs.Objects.{contents_of, first_part}
 use Rattle.run_record.specs.PoolKind.{IsPartJournal}
@@ -148,6 +148,7 @@ lawful = record {
   stops = λ k d within. absurd (omega (arith, within));
   journals = journals;
   parts = parts;
+  starts = λ some. absurd (false≢true some);
   once = once;
   fronts = record {
     rises = items_rise;
@@ -158,6 +159,7 @@ lawful = record {
 
 abbrev pub line : Line
 line = record {
+  first = [];
   spelt = record { call = store_call; items = Shared store_item ∷ []; reply = done } ∷ record { call = load_call; items = Shared load_item ∷ []; reply = held 5 } ∷ [];
   last = [];
   halts = [];
@@ -167,8 +169,9 @@ line = record {
 
 is_line : IsLineOf plan 0 line
 is_line = record {
+  opens = (refl, refl);
   calls = ((answers.Done, (store_item ∷ [], refl, refl), refl), ((answers.Held (Int64 (pos 5)), (load_item ∷ [], refl, refl), refl), tt));
-  ends = (refl, refl);
+  ends = (refl, (refl, refl));
   halts = refl;
 }
 
@@ -180,6 +183,6 @@ lines = record { scripts = refl; lists = refl; replies = refl; each = each } whe
 
 pub explained : (SpellScripts plan example (replies_by done (held 5)) (line ∷ []) → AreLines plan example (replies_by done (held 5)) (line ∷ [])) → Explains plan (replies_by done (held 5)) example
 explained are_lines = record { lines = line ∷ []; are = are_lines lines; lawful = lawful; agrees = (ended, refl) } where
-  ended : All (λ l. l.ending ≡ whole) (line ∷ [])
-  ended zero d within = refl
+  ended : All (λ l. IsAtEnd l.ending) (line ∷ [])
+  ended zero d within = tt
   ended (suc k) d within = absurd (omega (arith, within))

@@ -128,4 +128,5 @@ module _ (plan : Plan) (r : Record) (lawful : IsRecordOf plan r) where
   refusal_has m object = each_journal plan r lawful (λ journal. Has (IsRefusal m) journal → Has (IsHaltBy m) journal) (λ has. absurd has)
       (λ stops has. absurd (of_stop m (journal_of r stop) stops has))
       (λ place kind journal is. of_kind m plan place kind journal is)
-      (λ room journal is. of_follows event.Pool reply.Pool _ m _ _ _ journal is) object
+      (λ room journal is. of_follows event.Pool reply.Pool _ m _ _ _ journal is)
+      (λ dormant journal is. of_follows event.Starts reply.Starts _ m _ _ _ journal is) object

@@ -1,5 +1,5 @@
 -- The numbers of what a misuse halts.
-use Rattle.std.proofs.Common.{◌≡◌, ◌⊎◌, inl, inr, ℕ, zero, suc, ◌+◌, ◌-◌, ◌<◌, ◌≤◌, ◌==◌, Bool, cond, List, [], ◌∷◌, ◌++◌, length, take, drop, Some, slice_get, refl, sym, ap, ◌∙◌, subst, arith, append_assoc, eq-eqb, ne_eqb}
+use Rattle.std.proofs.Common.{◌≡◌, ◌⊎◌, inl, inr, ℕ, zero, suc, ◌+◌, ◌-◌, ◌<◌, ◌≤◌, ◌==◌, Bool, true, false, cond, List, [], ◌∷◌, ◌++◌, length, take, drop, Some, slice_get, refl, sym, ap, ◌∙◌, subst, arith, append_assoc, eq-eqb, ne_eqb}
 use Rattle.std.specs.Prelude.{Contains, filter}
 use Rattle.std.specs.List.{range_with_len}
 use Rattle.std.proofs.lemmas.List.Elements.{Contains-append_left, Contains-append_right, Contains-append_cases, filter-append}
@@ -7,11 +7,11 @@ use Rattle.std.proofs.lemmas.Option.{none-some, same_Some, slice_get_within}
 use Rattle.workload.specs.declared.object.ObjectKind.{ObjectKind}
 use Rattle.workload.specs.declared.object.ObjectKind.TheVariants as kinds
 use Rattle.workload.specs.declared.object.ObjectLine.{ObjectLine}
-use Rattle.workload.specs.Plan.{Plan}
-use Rattle.run_record.specs.Halts.{halted_at, halted_from, halted_with_stop, halted_numbers, IsNumberAt}
-use Rattle.run_record.specs.Objects.{first_part}
+use Rattle.workload.specs.Plan.{Plan, has_dormant}
+use Rattle.run_record.specs.Halts.{halted_at, halted_from, halted_starts, halted_with_stop, halted_numbers, IsNumberAt}
+use Rattle.run_record.specs.Objects.{first_part, starts_number}
 use Rattle.run_record.specs.Record.{stop, object_number}
-use Rattle.run_record.proofs.NumberLemmas.{apart}
+use Rattle.run_record.proofs.NumberLemmas.{apart, within as is_within}
 
 module _ {A : Type 0} where
   -- a place in one list and then another one
@@ -170,6 +170,30 @@ module _ (plan : Plan) where
       ap (λ (xs : List ℕ). halted_at plan place l.kind ++ xs) (from_cut n (place + 1) lines ∙ ap (λ (k : ℕ). halted_from plan (place + 1) (take n lines) ++ halted_from plan k (drop n lines)) next)
       ∙ sym (append_assoc (halted_at plan place l.kind) (halted_from plan (place + 1) (take n lines)) (halted_from plan (place + suc n) (drop n lines)))
 
+  -- what is halted for Starts is Starts, where some workers wait to be started, and that is no declared object
+  in_starts : (number : ℕ) → Contains (halted_starts plan) number → (has_dormant plan ≡ true) × (number ≡ starts_number plan)
+  in_starts number has = by_waiting (has_dormant plan) refl has where
+    by_waiting : (b : Bool) → has_dormant plan ≡ b → Contains (cond b (starts_number plan ∷ []) []) number → (has_dormant plan ≡ true) × (number ≡ starts_number plan)
+    by_waiting true some has = (some, one_is (starts_number plan) number has)
+    by_waiting false none has = absurd (omega (arith, has.1))
+
+  not_starts : (place : ℕ) (object : ObjectLine) → slice_get plan.objects place ≡ Some object → IsNumberAt plan place object.kind (starts_number plan) → ⊥
+  not_starts place object here is = by_case (own_or_part place object.kind (starts_number plan) is) where
+    by_case : IsOwnOrPart place object.kind (starts_number plan) → ⊥
+    by_case (inl own) = omega (arith, own, slice_get_within plan.objects place object here)
+    by_case (inr (part, below, pool, own)) = omega (arith, own, is_within plan.workers plan.objects place part object here pool below)
+
+  -- Stop, Starts, or halted for one of these objects
+  abbrev IsNumberOf : List ObjectLine → ℕ → Type 0
+  IsNumberOf lines number = (number ≡ stop) ⊎ ((has_dormant plan ≡ true) × (number ≡ starts_number plan)) ⊎ ((place : ℕ) × (object : ObjectLine) × (slice_get lines place ≡ Some object) × IsNumberAt plan place object.kind number)
+
+  in_numbers : (lines : List ObjectLine) (number : ℕ) → Contains (halted_with_stop plan lines) number → IsNumberOf lines number
+  in_numbers lines number (zero, within, is) = inl (sym is)
+  in_numbers lines number (suc k, within, is) = by_case (Contains-append_cases (halted_starts plan) (halted_from plan 0 lines) number (k, omega (arith, within), is)) where
+    by_case : Contains (halted_starts plan) number ⊎ Contains (halted_from plan 0 lines) number → IsNumberOf lines number
+    by_case (inl starts) = inr (inl (in_starts number starts))
+    by_case (inr later) = let found = in_from 0 lines number later in inr (inr (found.0, found.1, found.2, subst (λ (i : ℕ). IsNumberAt plan i found.1.kind number) (omega arith) found.3))
+
   abbrev front : ℕ → List ℕ
   front n = halted_with_stop plan (take n plan.objects)
 
@@ -177,15 +201,17 @@ module _ (plan : Plan) where
   back n = halted_from plan n (drop n plan.objects)
 
   numbers_cut : (n : ℕ) → halted_numbers plan ≡ front n ++ back n
-  numbers_cut n = ap (λ (xs : List ℕ). stop ∷ xs) (from_cut n 0 plan.objects ∙ ap (λ (k : ℕ). halted_from plan 0 (take n plan.objects) ++ halted_from plan k (drop n plan.objects)) (omega arith))
+  numbers_cut n =
+      ap (λ (xs : List ℕ). stop ∷ (halted_starts plan ++ xs)) (from_cut n 0 plan.objects ∙ ap (λ (k : ℕ). halted_from plan 0 (take n plan.objects) ++ halted_from plan k (drop n plan.objects)) (omega arith))
+      ∙ ap (λ (xs : List ℕ). stop ∷ xs) (sym (append_assoc (halted_starts plan) (halted_from plan 0 (take n plan.objects)) (back n)))
 
   module _ (place number : ℕ) (object : ObjectLine) (here : slice_get plan.objects place ≡ Some object) (is : IsNumberAt plan place object.kind number) where
     not_before : (n : ℕ) → n ≤ place → Contains (front n) number → ⊥
-    not_before n least (zero, within, first) = not_stop place object.kind (subst (IsNumberAt plan place object.kind) (sym first) is)
-    not_before n least (suc k, within, same) =
-        let found = in_from 0 (take n plan.objects) number (k, omega (arith, within), same) in
-        let at = taken_at n plan.objects found.0 found.1 found.2 in
-        omega (arith, least, at.0, one_place found.0 place number found.1 object at.1 here (subst (λ (i : ℕ). IsNumberAt plan i found.1.kind number) (omega arith) found.3) is)
+    not_before n least has = by_case (in_numbers (take n plan.objects) number has) where
+      by_case : IsNumberOf (take n plan.objects) number → ⊥
+      by_case (inl first) = not_stop place object.kind (subst (IsNumberAt plan place object.kind) first is)
+      by_case (inr (inl (some, starts))) = not_starts place object here (subst (IsNumberAt plan place object.kind) starts is)
+      by_case (inr (inr (other, one, there, also))) = let at = taken_at n plan.objects other one there in omega (arith, least, at.0, one_place other place number one object at.1 here also is)
 
     not_behind : (n : ℕ) → place < n → Contains (back n) number → ⊥
     not_behind n less has =
@@ -209,24 +235,49 @@ module _ (plan : Plan) where
         ∙ ap (λ (xs : List ℕ). number ∷ xs) (none_kept number (back (suc place)) (not_behind (suc place) (omega arith)))
 
     pub placed : Contains (halted_numbers plan) number
-    placed = let at = from_in 0 plan.objects place object number here (subst (λ (i : ℕ). IsNumberAt plan i object.kind number) (omega arith) is) in (suc at.0, omega (arith, at.1), at.2)
+    placed =
+        let at = Contains-append_right (halted_starts plan) (halted_from plan 0 plan.objects) number (from_in 0 plan.objects place object number here (subst (λ (i : ℕ). IsNumberAt plan i object.kind number) (omega arith) is)) in
+        (suc at.0, omega (arith, at.1), at.2)
 
   -- Stop is halted once
   pub stop_once : kept stop (halted_numbers plan) ≡ stop ∷ []
-  stop_once = first_kept stop (halted_from plan 0 plan.objects) (λ has. let found = in_from 0 plan.objects stop has in not_stop (0 + found.0) found.1.kind found.3)
+  stop_once = first_kept stop (halted_starts plan ++ halted_from plan 0 plan.objects) (λ has. by_case (Contains-append_cases (halted_starts plan) (halted_from plan 0 plan.objects) stop has)) where
+    by_case : Contains (halted_starts plan) stop ⊎ Contains (halted_from plan 0 plan.objects) stop → ⊥
+    by_case (inl starts) = omega (arith, (in_starts stop starts).1)
+    by_case (inr later) = let found = in_from 0 plan.objects stop later in not_stop (0 + found.0) found.1.kind found.3
+
+  -- and so is Starts, behind it
+  module _ (some : has_dormant plan ≡ true) where
+    starts_is : halted_numbers plan ≡ stop ∷ starts_number plan ∷ halted_from plan 0 plan.objects
+    starts_is = ap (λ (b : Bool). stop ∷ (cond b (starts_number plan ∷ []) [] ++ halted_from plan 0 plan.objects)) some
+
+    pub starts_second : slice_get (halted_numbers plan) 1 ≡ Some (starts_number plan)
+    starts_second = ap (λ (xs : List ℕ). slice_get xs 1) starts_is
+
+    pub starts_placed : Contains (halted_numbers plan) (starts_number plan)
+    starts_placed = has_at (halted_numbers plan) 1 (starts_number plan) starts_second
+
+    not_later : Contains (halted_from plan 0 plan.objects) (starts_number plan) → ⊥
+    not_later has = let found = in_from 0 plan.objects (starts_number plan) has in not_starts found.0 found.1 found.2 (subst (λ (i : ℕ). IsNumberAt plan i found.1.kind (starts_number plan)) (omega arith) found.3)
+
+    starts_once : kept (starts_number plan) (halted_numbers plan) ≡ starts_number plan ∷ []
+    starts_once =
+        let starts = starts_number plan in
+        let rest = kept starts (starts ∷ halted_from plan 0 plan.objects) in
+        ap (λ (xs : List ℕ). kept starts xs) starts_is
+        ∙ ap (λ (b : Bool). cond b (stop ∷ rest) rest) (ne_eqb stop starts (λ same. omega (arith, same)))
+        ∙ first_kept starts (halted_from plan 0 plan.objects) not_later
 
   -- what stands among the numbers
-  pub numbered : (number : ℕ) → Contains (halted_numbers plan) number → (number ≡ stop) ⊎ ((place : ℕ) × (object : ObjectLine) × (slice_get plan.objects place ≡ Some object) × IsNumberAt plan place object.kind number)
-  numbered number (zero, within, is) = inl (sym is)
-  numbered number (suc k, within, is) =
-      let found = in_from 0 plan.objects number (k, omega (arith, within), is) in
-      inr (found.0, found.1, found.2, subst (λ (i : ℕ). IsNumberAt plan i found.1.kind number) (omega arith) found.3)
+  pub numbered : (number : ℕ) → Contains (halted_numbers plan) number → IsNumberOf plan.objects number
+  numbered number has = in_numbers plan.objects number has
 
   pub kept_once : (number : ℕ) → Contains (halted_numbers plan) number → kept number (halted_numbers plan) ≡ number ∷ []
   kept_once number has = by_case (numbered number has) where
-    by_case : (number ≡ stop) ⊎ ((place : ℕ) × (object : ObjectLine) × (slice_get plan.objects place ≡ Some object) × IsNumberAt plan place object.kind number) → kept number (halted_numbers plan) ≡ number ∷ []
+    by_case : IsNumberOf plan.objects number → kept number (halted_numbers plan) ≡ number ∷ []
     by_case (inl is) = subst (λ (n : ℕ). kept n (halted_numbers plan) ≡ n ∷ []) (sym is) stop_once
-    by_case (inr (place, object, here, is)) = placed_once place number object here is
+    by_case (inr (inl (some, is))) = subst (λ (n : ℕ). kept n (halted_numbers plan) ≡ n ∷ []) (sym is) (starts_once some)
+    by_case (inr (inr (place, object, here, is))) = placed_once place number object here is
 
   pub in_order : (i j place other first later : ℕ) (object one : ObjectLine) → slice_get plan.objects place ≡ Some object → IsNumberAt plan place object.kind first → slice_get plan.objects other ≡ Some one → IsNumberAt plan other one.kind later
       → place < other → slice_get (halted_numbers plan) i ≡ Some first → slice_get (halted_numbers plan) j ≡ Some later → i < j

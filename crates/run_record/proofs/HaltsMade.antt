@@ -1,7 +1,6 @@
 -- The halts in a worker's list.
 use Rattle.std.proofs.Common.{◌≡◌, ℕ, suc, ◌==◌, Bool, true, false, cond, List, [], ◌∷◌, ◌++◌, map, get_or, Some, slice_get, refl, sym, ap, ◌∙◌, subst, arith, append_assoc}
 use Rattle.std.specs.Prelude.{All, Contains, filter}
-use Rattle.std.specs.List.{flat_map}
 use Rattle.sync_model.specs.declared.journal.Deed.{Deed}
 use Rattle.sync_model.specs.declared.journal.Deed.TheVariants.{Event, Refused, Halt}
 use Rattle.sync_model.specs.Journal.{by}
@@ -19,7 +18,7 @@ use Rattle.run_record.specs.Record.{Record, ObjectEntry, journal_of, list_of, en
 use Rattle.run_record.proofs.CallLemmas.{AllEndAlike}
 use Rattle.run_record.proofs.HaltedNumbers.{kept_once}
 use Rattle.run_record.proofs.Having.{Each, get_at}
-use Rattle.run_record.proofs.LineLemmas.{before_calm}
+use Rattle.run_record.proofs.LineLemmas.{before_halts, items_cut, before_calm}
 use Rattle.run_record.proofs.PartLemmas.{IsCalmDeed, IsCalm}
 
 made_append : (xs ys : List Made) → halts_made (xs ++ ys) ≡ halts_made xs ++ halts_made ys
@@ -89,9 +88,8 @@ module _ (alike : AllEndAlike) (plan : Plan) (r : Record) (outcome : Outcome) (l
     (worker : ℕ) (line : Line) (misuse : Misuse) (at : slice_get lines worker ≡ Some line) (each : HaltsEach plan line) (ending : line.ending ≡ misused misuse) where
   pub halts_are : halts_made (list_of r worker) ≡ map (λ number. (number, misuse)) (halted_numbers plan)
   halts_are =
-      let before = flat_map (λ spelt. spelt.items) line.spelt ++ line.last in
-      let list : list_of r worker ≡ before ++ line.halts =
-      ap (λ (lists : List (List Made)). get_or lists worker []) (sym are.lists) ∙ get_at items_of [] lines worker line at ∙ sym (append_assoc (flat_map (λ spelt. spelt.items) line.spelt) line.last line.halts) in
+      let before = before_halts line in
+      let list : list_of r worker ≡ before ++ line.halts = ap (λ (lists : List (List Made)). get_or lists worker []) (sym are.lists) ∙ get_at items_of [] lines worker line at ∙ items_cut line in
       ap (λ (l : List Made). halts_made l) list ∙ made_append before line.halts
       ∙ ap (λ (l : List (ℕ × Misuse)). l ++ halts_made line.halts) (calm_none before (before_calm alike plan worker line (are.each worker line at)))
       ∙ all_made misuse line.halts (subst (λ (e : LineEnd). AreHalts e line.halts) ending (are.each worker line at).halts)

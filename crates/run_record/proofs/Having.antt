@@ -51,6 +51,11 @@ module _ {A : Type 0} (P : A → Type 0) where
   each_left (x ∷ xs) ys each = (each.0, each_left xs ys each.1)
 
   -- at a place
+  pub each_at : (xs : List A) (i : ℕ) (x : A) → slice_get xs i ≡ Some x → Each P xs → P x
+  each_at [] i x at each = absurd (none-some x at)
+  each_at (y ∷ xs) zero x at each = subst P (ap (λ (o : Option A). unwrap_or o x) at) each.0
+  each_at (y ∷ xs) (suc i) x at each = each_at xs i x at each.1
+
   pub has_at : (xs : List A) (i : ℕ) (x : A) → slice_get xs i ≡ Some x → P x → Has P xs
   has_at [] i x at is = absurd (none-some x at)
   has_at (y ∷ xs) zero x at is = inl (subst P (sym (ap (λ (o : Option A). unwrap_or o x) at)) is)

@@ -11,7 +11,7 @@ use Rattle.sync_model.specs.Journal.{is_such, logged, log_of}
 use Rattle.sync_model.specs.Log as log
 
 module _ {A : Type 0} where
-  get_left : (xs ys : List A) (i : ℕ) (x : A) → slice_get xs i ≡ Some x → slice_get (xs ++ ys) i ≡ Some x
+  pub get_left : (xs ys : List A) (i : ℕ) (x : A) → slice_get xs i ≡ Some x → slice_get (xs ++ ys) i ≡ Some x
   get_left [] ys i x at = absurd (none-some x at)
   get_left (z ∷ xs) ys zero x at = at
   get_left (z ∷ xs) ys (suc i) x at = get_left xs ys i x at
@@ -25,10 +25,11 @@ module _ {A : Type 0} where
     -- what stands between them is at a place between
     pub inner : (k : ℕ) (z : A) → slice_get mid k ≡ Some z → (i : ℕ) × (slice_get xs i ≡ Some z) × (m < i) × (i < n)
 
-  abbrev CutAt : List A → ℕ → A → Type 0
+  -- a list at one of its places
+  abbrev pub CutAt : List A → ℕ → A → Type 0
   CutAt xs n y = (front : List A) × (rest : List A) × (xs ≡ front ++ y ∷ rest) × (length front ≡ n)
 
-  cut_one : (xs : List A) (n : ℕ) (y : A) → slice_get xs n ≡ Some y → CutAt xs n y
+  pub cut_one : (xs : List A) (n : ℕ) (y : A) → slice_get xs n ≡ Some y → CutAt xs n y
   cut_one [] n y at = absurd (none-some y at)
   cut_one (x ∷ xs) zero y at = ([], xs, ap (λ z. z ∷ xs) (same_Some x y at), refl)
   cut_one (x ∷ xs) (suc n) y at = let c = cut_one xs n y at in (x ∷ c.0, c.1, ap (λ zs. x ∷ zs) c.2, ap suc c.3)
@@ -67,7 +68,10 @@ module _ {E R : Type 0} where
   log_first : (x : Entry E R) (xs : List (Entry E R)) (e : E) (r : R) → x.deed ≡ Event e r → log_of (x ∷ xs) ≡ log.entry x.caller e r ∷ log_of xs
   log_first x xs e r is = ap (λ (d : Deed E R). logged x.caller d (log_of xs)) is
 
-  -- the log of a journal that is cut at two events
+  -- the log of a journal that is cut at an event, and at two
+  pub log_at : (front rest : List (Entry E R)) (x : Entry E R) (e : E) (r : R) → x.deed ≡ Event e r → log_of (front ++ x ∷ rest) ≡ log_of front ++ log.entry x.caller e r ∷ log_of rest
+  log_at front rest x e r is = log_both front (x ∷ rest) ∙ ap (λ (l : List (log.Entry E R)). log_of front ++ l) (log_first x rest e r is)
+
   pub log_cut : (front mid rest : List (Entry E R)) (x y : Entry E R) (e f : E) (r s : R) → x.deed ≡ Event e r → y.deed ≡ Event f s
       → log_of (front ++ x ∷ (mid ++ y ∷ rest)) ≡ log_of front ++ log.entry x.caller e r ∷ (log_of mid ++ log.entry y.caller f s ∷ log_of rest)
   log_cut front mid rest x y e f r s is_x is_y =

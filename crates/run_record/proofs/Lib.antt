@@ -16,13 +16,16 @@ mod ListOrder
 mod Limits
 mod LockReturns
 mod LineLemmas
+mod LineParts
 mod ListLemmas
 mod NamedLemmas
 mod NumberLemmas
 mod ObjectJournals
 mod OnceReturns
+mod OpeningLemmas
 mod PairLemmas
 mod PartLemmas
+mod PlainLemmas
 mod PoolReturns
 mod RangeReplies
 mod Returning
@@ -30,6 +33,7 @@ mod RoundCounts
 mod RoundLemmas
 mod RunLines
 mod RwReturns
+mod StartLemmas
 mod TwoCalls
 mod WaitLemmas
 mod WaitReturns

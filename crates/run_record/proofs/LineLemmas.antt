@@ -1,6 +1,6 @@
 -- The lines of a record: where halts and refusals stand in them.
 use Rattle.std.proofs.Common.{◌≡◌, ◌⊎◌, inl, inr, ℕ, zero, suc, ◌+◌, ◌==◌, Bool, true, false, cond, List, [], ◌∷◌, ◌++◌, length, get_or, Some, None, slice_get, refl, sym, ap, ◌∙◌, subst, arith, append_assoc}
-use Rattle.std.specs.Prelude.{All, Contains, Ok, Err}
+use Rattle.std.specs.Prelude.{All, Contains, Ok}
 use Rattle.std.specs.List.{flat_map}
 use Rattle.std.proofs.lemmas.Bool.{eq-eqb}
 use Rattle.std.proofs.lemmas.Option.{none-some, slice_get_within, get_or_from_slice_get, slice_get-get_or}
@@ -15,13 +15,14 @@ use Rattle.run_record.specs.declared.entered.ObjectEvent.{ObjectEvent}
 use Rattle.run_record.specs.declared.entered.ObjectReply.{ObjectReply}
 use Rattle.run_record.specs.declared.made.Made.{Made}
 use Rattle.run_record.specs.declared.made.Made.TheVariants.{Shared, Entered}
-use Rattle.run_record.specs.Explains.{IsRecordOf, AreLines, HasEnded}
-use Rattle.run_record.specs.Lines.{SpeltCall, LineEnd, whole, misused, halted, unfinished, Line, items_of, IsHalt, AreHalts, HaltsStop, AreSpelt, EndsBy, IsLineOf}
+use Rattle.run_record.specs.Explains.{IsRecordOf, AreLines, HasEnded, IsAtEnd}
+use Rattle.run_record.specs.Lines.{SpeltCall, never, stopped, waits, LineEnd, whole, misused, halted, unfinished, stayed, Line, items_of, IsHalt, AreHalts, HaltsStop, AreSpelt, EndsBy, OpensBy, IsLineOf}
 use Rattle.run_record.specs.Halts.{entered_on}
 use Rattle.run_record.specs.Record.{Record, ObjectEntry, stop, journal_of, list_of, shared_in, entries_in}
-use Rattle.run_record.proofs.CallLemmas.{AllEndAlike, of_call}
+use Rattle.run_record.proofs.CallLemmas.{AllEndAlike, of_call, of_opening, of_closing}
 use Rattle.run_record.proofs.HaltLemmas.{IsHaltBy, misuse_in, halted_has, unhalted_has, refusal_has}
-use Rattle.run_record.proofs.Having.{Has, Each, OfEntry, has_either, has_left, has_right, each_both, each_left, place_of, has_by, by_has, has_entered, some_object, has_in, get_at}
+use Rattle.run_record.proofs.Having.{Has, Each, OfEntry, has_either, has_left, has_right, each_both, place_of, has_by, by_has, has_entered, some_object, has_in, get_at}
+use Rattle.run_record.proofs.LineParts.{each_first, each_last}
 use Rattle.run_record.proofs.ListOrder.{entries_both}
 use Rattle.run_record.proofs.PartLemmas.{IsCalmDeed, IsCalm, IsRefusal}
 
@@ -47,23 +48,28 @@ halts_by m k halts all has = at_item at.1 (subst (IsHalt m) (get_or_from_slice_g
   at_item (Shared x) first second = absurd first
   at_item (Entered object entry) first second = ap (misuse_in m) (sym first ∙ second)
 
+-- what stands in a list before its halts
+abbrev pub before_halts : Line → List Made
+before_halts line = line.first ++ (flat_map (λ spelt. spelt.items) line.spelt ++ line.last)
+
+pub items_cut : (line : Line) → items_of line ≡ before_halts line ++ line.halts
+items_cut line =
+    let calls = flat_map (λ spelt. spelt.items) line.spelt in
+    ap (λ (l : List Made). line.first ++ l) (sym (append_assoc calls line.last line.halts)) ∙ sym (append_assoc line.first (calls ++ line.last) line.halts)
+
 module _ (alike : AllEndAlike) (plan : Plan) (worker : ℕ) where
   spelt_calm : (before : ℕ) (spelt : List SpeltCall) → AreSpelt plan worker before spelt → Each IsCalm (flat_map (λ call. call.items) spelt)
   spelt_calm before [] are = tt
   spelt_calm before (call ∷ spelt) are = each_both IsCalm call.items (flat_map (λ call. call.items) spelt) (of_call alike plan worker before call.call call.items (Done (Ok call.reply)) are.0).0 (spelt_calm (before + length (shared_in call.items)) spelt are.1)
 
   -- nothing up to the call that wasn't completed is a halt
-  last_calm : (before : ℕ) (ending : LineEnd) (rest : List Call) (last : List Made) → EndsBy plan worker before ending rest last → Each IsCalm last
-  last_calm before whole rest last ends = subst (Each IsCalm) (sym ends.1) tt
-  last_calm before (misused k) [] last ends = absurd ends
-  last_calm before (misused k) (call ∷ rest) last spelt = (of_call alike plan worker before call last (Done (Err k)) spelt).0
-  last_calm before (halted k) [] last ends = absurd ends
-  last_calm before (halted k) (call ∷ rest) last spelt = (of_call alike plan worker before call last (Halted k) spelt).0
-  last_calm before unfinished [] last ends = absurd ends
-  last_calm before unfinished (call ∷ rest) last (later, answer, spelt) = each_left IsCalm last later (of_call alike plan worker before call (last ++ later) answer spelt).0
-
-  pub before_calm : (line : Line) → IsLineOf plan worker line → Each IsCalm (flat_map (λ spelt. spelt.items) line.spelt ++ line.last)
-  before_calm line is = each_both IsCalm (flat_map (λ spelt. spelt.items) line.spelt) line.last (spelt_calm 0 line.spelt is.calls) (last_calm _ line.ending line.rest line.last is.ends)
+  pub before_calm : (line : Line) → IsLineOf plan worker line → Each IsCalm (before_halts line)
+  before_calm line is =
+      let calls = flat_map (λ spelt. spelt.items) line.spelt in
+      each_both IsCalm line.first (calls ++ line.last) (each_first IsCalm plan worker (λ items answer opens. (of_opening alike plan worker items answer opens).0) line.ending line.spelt line.first is.opens)
+      (each_both IsCalm calls line.last (spelt_calm 0 line.spelt is.calls)
+      (each_last IsCalm plan worker (λ items answer closes. (of_closing alike plan worker items answer closes).0) (length (shared_in calls)) line.ending line.rest line.last
+      (λ call behind is_next items answer spelt. (of_call alike plan worker (length (shared_in calls)) call items answer spelt).0) is.ends))
 
   -- a halt behind it is by the misuse in which the list ends
   behind_halt : (m : Misuse) (ending : LineEnd) (halts : List Made) → AreHalts ending halts → HasHalt m halts → ending ≡ misused m
@@ -71,11 +77,12 @@ module _ (alike : AllEndAlike) (plan : Plan) (worker : ℕ) where
   behind_halt m whole halts none has = absurd (subst (HasHalt m) none has)
   behind_halt m (halted k) halts none has = absurd (subst (HasHalt m) none has)
   behind_halt m unfinished halts none has = absurd (subst (HasHalt m) none has)
+  behind_halt m (stayed stay) halts none has = absurd (subst (HasHalt m) none has)
 
   -- so is every halt of the list
   line_halt : (m : Misuse) (line : Line) → IsLineOf plan worker line → HasHalt m (items_of line) → line.ending ≡ misused m
-  line_halt m line is has = either (has_either (OfEntry (IsHaltBy m)) (flat_map (λ spelt. spelt.items) line.spelt ++ line.last) line.halts (subst (HasHalt m) (sym (append_assoc (flat_map (λ spelt. spelt.items) line.spelt) line.last line.halts)) has)) where
-    either : HasHalt m (flat_map (λ spelt. spelt.items) line.spelt ++ line.last) ⊎ HasHalt m line.halts → line.ending ≡ misused m
+  line_halt m line is has = either (has_either (OfEntry (IsHaltBy m)) (before_halts line) line.halts (subst (HasHalt m) (items_cut line) has)) where
+    either : HasHalt m (before_halts line) ⊎ HasHalt m line.halts → line.ending ≡ misused m
     either (inl early) = absurd (calm_not m _ (before_calm line is) early)
     either (inr late) = behind_halt m line.ending line.halts is.halts late
 
@@ -97,21 +104,26 @@ module _ (alike : AllEndAlike) (plan : Plan) (worker : ℕ) where
 
   line_halts : (m : Misuse) (object : ℕ) (line : Line) → IsLineOf plan worker line → line.ending ≡ misused m → Contains (entered_on line.halts) object → Has (IsHaltBy m) (entries_in object (items_of line))
   line_halts m object line is ending on =
-      let first = flat_map (λ spelt. spelt.items) line.spelt in
-      subst (λ (es : List ObjectEntry). Has (IsHaltBy m) es) (sym (entries_both object first (line.last ++ line.halts) ∙ ap (λ (es : List ObjectEntry). entries_in object first ++ es) (entries_both object line.last line.halts)))
-      (has_right (IsHaltBy m) (entries_in object first) (entries_in object line.last ++ entries_in object line.halts) (has_right (IsHaltBy m) (entries_in object line.last) (entries_in object line.halts)
-      (halt_on m object line.halts (subst (λ (e : LineEnd). AreHalts e line.halts) ending is.halts) on)))
+      subst (λ (es : List ObjectEntry). Has (IsHaltBy m) es) (sym (ap (λ (xs : List Made). entries_in object xs) (items_cut line) ∙ entries_both object (before_halts line) line.halts))
+      (has_right (IsHaltBy m) (entries_in object (before_halts line)) (entries_in object line.halts)
+      (halt_on m object line.halts (subst (λ (e : LineEnd). AreHalts e line.halts) ending is.halts) on))
 
-  -- a list that ends in a call that was halted has a refusal
+  -- a list that ends in a call that was halted has a refusal, and so has that of a worker that met a halt before its script
   last_refusal : (m : Misuse) (before : ℕ) (rest : List Call) (last : List Made) → EndsBy plan worker before (halted m) rest last → Has (OfEntry (IsRefusal m)) last
-  last_refusal m before [] last ends = absurd ends
+  last_refusal m before [] last closes = (of_closing alike plan worker last (Halted m) closes).1
   last_refusal m before (call ∷ rest) last spelt = (of_call alike plan worker before call last (Halted m) spelt).1
 
   line_refusal : (m : Misuse) (line : Line) → IsLineOf plan worker line → line.ending ≡ halted m → Has (OfEntry (IsRefusal m)) (items_of line)
   line_refusal m line is ending =
-      let before = length (shared_in (flat_map (λ spelt. spelt.items) line.spelt)) in
-      has_right (OfEntry (IsRefusal m)) (flat_map (λ spelt. spelt.items) line.spelt) (line.last ++ line.halts)
-      (has_left (OfEntry (IsRefusal m)) line.last line.halts (last_refusal m before line.rest line.last (subst (λ (e : LineEnd). EndsBy plan worker before e line.rest line.last) ending is.ends)))
+      let calls = flat_map (λ spelt. spelt.items) line.spelt in
+      has_right (OfEntry (IsRefusal m)) line.first (calls ++ (line.last ++ line.halts))
+      (has_right (OfEntry (IsRefusal m)) calls (line.last ++ line.halts)
+      (has_left (OfEntry (IsRefusal m)) line.last line.halts (last_refusal m (length (shared_in calls)) line.rest line.last (subst (λ (e : LineEnd). EndsBy plan worker (length (shared_in calls)) e line.rest line.last) ending is.ends))))
+
+  first_refusal : (m : Misuse) (line : Line) → IsLineOf plan worker line → line.ending ≡ stayed (stopped m) → Has (OfEntry (IsRefusal m)) (items_of line)
+  first_refusal m line is ending =
+      let opens = subst (λ (e : LineEnd). OpensBy plan worker e line.spelt line.first) ending is.opens in
+      has_left (OfEntry (IsRefusal m)) line.first (flat_map (λ spelt. spelt.items) line.spelt ++ (line.last ++ line.halts)) (of_opening alike plan worker line.first (Halted m) opens.1).1
 
 -- the line of a worker, which ended in this misuse
 abbrev pub MetMisuse : List Line → ℕ → Misuse → Type 0
@@ -143,26 +155,29 @@ module _ (alike : AllEndAlike) (plan : Plan) (r : Record) (outcome : Outcome) (l
     no_start (inr has) = has
 
   -- a worker that met a halt came behind one that met a misuse
-  halted_met : (worker : ℕ) (line : Line) (m : Misuse) → slice_get lines worker ≡ Some line → line.ending ≡ halted m → (other : ℕ) × MetMisuse lines other m
-  halted_met worker line m at ending =
-      let has = subst (λ (xs : List Made). Has (OfEntry (IsRefusal m)) xs) (sym (list_at worker line at)) (line_refusal alike plan worker m line (are.each worker line at) ending) in
+  refused_met : (worker : ℕ) (line : Line) (m : Misuse) → slice_get lines worker ≡ Some line → Has (OfEntry (IsRefusal m)) (items_of line) → (other : ℕ) × MetMisuse lines other m
+  refused_met worker line m at in_line =
+      let has = subst (λ (xs : List Made). Has (OfEntry (IsRefusal m)) xs) (sym (list_at worker line at)) in_line in
       let some = some_object (IsRefusal m) (list_of r worker) has in
       let refused = has_by (IsRefusal m) worker (journal_of r some.0) (subst (λ (es : List ObjectEntry). Has (IsRefusal m) es) (lawful.once worker some.0) some.1) in
       met_by some.0 m (refusal_has plan r lawful m some.0 refused)
 
-  module _ (stopped : (worker : ℕ) (line : Line) → slice_get lines worker ≡ Some line → HaltsStop line) (none : halt_of (journal_of r stop) ≡ None) where
+  module _ (halts_stop : (worker : ℕ) (line : Line) → slice_get lines worker ≡ Some line → HaltsStop line) (none : halt_of (journal_of r stop) ≡ None) where
     -- nobody met a misuse, where Stop isn't halted
     unmet : (worker : ℕ) (m : Misuse) → MetMisuse lines worker m → ⊥
     unmet worker m (line, at, ending) =
-        let listed = line_halts alike plan worker m stop line (are.each worker line at) ending (stopped worker line at m ending) in
+        let listed = line_halts alike plan worker m stop line (are.each worker line at) ending (halts_stop worker line at m ending) in
         unhalted_has m None (journal_of r stop) none (has_by (IsHaltBy m) worker (journal_of r stop)
         (subst (λ (es : List ObjectEntry). Has (IsHaltBy m) es) (ap (λ (xs : List Made). entries_in stop xs) (sym (list_at worker line at)) ∙ lawful.once worker stop) listed))
 
-    ended_whole : (worker : ℕ) (line : Line) (ending : LineEnd) → slice_get lines worker ≡ Some line → line.ending ≡ ending → HasEnded ending → ending ≡ whole
-    ended_whole worker line whole at is ended = refl
-    ended_whole worker line (misused m) at is ended = absurd (unmet worker m (line, at, is))
-    ended_whole worker line (halted m) at is ended = let met = halted_met worker line m at is in absurd (unmet met.0 m met.1)
-    ended_whole worker line unfinished at is ended = absurd ended
+    at_end : (worker : ℕ) (line : Line) (ending : LineEnd) → slice_get lines worker ≡ Some line → line.ending ≡ ending → HasEnded ending → IsAtEnd ending
+    at_end worker line whole at is ended = tt
+    at_end worker line (misused m) at is ended = absurd (unmet worker m (line, at, is))
+    at_end worker line (halted m) at is ended = let met = refused_met worker line m at (line_refusal alike plan worker m line (are.each worker line at) is) in absurd (unmet met.0 m met.1)
+    at_end worker line unfinished at is ended = absurd ended
+    at_end worker line (stayed never) at is ended = tt
+    at_end worker line (stayed (stopped m)) at is ended = let met = refused_met worker line m at (first_refusal alike plan worker m line (are.each worker line at) is) in absurd (unmet met.0 m met.1)
+    at_end worker line (stayed waits) at is ended = absurd ended
 
-    pub all_whole : All (λ line. HasEnded line.ending) lines → All (λ line. line.ending ≡ whole) lines
-    all_whole ended k d within = let at = slice_get-get_or lines k d within in ended_whole k (get_or lines k d) (get_or lines k d).ending at refl (ended k d within)
+    pub all_at_end : All (λ line. HasEnded line.ending) lines → All (λ line. IsAtEnd line.ending) lines
+    all_at_end ended k d within = let at = slice_get-get_or lines k d within in at_end k (get_or lines k d) (get_or lines k d).ending at refl (ended k d within)

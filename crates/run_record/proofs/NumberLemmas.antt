@@ -1,5 +1,5 @@
--- The objects of a record by number: Stop, those of the workload, and the parts of its pools.
-use Rattle.std.proofs.Common.{◌≡◌, ℕ, zero, suc, ◌+◌, ◌-◌, ◌*◌, ◌<◌, ◌≤◌, cond, List, [], ◌∷◌, length, take, count_by, Option, Some, ◌⊎◌, inl, inr, slice_get, refl, sym, ap, ◌∙◌, subst, arith}
+-- The objects of a record by number: Stop, those of the workload, the parts of its pools, and Starts.
+use Rattle.std.proofs.Common.{◌≡◌, ℕ, zero, suc, ◌+◌, ◌-◌, ◌*◌, ◌<◌, ◌≤◌, Bool, true, false, cond, List, [], ◌∷◌, length, take, count_by, Option, Some, ◌⊎◌, inl, inr, slice_get, refl, sym, ap, ◌∙◌, subst, arith}
 use Rattle.std.proofs.lemmas.Bool.{cases_lt}
 use Rattle.std.proofs.lemmas.List.Sums.{sum_by-append}
 use Rattle.std.proofs.lemmas.Option.{none-some, slice_get_within}
@@ -9,13 +9,14 @@ use Rattle.std.specs.Prelude.{unwrap_or}
 use Rattle.workload.specs.declared.object.ObjectKind.{ObjectKind}
 use Rattle.workload.specs.declared.object.ObjectKind.TheVariants as kinds
 use Rattle.workload.specs.declared.object.ObjectLine.{ObjectLine}
-use Rattle.workload.specs.Plan.{Plan}
+use Rattle.workload.specs.Plan.{Plan, has_dormant}
 use Rattle.run_record.specs.Calls.{IsJournalOf}
 use Rattle.run_record.specs.Explains.{IsRecordOf}
 use Rattle.run_record.specs.Journals.{IsStops}
-use Rattle.run_record.specs.Objects.{is_pool, first_part}
+use Rattle.run_record.specs.Objects.{is_pool, first_part, object_count, starts_number}
 use Rattle.run_record.specs.PoolKind.{IsPartJournal}
 use Rattle.run_record.specs.Record.{Record, ObjectEntry, stop, object_number, journal_of}
+use Rattle.run_record.specs.StartsKind.{IsStartsJournal}
 use Rattle.run_record.proofs.ListLemmas.{get_past}
 
 module _ (workers : ℕ) where
@@ -98,7 +99,8 @@ module _ (workers : ℕ) where
         (same, omega (arith, is, parts))
 
 module _ (plan : Plan) (r : Record) (lawful : IsRecordOf plan r) (P : List ObjectEntry → Type 0) (none : P []) (stops : IsStops (journal_of r stop) → P (journal_of r stop))
-    (of_kind : (place : ℕ) (kind : ObjectKind) (journal : List ObjectEntry) → IsJournalOf plan place kind journal → P journal) (of_part : (room : ℕ) (journal : List ObjectEntry) → IsPartJournal room journal → P journal) where
+    (of_kind : (place : ℕ) (kind : ObjectKind) (journal : List ObjectEntry) → IsJournalOf plan place kind journal → P journal) (of_part : (room : ℕ) (journal : List ObjectEntry) → IsPartJournal room journal → P journal)
+    (of_starts : (dormant : List Bool) (journal : List ObjectEntry) → IsStartsJournal dormant journal → P journal) where
   there_or_past : (xs : List ObjectLine) (place : ℕ) → place < length xs → (object : ObjectLine) × (slice_get xs place ≡ Some object)
   there_or_past [] place below = absurd (omega (arith, below))
   there_or_past (x ∷ xs) zero below = (x, refl)
@@ -112,14 +114,30 @@ module _ (plan : Plan) (r : Record) (lawful : IsRecordOf plan r) (P : List Objec
       let e : first_part plan at.place + at.part ≡ number = omega (arith, is, at.is) in
       subst (λ n. P (journal_of r n)) e (of_part _ (journal_of r (first_part plan at.place + at.part)) (lawful.parts at.place at.part at.object at.here at.pool at.there))
 
+  -- behind the parts stands Starts, where some workers wait to be started
+  behind_parts : (place : ℕ) → length plan.objects ≤ place → parts_in plan.workers plan.objects ≤ place - length plan.objects → P (journal_of r (object_number place))
+  behind_parts place past late = by_waiting (has_dormant plan) refl where
+    no_object : object_count plan ≤ object_number place → P (journal_of r (object_number place))
+    no_object past_all = subst P (sym (get_past r.journals (object_number place) (omega (arith, past_all, lawful.objects)))) none
+
+    by_number : has_dormant plan ≡ true → (starts_number plan < object_number place) ⊎ (object_number place ≤ starts_number plan) → P (journal_of r (object_number place))
+    by_number some (inl later) = no_object (omega (arith, later, ap (λ (t : Bool). starts_number plan + cond t 1 0) some))
+    by_number some (inr here) =
+        let e : starts_number plan ≡ object_number place = omega (arith, past, late, here) in
+        subst (λ n. P (journal_of r n)) e (of_starts plan.dormant (journal_of r (starts_number plan)) (lawful.starts some))
+
+    by_waiting : (b : Bool) → has_dormant plan ≡ b → P (journal_of r (object_number place))
+    by_waiting true some = by_number some (cases_lt (starts_number plan) (object_number place))
+    by_waiting false nobody = no_object (omega (arith, past, late, ap (λ (t : Bool). starts_number plan + cond t 1 0) nobody))
+
   behind_stop : (place : ℕ) → (place < length plan.objects) ⊎ (length plan.objects ≤ place) → P (journal_of r (object_number place))
   behind_stop place (inl below) = at_place place below
   behind_stop place (inr past) = by_case (cases_lt (place - length plan.objects) (parts_in plan.workers plan.objects)) where
     by_case : (place - length plan.objects < parts_in plan.workers plan.objects) ⊎ (parts_in plan.workers plan.objects ≤ place - length plan.objects) → P (journal_of r (object_number place))
     by_case (inl below) = at_part (object_number place) (place - length plan.objects) (omega (arith, past)) (part_at plan.workers plan.objects (place - length plan.objects) below)
-    by_case (inr behind) = subst P (sym (get_past r.journals (object_number place) (omega (arith, past, behind, lawful.objects)))) none
+    by_case (inr behind) = behind_parts place past behind
 
-  -- what holds of each journal of Stop, of an object, and of a part of a pool, and of an empty one, holds of the journal of whatever number
+  -- what holds of each journal of Stop, of an object, of a part of a pool, and of Starts, and of an empty one, holds of the journal of whatever number
   pub each_journal : (number : ℕ) → P (journal_of r number)
   each_journal zero = stops lawful.stops
   each_journal (suc place) = let e : object_number place ≡ suc place = omega arith in subst (λ n. P (journal_of r n)) e (behind_stop place (cases_lt place (length plan.objects)))

@@ -1,5 +1,5 @@
 -- The journals of all objects of a record.
-use Rattle.std.proofs.Common.{◌≡◌, ℕ, List, [], Some, slice_get, sym, subst}
+use Rattle.std.proofs.Common.{◌≡◌, ℕ, Bool, List, [], Some, slice_get, sym, subst}
 use Rattle.std.proofs.lemmas.Option.{none-some}
 use Rattle.sync_model.specs.Journal.{KeepsEdges}
 use Rattle.workload.specs.declared.object.ObjectKind.{ObjectKind}
@@ -13,6 +13,7 @@ use Rattle.run_record.specs.Edges.{frees, takes}
 use Rattle.run_record.specs.Explains.{IsRecordOf}
 use Rattle.run_record.specs.PoolKind.{IsPartJournal}
 use Rattle.run_record.specs.Record.{Record, ObjectEntry, object_number, journal_of}
+use Rattle.run_record.specs.StartsKind.{IsStartsJournal}
 use Rattle.run_record.proofs.Lifts.{edges_lifted}
 
 abbrev pub Keeps : List ObjectEntry → Type 0
@@ -41,6 +42,10 @@ of_kind plan place kinds.Pool journal is = from is nothing
 -- and of a part of a pool
 pub of_part : (room : ℕ) (journal : List ObjectEntry) → IsPartJournal room journal → Keeps journal
 of_part room journal is = from is.1 (edges_lifted event.Pool reply.Pool frees takes is.0 is.3)
+
+-- and of Starts
+pub of_starts : (dormant : List Bool) (journal : List ObjectEntry) → IsStartsJournal dormant journal → Keeps journal
+of_starts dormant journal is = from is.1 (edges_lifted event.Starts reply.Starts frees takes is.0 is.3)
 
 -- the journal of an object of a known kind
 pub journal_at : (plan : Plan) (r : Record) (place : ℕ) (object : ObjectLine) (kind : ObjectKind) → IsRecordOf plan r → slice_get plan.objects place ≡ Some object → object.kind ≡ kind → IsJournalOf plan place kind (journal_of r (object_number place))

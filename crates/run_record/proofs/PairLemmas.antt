@@ -1,11 +1,11 @@
 -- How many pairs the replies of a record's outcome show.
 use Rattle.std.proofs.Common.{◌≡◌, ℕ, suc, ◌+◌, ◌<◌, ◌≤◌, Bool, true, ◌&&◌, ◌⊎◌, inl, inr, List, [], ◌∷◌, ◌++◌, length, map, get_or, Some, None, slice_get, refl, sym, ap, ◌∙◌, subst, arith, append_assoc}
-use Rattle.std.specs.Prelude.{All, Ok, Err}
+use Rattle.std.specs.Prelude.{All, Ok}
 use Rattle.std.specs.List.{AllByRecursion, flat_map, list_all}
 use Rattle.std.proofs.lemmas.List.{length-append, get_or_past, length-map}
 use Rattle.std.proofs.lemmas.List.Elements.{All-from_recursion}
 use Rattle.std.proofs.lemmas.Option.{slice_get_cases}
-use Rattle.sync_model.specs.declared.answer.Answer.TheVariants.{Done, Halted}
+use Rattle.sync_model.specs.declared.answer.Answer.TheVariants.{Done}
 use Rattle.script_calls.specs.declared.call.Call.{Call}
 use Rattle.script_calls.specs.declared.call.Operation.TheVariants as operations
 use Rattle.script_calls.specs.declared.call.Reply.{Reply}
@@ -24,13 +24,14 @@ use Rattle.run_record.specs.declared.made.Made.TheVariants.{Shared, Entered}
 use Rattle.run_record.specs.Calls.{SpellsCall}
 use Rattle.run_record.specs.Explains.{AreLines}
 use Rattle.run_record.specs.Limits.{HasShown}
-use Rattle.run_record.specs.Lines.{SpeltCall, LineEnd, whole, misused, halted, unfinished, Line, items_of, replies_of, IsHalt, AreHalts, AreSpelt, EndsBy, IsLineOf}
+use Rattle.run_record.specs.Lines.{SpeltCall, LineEnd, whole, misused, halted, unfinished, stayed, Line, items_of, replies_of, IsHalt, AreHalts, AreSpelt, IsLineOf}
 use Rattle.run_record.specs.MapKind.{cursor_showing}
 use Rattle.run_record.specs.Parts.{Places}
 use Rattle.run_record.specs.Record.{Record, list_of, shared_in, calls_of}
-use Rattle.run_record.proofs.AskLemmas.{Asks, by_call}
+use Rattle.run_record.proofs.AskLemmas.{Asks, by_opening, by_closing, by_call}
 use Rattle.run_record.proofs.FewLemmas.{few_call}
-use Rattle.run_record.proofs.Having.{Each, each_both, each_left, get_at}
+use Rattle.run_record.proofs.Having.{Each, each_both, get_at}
+use Rattle.run_record.proofs.LineParts.{each_first, each_last, none_shared_first}
 use Rattle.run_record.proofs.Limits.{KnowsKey, item_of}
 use Rattle.run_record.proofs.RunLines.{each_along}
 
@@ -79,22 +80,18 @@ module _ (plan : Plan) (worker : ℕ) where
   behind_known whole halts none = subst (Each Known) (sym none) tt
   behind_known (halted misuse) halts none = subst (Each Known) (sym none) tt
   behind_known unfinished halts none = subst (Each Known) (sym none) tt
-
-  last_known : (before : ℕ) (ending : LineEnd) (rest : List Call) (last : List Made) → Each (IsNamed plan) rest → EndsBy plan worker before ending rest last → Each Known last
-  last_known before whole rest last named ends = subst (Each Known) (sym ends.1) tt
-  last_known before (misused misuse) [] last named ends = absurd ends
-  last_known before (misused misuse) (call ∷ rest) last named spelt = known_call before call last (Done (Err misuse)) named.0 spelt
-  last_known before (halted misuse) [] last named ends = absurd ends
-  last_known before (halted misuse) (call ∷ rest) last named spelt = known_call before call last (Halted misuse) named.0 spelt
-  last_known before unfinished [] last named ends = absurd ends
-  last_known before unfinished (call ∷ rest) last named (later, answer, spelt) = each_left Known last later (known_call before call (last ++ later) answer named.0 spelt)
+  behind_known (stayed stay) halts none = subst (Each Known) (sym none) tt
 
   line_known : (line : Line) → IsLineOf plan worker line → Each (IsNamed plan) (map (λ s. s.call) line.spelt) → Each (IsNamed plan) line.rest → Each Known (items_of line)
-  line_known line is named left = each_both Known (flat_map (λ s. s.items) line.spelt) (line.last ++ line.halts)
+  line_known line is named left =
+      let calls = flat_map (λ s. s.items) line.spelt in
+      each_both Known line.first (calls ++ (line.last ++ line.halts)) (each_first Known plan worker (by_opening (KnowsKey plan) plan worker) line.ending line.spelt line.first is.opens)
+      (each_both Known calls (line.last ++ line.halts)
       (spelt_known 0 line.spelt named is.calls)
       (each_both Known line.last line.halts
-      (last_known (length (shared_in (flat_map (λ s. s.items) line.spelt))) line.ending line.rest line.last left is.ends)
-      (behind_known line.ending line.halts is.halts))
+      (each_last Known plan worker (by_closing (KnowsKey plan) plan worker) (length (shared_in calls)) line.ending line.rest line.last
+      (λ call behind is_next items answer spelt. known_call (length (shared_in calls)) call items answer (subst (Each (IsNamed plan)) is_next left).0 spelt) is.ends)
+      (behind_known line.ending line.halts is.halts)))
 
   shared_known : (list : List Made) → Each Known list → Each (λ x. KnowsKey plan x.call) (shared_in list)
   shared_known [] each = tt
@@ -146,7 +143,9 @@ module _ (plan : Plan) (r : Record) (outcome : Outcome) (lines : List Line) (are
 
   module _ (most : ℕ) (few : (worker : ℕ) (shown : List (ℕ × ℕ)) → HasShown (calls_of r worker) shown → length shown ≤ most) where
     line_few : (worker : ℕ) (line : Line) → slice_get lines worker ≡ Some line → list_all (has_pairs_to most) (replies_of line) ≡ true
-    line_few worker line at = spelt_few plan worker most (calls_of r worker) (few worker) [] line.spelt (line.last ++ line.halts) (ap (λ (l : List Made). shared_in l) (line_list worker line at)) 0 refl (are.each worker line at).calls
+    line_few worker line at =
+        let none = none_shared_first plan worker line (are.each worker line at) in
+        spelt_few plan worker most (calls_of r worker) (few worker) line.first line.spelt (line.last ++ line.halts) (ap (λ (l : List Made). shared_in l) (line_list worker line at)) 0 (sym (ap (λ (l : List Item). length l) none)) (are.each worker line at).calls
 
     lines_few : (all : List Line) → ((worker : ℕ) (line : Line) → slice_get all worker ≡ Some line → list_all (has_pairs_to most) (replies_of line) ≡ true) → list_all (list_all (has_pairs_to most)) (map replies_of all) ≡ true
     lines_few [] each = refl

@@ -20,10 +20,11 @@ use Rattle.run_record.specs.declared.made.Made.{Made}
 use Rattle.run_record.specs.declared.made.Made.TheVariants.{Shared}
 use Rattle.run_record.specs.Calls.{SpellsCall}
 use Rattle.run_record.specs.Example.{plan, store_call, load_call, replies_by}
-use Rattle.run_record.specs.Explains.{AreLines, Explains}
-use Rattle.run_record.specs.Lines.{SpeltCall, LineEnd, whole, Line, script_of, items_of, replies_of, AreHalts, AreSpelt, EndsBy, IsLineOf}
+use Rattle.run_record.specs.Explains.{AreLines, Explains, IsAtEnd}
+use Rattle.run_record.specs.Lines.{SpeltCall, LineEnd, whole, misused, halted, unfinished, stayed, Line, script_of, items_of, replies_of, AreHalts, AreSpelt, EndsBy, OpensBy, IsLineOf}
 use Rattle.run_record.specs.Parts.{Places}
 use Rattle.run_record.specs.Record.{Record, calls_of, shared_in}
+use Rattle.run_record.proofs.PlainLemmas.{none_first, none_stayed}
 
 -- the worker's two calls on the atomic, with what they answered
 pub record TwoCalls (r : Record) (first second : Reply ℕ) : Type 0 where
@@ -100,6 +101,13 @@ module _ (scripts_are : (outcome : Outcome) (r : Record) (lines : List Line) →
   are_spelt : AreSpelt plan 0 0 (spelt.0 ∷ spelt.1 ∷ [])
   are_spelt = subst (AreSpelt plan 0 0) spelt.2 is_line.calls
 
+  at_the_end : (ending : LineEnd) → IsAtEnd ending → OpensBy plan 0 ending line.0.spelt line.0.first → ending ≡ whole
+  at_the_end whole ended opens = refl
+  at_the_end (misused misuse) ended opens = absurd ended
+  at_the_end (halted misuse) ended opens = absurd ended
+  at_the_end unfinished ended opens = absurd ended
+  at_the_end (stayed stay) ended opens = absurd (none_stayed plan 0 refl stay line.0.spelt line.0.first opens)
+
   read : (call known : Call) (reply given : Reply ℕ) (before : ℕ) (items : List Made) → call ≡ known → reply ≡ given → SpellsCall plan 0 before call items (Done (Ok reply)) → SpellsCall plan 0 before known items (Done (Ok given))
   read call known reply given before items same answered is = subst (λ (c : Call). SpellsCall plan 0 before c items (Done (Ok given))) same (subst (λ (a : Reply ℕ). SpellsCall plan 0 before call items (Done (Ok a))) answered is)
 
@@ -109,16 +117,19 @@ module _ (scripts_are : (outcome : Outcome) (r : Record) (lines : List Line) →
       let l = read spelt.1.call load_call spelt.1.reply second (0 + length (shared_in spelt.0.items)) spelt.1.items calls_are.1 replies_are.1 are_spelt.1.0 in
       let x = one_place (shared.Atomic 0 (calls.Store (Int64 (pos 5)))) (shared_replies.Atomic s.0) spelt.0.items s.1 in
       let y = one_place (shared.Atomic 0 calls.Load) (shared_replies.Atomic l.0) spelt.1.items l.1 in
-      let ended : line.0.ending ≡ whole = subst (λ (ls : List Line). (get_or ls 0 line.0).ending ≡ whole) line.1 (explains.agrees.0 0 line.0 (subst (λ (n : ℕ). 0 < n) (sym (ap (λ (ls : List Line). length ls) line.1)) (omega arith))) in
+      let at_end : IsAtEnd line.0.ending = subst (λ (ls : List Line). IsAtEnd (get_or ls 0 line.0).ending) line.1 (explains.agrees.0 0 line.0 (subst (λ (n : ℕ). 0 < n) (sym (ap (λ (ls : List Line). length ls) line.1)) (omega arith))) in
+      let ended : line.0.ending ≡ whole = at_the_end line.0.ending at_end is_line.opens in
       let before = length (shared_in (flat_map (λ call. call.items) line.0.spelt)) in
-      let none : line.0.last ≡ [] = (subst (λ (e : LineEnd). EndsBy plan 0 before e line.0.rest line.0.last) ended is_line.ends).1 in
+      let unopened : line.0.first ≡ [] = none_first plan 0 refl line.0.ending line.0.spelt line.0.first is_line.opens in
+      let none : line.0.last ≡ [] = (subst (λ (e : LineEnd). EndsBy plan 0 before e line.0.rest line.0.last) ended is_line.ends).1.0 in
       let unhalted : line.0.halts ≡ [] = subst (λ (e : LineEnd). AreHalts e line.0.halts) ended is_line.halts in
       let items : items_of line.0 ≡ Shared x.0 ∷ Shared y.0 ∷ [] =
-      ap (λ (ls : List SpeltCall). flat_map (λ call. call.items) ls ++ (line.0.last ++ line.0.halts)) spelt.2
+      ap (λ (xs : List Made). xs ++ (flat_map (λ call. call.items) line.0.spelt ++ (line.0.last ++ line.0.halts))) unopened
+      ∙ (ap (λ (ls : List SpeltCall). flat_map (λ call. call.items) ls ++ (line.0.last ++ line.0.halts)) spelt.2
       ∙ (ap (λ (xs : List Made). (xs ++ (spelt.1.items ++ [])) ++ (line.0.last ++ line.0.halts)) x.1
       ∙ (ap (λ (xs : List Made). (Shared x.0 ∷ (xs ++ [])) ++ (line.0.last ++ line.0.halts)) y.1
       ∙ (ap (λ (xs : List Made). Shared x.0 ∷ Shared y.0 ∷ (xs ++ line.0.halts)) none
-      ∙ ap (λ (xs : List Made). Shared x.0 ∷ Shared y.0 ∷ xs) unhalted))) in
+      ∙ ap (λ (xs : List Made). Shared x.0 ∷ Shared y.0 ∷ xs) unhalted)))) in
       let lists : r.lists ≡ items_of line.0 ∷ [] = sym explains.are.lists ∙ ap (map items_of) line.1 in
       record {
         store = x.0;

@@ -28,7 +28,7 @@ load_call = record { object = 0; operation = operations.Atomic calls.Load }
 
 -- an int64 of name `a`, and one worker
 abbrev pub plan : Plan
-plan = record { workers = 1; objects = record { name = 97 ∷ []; kind = kinds.Atomic types.Int64 } ∷ []; scripts = (store_call ∷ load_call ∷ []) ∷ []; schedule = [] }
+plan = record { workers = 1; objects = record { name = 97 ∷ []; kind = kinds.Atomic types.Int64 } ∷ []; dormant = false ∷ []; scripts = (store_call ∷ load_call ∷ []) ∷ []; schedule = [] }
 
 -- a run of it comes to these replies, and leaves 5
 abbrev pub replies_by : Reply ℕ → Reply ℕ → Outcome

@@ -15,7 +15,7 @@ use Rattle.workload.specs.Puts.{puts_at}
 use Rattle.run_record.specs.declared.made.Made.{Made}
 use Rattle.run_record.specs.Calls.{IsJournalOf}
 use Rattle.run_record.specs.Journals.{IsStops}
-use Rattle.run_record.specs.Lines.{Line, LineEnd, whole, misused, halted, unfinished, stayed, Stay, never, stopped, waits, calls_made, items_of, replies_of, IsLineOf}
+use Rattle.run_record.specs.Lines.{Line, LineEnd, whole, misused, halted, unfinished, stayed, never, stopped, waits, calls_made, items_of, replies_of, IsLineOf}
 use Rattle.run_record.specs.Objects.{contents_of, ends_in, first_part, object_count, starts_number}
 use Rattle.run_record.specs.PoolKind.{IsPartJournal}
 use Rattle.run_record.specs.Record.{Record, stop, object_number, journal_of, list_of, shared_in, entries_in, calls_of, front_of}

@@ -13,7 +13,10 @@ ghost use Rattle.run_record.specs.Record.{Record, ObjectEntry, journal_of, list_
 use crate::entered::{ObjectEvent, ObjectReply};
 use crate::made::Made;
 use script_calls::Outcome;
+use starts_core::StartsCore;
+use starts_core::laws::{goes_when_started, synchronizes};
 use sync_model::Deed;
+use sync_model::laws::journals::journal_is_log;
 
 /// In a workload none of whose workers waits to be started nothing stands before or behind a script: each list is the completed calls
 /// and what stands behind them, the objects are Stop, the declared ones and the parts of pools, and a run that is done has come to the end
@@ -46,6 +49,10 @@ pub fn who_was_started_knows_what_its_starter_knew()
     ensures { (plan : Plan) (r : Record) (outcome : Outcome) (lines : List Line) (worker : ℕ) (line : Line)
         → AreLines plan r outcome lines → IsRecordOf plan r → slice_get lines worker ≡ Some line → is_dormant plan worker ≡ true → ((stay : Stay) → line.ending ≢ stayed stay)
         → (m n : ℕ) × (start : ObjectEntry) × (leave : ObjectEntry) × (earlier : List Made) × (m < n) × (slice_get (journal_of r (starts_number plan)) m ≡ Some start) × (slice_get (journal_of r (starts_number plan)) n ≡ Some leave)
-        × (start.deed ≡ Deed.Event (ObjectEvent.Starts (starts.Start worker)) (ObjectReply.Starts answers.Done)) × (leave.deed ≡ Deed.Event (ObjectEvent.Starts starts.Leave) (ObjectReply.Starts answers.Go))
+        × (start.deed ≡ Deed.Event (ObjectEvent.Starts (starts.Start worker)) (ObjectReply.Starts answers.Done)) × (start.caller ≢ worker) × (leave.deed ≡ Deed.Event (ObjectEvent.Starts starts.Leave) (ObjectReply.Starts answers.Go))
         × (line.first ≡ earlier ++ Made.Entered (starts_number plan) leave ∷ []) × AtLeast leave.front start.front }
-{}
+{
+    journal_is_log::<StartsCore>();
+    goes_when_started();
+    synchronizes();
+}

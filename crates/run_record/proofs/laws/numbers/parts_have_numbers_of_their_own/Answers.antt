@@ -1,7 +1,7 @@
 use Rattle.std.proofs.Common.{◌≡◌, ℕ, suc, ◌+◌, ◌*◌, Bool, true, false, cond, List, length, take, count_by, ap, arith}
 use Rattle.std.proofs.Math.Seq.{take-length}
 use Rattle.workload.specs.declared.object.ObjectLine.{ObjectLine}
-use Rattle.run_record.specs.Objects.{is_pool}
+use Rattle.run_record.specs.Objects.{is_pool, starts_number}
 use Rattle.run_record.specs.Record.{object_number}
 use Rattle.run_record.proofs.NumberLemmas.{next_parts, within, apart}
 use Rattle.run_record.proofs.laws.numbers.parts_have_numbers_of_their_own.Goals as goal
@@ -18,6 +18,12 @@ returns-clause-follow c plan place object here =
 
 pub returns-clause-all : goal.returns-clause-all
 returns-clause-all c plan = ap (λ (xs : List ObjectLine). object_number (length plan.objects) + count_by (λ (o : ObjectLine). is_pool o.kind) xs * plan.workers) (take-length plan.objects)
+
+pub returns-clause-starts : goal.returns-clause-starts
+returns-clause-starts c plan some = ap (λ (b : Bool). starts_number plan + cond b 1 0) some
+
+pub returns-clause-no_starts : goal.returns-clause-no_starts
+returns-clause-no_starts c plan none = omega (arith, ap (λ (b : Bool). starts_number plan + cond b 1 0) none)
 
 pub returns-clause-within : goal.returns-clause-within
 returns-clause-within c plan place part object here pool below = omega (arith, within plan.workers plan.objects place part object here pool below)

@@ -1,25 +1,43 @@
-use Rattle.std.proofs.Common.{◌≡◌, ℕ, ◌+◌, ◌≤◌, ◌<◌, ◌⊎◌, inl, inr, List, [], ◌∷◌, get_or, Some, slice_get, refl, sym, ap, ◌∙◌, arith}
-use Rattle.std.specs.Prelude.{option_map}
+use Rattle.std.proofs.Common.{◌≡◌, ℕ, ◌+◌, ◌≤◌, ◌<◌, ◌⊎◌, inl, inr, Bool, true, false, List, [], ◌∷◌, ◌++◌, get_or, Some, slice_get, refl, sym, ap, ◌∙◌, arith}
+use Rattle.std.specs.Prelude.{option_map, Ok, Err}
 use Rattle.std.proofs.lemmas.Bool.{cases_lt}
 use Rattle.std.proofs.lemmas.Option.{same_Some, slice_get-map}
 use Rattle.script_calls.specs.declared.call.Call.{Call}
 use Rattle.script_calls.specs.Runs.{places_from}
-use Rattle.workload.specs.Plan.{Plan}
+use Rattle.sync_model.specs.declared.answer.Answer.TheVariants.{Done, Halted}
+use Rattle.protocols.specs.Spelling.{CallAnswer}
+use Rattle.workload.specs.Plan.{Plan, has_dormant}
 use Rattle.run_record.specs.declared.made.Made.{Made}
-use Rattle.run_record.specs.Lines.{SpeltCall, LineEnd, whole, misused, halted, unfinished, items_of, replies_of, EndsBy}
+use Rattle.run_record.specs.Lines.{SpeltCall, LineEnd, whole, misused, halted, unfinished, stayed, items_of, replies_of, EndsBy}
+use Rattle.run_record.specs.StartsKind.{closing}
 use Rattle.run_record.proofs.Having.{get_at}
+use Rattle.run_record.proofs.PlainLemmas.{empty_second, nothing_closes}
 use Rattle.run_record.proofs.RunLines.{place_there, places_rise}
 use Rattle.run_record.proofs.laws.runs.a_call_that_was_passed_over_leaves_no_item.Goals as goal
 
 pub returns-clause-list : goal.returns-clause-list
 returns-clause-list c plan r outcome lines worker line are at = ap (λ (l : List (List Made)). get_or l worker []) (sym are.lists) ∙ get_at items_of [] lines worker line at
 
-head_of : (plan : Plan) (worker before : ℕ) (ending : LineEnd) (rest : List Call) (last : List Made) → EndsBy plan worker before ending rest last → (last ≡ [] → ⊥) → (next : Call) × (behind : List Call) × (rest ≡ next ∷ behind)
-head_of plan worker before ending (call ∷ rest) last ends some = (call, rest, refl)
-head_of plan worker before whole [] last ends some = absurd (some ends.1)
-head_of plan worker before (misused misuse) [] last ends some = absurd ends
-head_of plan worker before (halted misuse) [] last ends some = absurd ends
-head_of plan worker before unfinished [] last ends some = absurd ends
+-- what was begun behind the completed calls is the next call, or closes the script
+abbrev IsBegun : Plan → List Call → Type 0
+IsBegun plan rest = ((next : Call) × (behind : List Call) × (rest ≡ next ∷ behind)) ⊎ ((rest ≡ []) × (has_dormant plan ≡ true))
+
+closes : (plan : Plan) (worker : ℕ) (items : List Made) (answer : CallAnswer (Unit {0})) → closing plan worker items answer → (items ≡ [] → ⊥) → has_dormant plan ≡ true
+closes plan worker items answer is some = by_waiting (has_dormant plan) refl where
+  by_waiting : (b : Bool) → has_dormant plan ≡ b → has_dormant plan ≡ true
+  by_waiting true waiting = waiting
+  by_waiting false none = absurd (some (nothing_closes plan worker none items answer is).0)
+
+behind_last : (plan : Plan) (worker before : ℕ) (ending : LineEnd) (last : List Made) → EndsBy plan worker before ending [] last → (last ≡ [] → ⊥) → has_dormant plan ≡ true
+behind_last plan worker before whole last ends some = closes plan worker last (Done (Ok tt)) ends.1 some
+behind_last plan worker before (misused misuse) last ends some = closes plan worker last (Done (Err misuse)) ends some
+behind_last plan worker before (halted misuse) last ends some = closes plan worker last (Halted misuse) ends some
+behind_last plan worker before unfinished last (later, answer, more, ends) some = closes plan worker (last ++ later) answer ends (λ none. more (empty_second last later none))
+behind_last plan worker before (stayed stay) last none some = absurd (some none)
+
+head_of : (plan : Plan) (worker before : ℕ) (ending : LineEnd) (rest : List Call) (last : List Made) → EndsBy plan worker before ending rest last → (last ≡ [] → ⊥) → IsBegun plan rest
+head_of plan worker before ending (call ∷ rest) last ends some = inl (call, rest, refl)
+head_of plan worker before ending [] last ends some = inr (refl, behind_last plan worker before ending last ends some)
 
 pub returns-clause-last : goal.returns-clause-last
 returns-clause-last c plan r outcome lines worker line are at some = head_of plan worker _ line.ending line.rest line.last (are.each worker line at).ends some

@@ -44,5 +44,6 @@ returns-clause-completed c plan outcome r explains worker i mutex line wait obje
     let s = spelt_at plan worker 0 line.spelt i wait (explains.are.each worker line at_line).calls at_wait in
     let list = sym (ap (λ (lists : List (List Made)). get_or lists worker []) explains.are.lists) ∙ get_at items_of [] explains.lines worker line at_line in
     let behind = line.last ++ line.halts in
-    let parts = list ∙ (ap (λ (l : List Made). l ++ behind) s.are ∙ (append_assoc s.front (wait.items ++ s.rest) behind ∙ ap (λ (l : List Made). s.front ++ l) (append_assoc wait.items s.rest behind))) in
-    returns-clause-in_a_list c plan r worker s.before mutex object wait.call wait.reply wait.items s.front (s.rest ++ behind) explains.lawful some kind is_wait parts s.spells
+    let own = ap (λ (l : List Made). l ++ behind) s.are ∙ (append_assoc s.front (wait.items ++ s.rest) behind ∙ ap (λ (l : List Made). s.front ++ l) (append_assoc wait.items s.rest behind)) in
+    let parts = list ∙ (ap (λ (l : List Made). line.first ++ l) own ∙ sym (append_assoc line.first s.front (wait.items ++ (s.rest ++ behind)))) in
+    returns-clause-in_a_list c plan r worker s.before mutex object wait.call wait.reply wait.items (line.first ++ s.front) (s.rest ++ behind) explains.lawful some kind is_wait parts s.spells
