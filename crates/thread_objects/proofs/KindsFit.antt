@@ -12,7 +12,7 @@ first : (a b : Bool) → (a && b) ≡ true → a ≡ true
 first true b is = cc
 first false b is = is
 
-second : (a b : Bool) → (a && b) ≡ true → b ≡ true
+pub second : (a b : Bool) → (a && b) ≡ true → b ≡ true
 second true b is = is
 second false b is = absurd cc
 

@@ -2,6 +2,7 @@ pub mod ColumnLemmas
 pub mod ColumnLists
 pub mod Declared
 pub mod DeclaredJournals
+pub mod DormantCount
 pub mod GroupStart
 pub mod Histories
 pub mod KindsFit

@@ -128,6 +128,7 @@ pub fn make_part<N: Note>(
 
 /// Starts, of which the workload says which workers wait to be started, and a pass of each worker to it. It keeps `note` for what calls
 /// leave. No other call takes memory.
+#[tactic(auto, using(crate::proofs::DormantCount::dormant_count))]
 pub fn make_starts<N: Note>(
     alloc: Global,
     crew: &Crew<N>,
