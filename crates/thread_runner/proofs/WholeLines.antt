@@ -1,6 +1,7 @@
 -- A worker's line, from what stands before its script, what it did of it, and what stands behind it.
-use Rattle.std.proofs.Common.{◌≡◌, ℕ, zero, suc, Bool, true, false, cond, List, [], ◌∷◌, ◌++◌, length, get_or, map, refl, sym, ap, ◌∙◌, subst, Ok, Err}
+use Rattle.std.proofs.Common.{◌≡◌, ◌≢◌, ℕ, zero, suc, Bool, true, false, cond, List, [], ◌∷◌, ◌++◌, length, get_or, map, refl, sym, ap, ◌∙◌, subst, Ok, Err}
 use Rattle.std.specs.List.{flat_map, list_any}
+use Rattle.std.proofs.lemmas.Bool.{false≢true}
 use Rattle.std.proofs.lemmas.List.{append-nil, append_assoc}
 use Rattle.script_calls.specs.declared.call.Call.{Call}
 use Rattle.script_calls.specs.declared.call.Reply.{Reply}
@@ -19,13 +20,14 @@ use Rattle.thread_objects.specs.Laws.{Stays, Joins}
 use Rattle.thread_objects.specs.Working.{Desk, Moves, Works}
 use Rattle.thread_runner.specs.DidLines.{DidLine, MadeCalls, WentThrough, ending_by}
 use Rattle.thread_runner.specs.Halting.{HaltsAll}
+use Rattle.thread_runner.specs.Replies.{has_come}
 use Rattle.thread_runner.proofs.Working.{rests}
 
 -- where one worker waits to be started, some do
 pub some_dormant : (dormant : List Bool) (worker : ℕ) → get_or dormant worker false ≡ true → list_any (λ waits. waits) dormant ≡ true
-some_dormant [] worker is = absurd cc
+some_dormant [] worker is = absurd (false≢true is)
 some_dormant (true ∷ dormant) worker is = refl
-some_dormant (false ∷ dormant) zero is = absurd cc
+some_dormant (false ∷ dormant) zero is = absurd (false≢true is)
 some_dormant (false ∷ dormant) (suc worker) is = some_dormant dormant worker is
 
 module _ (plan : Plan) (worker : ℕ) where
@@ -35,6 +37,13 @@ module _ (plan : Plan) (worker : ℕ) where
 
   pub comes_at_once : Stays → (desk : Desk) → is_dormant plan worker ≡ false → Works (opening plan worker) desk (Done (Ok true)) desk
   comes_at_once stays desk is = subst (λ (b : Bool). Works (cond b (wait_start_part (starts_number plan)) (returns true)) desk (Done (Ok true)) desk) (sym is) (rests stays (returns true) desk (Done (Ok true)) (refl, refl))
+
+  -- a worker that comes to its script was told so
+  pub told_to_come : (old new : Desk) (opened : CallAnswer Bool) → has_come opened ≡ true → Works (opening plan worker) old opened new → Works (opening plan worker) old (Done (Ok true)) new
+  told_to_come old new (Done (Ok true)) come works = works
+  told_to_come old new (Done (Ok false)) come works = absurd (false≢true come)
+  told_to_come old new (Done (Err misuse)) come works = absurd (false≢true come)
+  told_to_come old new (Halted misuse) come works = absurd (false≢true come)
 
   -- and behind it: where some workers wait, it tells that it has ended, and else it makes nothing
   pub tells_last : (old new : Desk) (answer : CallAnswer (Unit {0})) → has_dormant plan ≡ true → Works (end_part (starts_number plan)) old answer new → Works (closing plan worker) old answer new
@@ -131,6 +140,13 @@ module _ (plan : Plan) (worker : ℕ) where
       },
     )
 
+    -- so does any that doesn't come to its script
+    pub stays : replies ≡ [] → (old new : Desk) (opened : CallAnswer Bool) → has_come opened ≡ false → ((misuse : Misuse) → opened ≢ Done (Err misuse)) → Works (opening plan worker) old opened new → DidLineOf old new
+    stays none old new (Done (Ok true)) come unmisused works = absurd (false≢true (sym come))
+    stays none old new (Done (Ok false)) come unmisused works = stays_never none old new works
+    stays none old new (Done (Err misuse)) come unmisused works = absurd (unmisused misuse refl)
+    stays none old new (Halted misuse) come unmisused works = stays_stopped none old new misuse works
+
     module _ (joined : Joins) (start old now : Desk) (opens : Works (opening plan worker) start (Done (Ok true)) old) where
       -- what was made before the script, and of it
       both : (spelt : List SpeltCall) (last : List Made) → Moves old (items_in spelt ++ last) now → Moves start (opens.items ++ (items_in spelt ++ last)) now
@@ -172,8 +188,7 @@ module _ (plan : Plan) (worker : ℕ) where
       line_misused misuse last went halts =
           let made = items_in went.spelt in
           let all : (opens.items ++ (made ++ went.last)) ++ halts.items ≡ opens.items ++ (made ++ (went.last ++ halts.items)) =
-          append_assoc opens.items (made ++ went.last) halts.items ∙ ap (λ (l : List Made). opens.items ++ l) (append_assoc made went.last halts.items) in
-          (
+          append_assoc opens.items (made ++ went.last) halts.items ∙ ap (λ (l : List Made). opens.items ++ l) (append_assoc made went.last halts.items) in (
             record { first = opens.items; spelt = went.spelt; last = went.last; halts = halts.items; rest = went.rest; ending = misused misuse },
             record {
               is = record { opens = opens.spelt; calls = went.are; ends = went.end; halts = halts.halts };

@@ -16,6 +16,12 @@ relocked reply = replies.Returned
 abbrev pub pool_done : PoolOutcome → Reply ℕ
 pool_done outcome = replies.Pool pool_replies.Done
 
+-- whether a worker comes to its script, by what it was told before it
+abbrev pub has_come : CallAnswer Bool → Bool
+has_come (Done (Ok started)) = started
+has_come (Done (Err misuse)) = false
+has_come (Halted misuse) = false
+
 -- whether a test found another number
 abbrev pub is_unmet : CallAnswer Bool → Bool
 is_unmet (Done (Ok met)) = not met

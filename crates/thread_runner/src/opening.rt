@@ -7,6 +7,7 @@ ghost use Rattle.thread_objects.specs.AsDeclared.{AreDeclared};
 ghost use Rattle.thread_objects.specs.Desks.{AreSeats};
 ghost use Rattle.thread_objects.specs.Passes.{owns_of};
 ghost use Rattle.thread_objects.specs.Working.{Works, desk_with};
+ghost use Rattle.thread_runner.specs.Replies.{has_come};
 
 use crate::site::Site;
 use std::sync::Wait;
@@ -44,6 +45,13 @@ pub(crate) fn opens<S: Shared, C: Clock, R: Wait>(
     let object = &site.objects[number];
     let pass = &mut passes[number];
     wait_start(rt, worker, object, pass, note)
+}
+
+/// Whether the worker comes to its script, by what it was told.
+pub(crate) fn has_come(opened: &Answer<Result<bool, Misuse>>) -> bool
+    ensures { result ≡ has_come opened.now }
+{
+    matches!(opened, Answer::Done(Ok(true)))
 }
 
 /// Tells Starts that the worker has ended, where some workers wait to be started: nobody who has ended starts another.

@@ -14,7 +14,7 @@ ghost use Rattle.thread_runner.specs.DidLines.{DidLine, IsFresh, MadeCalls, Went
 
 use crate::dispatch::make_call;
 use crate::halting::halt_all;
-use crate::opening::{closes, opens};
+use crate::opening::{closes, has_come, opens};
 use crate::site::Site;
 use script_calls::Reply;
 use script_calls::laws::{a_run_goes_along_by_places, runs_go_on};
@@ -112,9 +112,10 @@ fn go_through<S: Shared, C: Clock, G: Gate, R: Wait>(
         (desk_with S.Mark.own S.Mark.front (owns_of passes.old) caller.old.note) answer (desk_with S.Mark.own S.Mark.front (owns_of passes.new) caller.new.note)) }
 {
     moves();
-    match make_calls(rt, site, worker, gate, caller, passes, replies, rooms) {
+    let made = make_calls(rt, site, worker, gate, caller, passes, replies, rooms);
+    match made {
         None => None,
-        Some(Answer::Done(Ok(()))) => Some(closes(rt, site, worker, passes, &mut caller.note)),
+        Some(Answer::Done(Ok(_made))) => Some(closes(rt, site, worker, passes, &mut caller.note)),
         Some(Answer::Done(Err(misuse))) => Some(Answer::Done(Err(misuse))),
         Some(Answer::Halted(misuse)) => Some(Answer::Halted(misuse)),
     }
@@ -155,15 +156,14 @@ pub(crate) fn run_script<S: Shared, C: Clock, G: Gate, R: Wait>(
         ⊎ GaveUp site.now.catalog.workload.now (items_of (S.Mark.own caller.new.note)) }
 {
     moves();
-    match opens(rt, site, worker, passes, &mut caller.note) {
-        Answer::Done(Ok(true)) => {}
-        Answer::Done(Ok(false)) => return,
-        Answer::Done(Err(_misuse)) => unreachable!(),
-        Answer::Halted(_misuse) => return,
+    let opened = opens(rt, site, worker, passes, &mut caller.note);
+    if !has_come(&opened) {
+        return;
     }
-    match go_through(rt, site, worker, gate, caller, passes, replies, rooms) {
+    let went = go_through(rt, site, worker, gate, caller, passes, replies, rooms);
+    match went {
         None => {}
-        Some(Answer::Done(Ok(()))) => {}
+        Some(Answer::Done(Ok(_ended))) => {}
         Some(Answer::Done(Err(misuse))) => halt_all(
             rt,
             worker,

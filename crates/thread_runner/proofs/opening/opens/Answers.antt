@@ -10,6 +10,9 @@ use Rattle.thread_runner.proofs.opening.opens.Goals as goal
 pub returns-then-not-is_dormant-clause-works : goal.returns-then-not-is_dormant-clause-works
 returns-then-not-is_dormant-clause-works g c = comes_at_once c.args.site.now.catalog.workload.now c.args.worker.now.number c.moves.ensures.none _ (sym c.is_dormant.ensures.dormant ∙ c.if-not-is_dormant.true)
 
+pub returns-then-not-is_dormant-clause-unmisused : goal.returns-then-not-is_dormant-clause-unmisused
+returns-then-not-is_dormant-clause-unmisused g c = λ misuse is. absurd cc
+
 pub wait_start-requires-clause-kind : goal.wait_start-requires-clause-kind
 wait_start-requires-clause-kind g c =
     let plan = c.args.site.now.catalog.workload.now in
