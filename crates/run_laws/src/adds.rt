@@ -16,8 +16,9 @@ use sync_model::laws::shared::each_entry_is_a_call;
 use sync_types::{AtomicKind, End};
 use workload::{ObjectKind, ObjectLine};
 
-/// An int64 that is only added to, by scripts none of whose calls may be passed over and none of whose workers waits to be started, holds, after a run that is done,
-/// what the int64 of one thread holds after all adds of all scripts, and its end shows that: each amount was added once, and the order of adds is all one, also where the sum wraps.
+/// An int64 that is only added to, by scripts none of whose calls may be passed over and whose workers don't wait to be started, holds,
+/// after a run that is done, what the int64 of one thread holds after all adds of all scripts, and its end shows that: each amount was
+/// added once, and the order of adds is all one, also where the sum wraps.
 pub fn an_int64_holds_the_sum_of_all_adds()
     ensures holds { (plan : Plan) (place : ℕ) (object : ObjectLine) (left : Report) (r : Record)
         → IsOnlyAddedTo plan place → have_tests plan.scripts ≡ false → has_dormant plan ≡ false → slice_get plan.objects place ≡ Some object → object.kind ≡ ObjectKind.Atomic AtomicKind.Int64 → Explains plan (Outcome.Done left) r

@@ -16,9 +16,10 @@ use run_record::laws::starts::{
 use script_calls::Outcome;
 use sync_types::Misuse;
 
-/// A worker of whose script something is left has met a misuse, or a halt: it didn't stop by itself. Where no call may pass others
-/// over, that is so of each that has fewer replies than its script has calls. Both are said of workers that don't wait to be started. Of any
-/// worker nothing is left of its script, or it met a misuse or a halt, in a call or before its script, or it was never started, and has no reply.
+/// A worker that doesn't wait to be started, and of whose script something is left, has met a misuse, or a halt: it didn't stop by
+/// itself. Where no call may pass others over, that is so of each such worker that has fewer replies than its script has calls. Of any
+/// worker nothing is left of its script, or it met a misuse or a halt, in a call or before its script, or it was never started, and
+/// has no reply.
 pub fn each_worker_has_ended()
     ensures left { (plan : Plan) (outcome : Outcome) (r : Record) (explains : Explains plan outcome r) (worker : ℕ) (line : Line) → is_dormant plan worker ≡ false
         → slice_get explains.lines worker ≡ Some line → left_of (get_or plan.scripts worker []) (get_or (left_by outcome).replies worker []) ≢ []

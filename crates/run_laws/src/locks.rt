@@ -33,7 +33,7 @@ pub fn an_unlock_stands_behind_its_lock()
 
 /// A workload whose workers keep to their locks, and make each call of their scripts, is never misused. A mutex is locked while a worker holds it, and
 /// that worker alone unlocks it then, so no unlock finds it unlocked. So each run of it that returns is Done, whatever its
-/// interleaving.
+/// interleaving, and whoever waits to be started: a worker that isn't makes no call.
 pub fn an_orderly_workload_is_never_misused()
     ensures { (plan : Plan) (outcome : Outcome) (r : Record)
         → KeepsItsLocks plan → have_tests plan.scripts ≡ false → Explains plan outcome r → (left : Report) × (outcome ≡ Outcome.Done left) }

@@ -24,8 +24,8 @@ use sync_types::laws::maps::only_entries_change;
 use workload::laws::keys_are_numbered_by_first_appearance;
 use workload::{ObjectKind, ObjectLine};
 
-/// A key that belongs to one worker has, where no call may be passed over and no worker waits to be started, after a run that is done, what it has in the map that this worker makes alone:
-/// whatever the others do meanwhile.
+/// A key that belongs to one worker has, where no call may be passed over and no worker waits to be started, after a run that is done,
+/// what it has in the map that this worker makes alone: whatever the others do meanwhile.
 pub fn a_key_has_what_its_worker_left()
     ensures { (plan : Plan) (place worker : ℕ) (object : ObjectLine) (script : List Call) (key : List ℕ) (left : Report) (r : Record)
         → has_plain_objects plan ≡ true → have_tests plan.scripts ≡ false → has_dormant plan ≡ false → slice_get plan.objects place ≡ Some object → object.kind ≡ ObjectKind.Map
@@ -41,7 +41,8 @@ pub fn a_key_has_what_its_worker_left()
     where_nobody_waits_to_be_started_lists_are_of_calls();
 }
 
-/// Where no two workers use one key of a map, no call may be passed over and no worker waits to be started, the map is, after a run that is done, what the workers' own maps are together.
+/// Where no two workers use one key of a map, no call may be passed over and no worker waits to be started, the map is, after a run that
+/// is done, what the workers' own maps are together.
 pub fn a_map_is_the_union_of_its_workers_maps()
     ensures { (plan : Plan) (place : ℕ) (object : ObjectLine) (left : Report) (r : Record)
         → has_plain_objects plan ≡ true → have_tests plan.scripts ≡ false → has_dormant plan ≡ false → slice_get plan.objects place ≡ Some object → object.kind ≡ ObjectKind.Map → AreApart plan place
