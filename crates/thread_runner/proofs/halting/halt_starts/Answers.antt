@@ -1,7 +1,7 @@
 use Rattle.std.proofs.Common.{◌-◌, ◌∷◌, [], length, Ok, refl, sym, ap, ◌∙◌}
 use Rattle.sync_model.specs.declared.answer.Answer.TheVariants.{Done}
-use Rattle.run_record.specs.Objects.{starts_number}
-use Rattle.thread_runner.specs.Halting.{halting}
+use Rattle.run_record.specs.Halts.{halted_starts}
+use Rattle.thread_runner.specs.Halting.{halted_one, halting}
 use Rattle.thread_runner.proofs.HaltLemmas.{halts_as, halts_starts, no_starts_halted, starts_halted}
 use Rattle.thread_runner.proofs.LastObject.{number_is, starts_there, within}
 use Rattle.thread_runner.proofs.Working.{keeps, rests}
@@ -28,4 +28,4 @@ returns-clause-halted g c =
     let has = sym c.has_dormant.ensures ∙ c.if-not-has_dormant.false in
     let last = c.starts_is_the_last_object.ensures c.args.worker.now.at.home.now plan objects c.requires.declared has in
     let number = length objects - 1 in
-    halts_as c.args.misuse _ _ _ _ (halts_starts number last.1.0 last.1.2 ∙ ap (λ n. n ∷ []) (number_is plan objects last) ∙ starts_halted plan has) (c.halt_at.ensures.halted last.1.0 (starts_there plan objects last))
+    halts_as c.args.misuse (halted_one number last.1.0) (halted_starts plan) _ _ (halts_starts number last.1.0 last.1.2 ∙ ap (λ n. n ∷ []) (number_is plan objects last) ∙ starts_halted plan has) (c.halt_at.ensures.halted last.1.0 (starts_there plan objects last))

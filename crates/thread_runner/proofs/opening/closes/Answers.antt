@@ -1,4 +1,5 @@
 use Rattle.std.proofs.Common.{◌-◌, length, sym, ◌∙◌, subst}
+use Rattle.std.specs.Prelude.{slice_set}
 use Rattle.run_record.specs.StartsKind.{end_part}
 use Rattle.thread_objects.specs.Passes.{owns_of}
 use Rattle.thread_objects.specs.Working.{Works, desk_with}
@@ -44,4 +45,4 @@ returns-clause-works g c =
     let last = c.starts_is_the_last_object.ensures worker.at.home.now plan objects c.requires.declared has in
     let within = pass_within plan objects last mark.at worker.at.home.now worker.workers worker.number c.args.passes.now c.requires.seats c.index-site-number.result in
     let works = in_slot c.args.passes.now number c.index-passes-number.result c.tell_end.new.pass within (end_part number) mark.own mark.front c.args.note.now c.tell_end.new.note c.tell_end.result (c.tell_end.ensures.works number) in
-    tells_last plan worker.number _ _ c.tell_end.result has (subst (λ k. Works (end_part k) (desk_with mark.own mark.front (owns_of c.args.passes.now) c.args.note.now) c.tell_end.result (desk_with mark.own mark.front (owns_of _) c.tell_end.new.note)) (number_is plan objects last) works)
+    tells_last plan worker.number _ _ c.tell_end.result has (subst (λ k. Works (end_part k) (desk_with mark.own mark.front (owns_of c.args.passes.now) c.args.note.now) c.tell_end.result (desk_with mark.own mark.front (owns_of (slice_set c.args.passes.now number c.tell_end.new.pass)) c.tell_end.new.note)) (number_is plan objects last) works)

@@ -1,4 +1,5 @@
 use Rattle.std.proofs.Common.{◌-◌, length, sym, ◌∙◌, subst}
+use Rattle.std.specs.Prelude.{slice_set}
 use Rattle.run_record.specs.StartsKind.{wait_start_part}
 use Rattle.thread_objects.specs.Passes.{owns_of}
 use Rattle.thread_objects.specs.Working.{Works, desk_with}
@@ -47,4 +48,4 @@ returns-clause-works g c =
     let last = c.starts_is_the_last_object.ensures worker.at.home.now plan objects c.requires.declared has in
     let within = pass_within plan objects last mark.at worker.at.home.now worker.workers worker.number c.args.passes.now c.requires.seats c.index-site-number.result in
     let works = in_slot c.args.passes.now number c.index-passes-number.result c.wait_start.new.pass within (wait_start_part number) mark.own mark.front c.args.note.now c.wait_start.new.note c.wait_start.result (c.wait_start.ensures.works number) in
-    asks_first plan worker.number _ _ c.wait_start.result (sym c.is_dormant.ensures.dormant ∙ c.if-not-is_dormant.false) (subst (λ k. Works (wait_start_part k) (desk_with mark.own mark.front (owns_of c.args.passes.now) c.args.note.now) c.wait_start.result (desk_with mark.own mark.front (owns_of _) c.wait_start.new.note)) (number_is plan objects last) works)
+    asks_first plan worker.number _ _ c.wait_start.result (sym c.is_dormant.ensures.dormant ∙ c.if-not-is_dormant.false) (subst (λ k. Works (wait_start_part k) (desk_with mark.own mark.front (owns_of c.args.passes.now) c.args.note.now) c.wait_start.result (desk_with mark.own mark.front (owns_of (slice_set c.args.passes.now number c.wait_start.new.pass)) c.wait_start.new.note)) (number_is plan objects last) works)
