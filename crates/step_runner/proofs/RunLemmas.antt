@@ -1,5 +1,6 @@
 -- Turns in order.
-use Rattle.std.proofs.Common.{◌≡◌, ℕ, zero, suc, ◌+◌, ◌<◌, Bool, true, false, List, [], ◌∷◌, ◌++◌, map, refl, sym, ap, ◌∙◌, subst, arith}
+use Rattle.std.proofs.Common.{◌≡◌, ℕ, zero, suc, ◌+◌, ◌-◌, ◌<◌, Bool, true, false, List, [], ◌∷◌, ◌++◌, map, refl, sym, ap, ◌∙◌, subst, arith}
+use Rattle.std.specs.List.{range_with_len}
 use Rattle.std.specs.Prelude.{if◌then◌else◌}
 use Rattle.sync_types.specs.declared.misuse.Misuse.{Misuse}
 use Rattle.workload.specs.declared.turn.Turn.{Turn}
@@ -173,6 +174,13 @@ items_valid plan goes_on list s of = items_keep plan (IsStateOf plan) (record { 
 -- turns of workers, with no moment between them
 abbrev pub turns_of : List ℕ → List Turn
 turns_of workers = map (λ worker. items.Worker worker) workers
+
+-- of the workers that are left of a round, the first takes the next turn
+pub next_worker : (workers worker : ℕ) → worker < workers → turns_of (range_with_len worker (workers - worker)) ≡ items.Worker worker ∷ turns_of (range_with_len (worker + 1) (workers - (worker + 1)))
+next_worker workers worker below = by_count (workers - worker) (workers - (worker + 1)) (omega (arith, below)) where
+  by_count : (left later : ℕ) → left ≡ suc later → turns_of (range_with_len worker left) ≡ items.Worker worker ∷ turns_of (range_with_len (worker + 1) later)
+  by_count zero later is = absurd (omega (arith, is))
+  by_count (suc left) later is = ap (λ n. items.Worker worker ∷ turns_of (range_with_len (worker + 1) n)) (omega (arith, is))
 
 -- no event: the state stays; an event: less is left to do
 abbrev pub ItemsUse : Plan → State → State × Step → Type 0

@@ -45,7 +45,7 @@ use Rattle.step_runner.specs.State.{State, start, with_reply, with_moment, IsSta
 use Rattle.step_runner.specs.Turns.{begun_by, next_call, settled, turn_of, and_then, items_of as after_all, after_items}
 use Rattle.step_runner.proofs.FormLemmas.{TurnStands, Standing, own_out, own_at}
 use Rattle.step_runner.proofs.MadeLemmas.{event_state}
-use Rattle.step_runner.proofs.NextCalls.{left_with, idle_left, live_left, next_live, next_first}
+use Rattle.step_runner.proofs.NextCalls.{left_with, dormant_left, live_left, next_live, next_first}
 use Rattle.step_runner.proofs.Numbered.{NamesAside}
 use Rattle.step_runner.proofs.RunKeys.{HasKeys}
 use Rattle.step_runner.proofs.RunLemmas.{GoesOn, Kept}
@@ -183,7 +183,7 @@ module _ (laws : Spells) (plan : Plan) (over : Bool) (worker : ℕ) (made : Trac
     before = refl;
     behind = unclosed_last;
     ends = sym (ap (λ (b : Bool). ends_as over b next_is None) is);
-    is = record { opens = (h.asleep is, stays plan worker over is); calls = h.are; ends = (stands_by None (ap (λ (l : List Call). slice_get l 0) (idle_left plan worker given is))).0; halts = refl };
+    is = record { opens = (h.asleep is, stays plan worker over is); calls = h.are; ends = (stands_by None (ap (λ (l : List Call). slice_get l 0) (dormant_left plan worker given is))).0; halts = refl };
     halts = refl;
   }
 

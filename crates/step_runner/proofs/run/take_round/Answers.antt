@@ -1,0 +1,32 @@
+use Rattle.std.proofs.Common.{◌≡◌, ℕ, ◌+◌, ◌-◌, ◌∷◌, List, refl, sym, ap, ◌∙◌, subst, arith}
+use Rattle.std.specs.List.{range_with_len}
+use Rattle.workload.specs.declared.turn.Turn.{Turn}
+use Rattle.workload.specs.declared.turn.Turn.TheVariants as items
+use Rattle.step_runner.specs.Turns.{items_of, round}
+use Rattle.step_runner.proofs.RunLemmas.{SoFar, turns_of, next_still, next_made, next_misused, next_worker}
+use Rattle.step_runner.proofs.run.take_round.Goals as goal
+use Rattle.step_runner.proofs.run.take_round.Goals.{in-Still, in-Made}
+
+pub returns-in-Misused-clause-items : goal.returns-in-Misused-clause-items
+returns-in-Misused-clause-items c =
+    let plan = c.args.workload.now in
+    let worker = c.loop-worker.worker in
+    let later = turns_of (range_with_len (worker + 1) (plan.workers - (worker + 1))) in
+    let whole = items_of plan (round plan.workers) c.args.state.now.state in
+    let before = subst (λ (left : List Turn). SoFar plan left c.loop-worker.state.state c.loop-worker.so_far whole) (next_worker plan.workers worker ?) c.loop-worker.invariant.so_far in
+    next_misused plan (items.Worker worker) later c.loop-worker.state.state c.take_turn.new.state.state c.loop-worker.so_far whole c.in-Misused.misuse before ?
+
+pub loop-worker-preserved : goal.loop-worker-preserved
+loop-worker-preserved c =
+    let plan = c.args.workload.now in
+    let worker = c.loop-worker.worker in
+    let later = turns_of (range_with_len (worker + 1) (plan.workers - (worker + 1))) in
+    let whole = items_of plan (round plan.workers) c.args.state.now.state in
+    let before = subst (λ (left : List Turn). SoFar plan left c.loop-worker.state.state c.loop-worker.so_far whole) (next_worker plan.workers worker ?) c.loop-worker.invariant.so_far in
+    record {
+      of = c.in_ok-take_turn.ensures.of;
+      so_far = elim c.match-branch-2.branch [
+          in-Still w ↦ ?
+        | in-Made w ↦ ?
+        ];
+    }
