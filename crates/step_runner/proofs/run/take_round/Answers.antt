@@ -2,6 +2,7 @@ use Rattle.std.proofs.Common.{◌≡◌, ℕ, ◌+◌, ◌-◌, ◌∷◌, List,
 use Rattle.std.specs.List.{range_with_len}
 use Rattle.workload.specs.declared.turn.Turn.{Turn}
 use Rattle.workload.specs.declared.turn.Turn.TheVariants as items
+use Rattle.step_runner.specs.declared.step.Step.{Step}
 use Rattle.step_runner.specs.Turns.{items_of, round}
 use Rattle.step_runner.proofs.RunLemmas.{SoFar, turns_of, next_still, next_made, next_misused, next_worker}
 use Rattle.step_runner.proofs.run.take_round.Goals as goal
@@ -13,8 +14,9 @@ returns-in-Misused-clause-items c =
     let worker = c.loop-worker.worker in
     let later = turns_of (range_with_len (worker + 1) (plan.workers - (worker + 1))) in
     let whole = items_of plan (round plan.workers) c.args.state.now.state in
-    let before = subst (λ (left : List Turn). SoFar plan left c.loop-worker.state.state c.loop-worker.so_far whole) (next_worker plan.workers worker ?) c.loop-worker.invariant.so_far in
-    next_misused plan (items.Worker worker) later c.loop-worker.state.state c.take_turn.new.state.state c.loop-worker.so_far whole c.in-Misused.misuse before ?
+    let before = subst (λ (left : List Turn). SoFar plan left c.loop-worker.state.state c.loop-worker.so_far whole) (next_worker plan.workers worker (omega (arith, c.loop-worker-test.true, c.workers-worker-end.ensures.workers))) c.loop-worker.invariant.so_far in
+    next_misused plan (items.Worker worker) later c.loop-worker.state.state c.take_turn.new.state.state c.loop-worker.so_far whole c.in-Misused.misuse before
+    (c.in_ok-take_turn.ensures.turn ∙ ap (λ step. (c.take_turn.new.state.state, step)) c.in-Misused.is)
 
 pub loop-worker-preserved : goal.loop-worker-preserved
 loop-worker-preserved c =
@@ -22,11 +24,17 @@ loop-worker-preserved c =
     let worker = c.loop-worker.worker in
     let later = turns_of (range_with_len (worker + 1) (plan.workers - (worker + 1))) in
     let whole = items_of plan (round plan.workers) c.args.state.now.state in
-    let before = subst (λ (left : List Turn). SoFar plan left c.loop-worker.state.state c.loop-worker.so_far whole) (next_worker plan.workers worker ?) c.loop-worker.invariant.so_far in
+    let before = subst (λ (left : List Turn). SoFar plan left c.loop-worker.state.state c.loop-worker.so_far whole) (next_worker plan.workers worker (omega (arith, c.loop-worker-test.true, c.workers-worker-end.ensures.workers))) c.loop-worker.invariant.so_far in
     record {
       of = c.in_ok-take_turn.ensures.of;
       so_far = elim c.match-branch-2.branch [
-          in-Still w ↦ ?
-        | in-Made w ↦ ?
+          in-Still w ↦
+          subst (λ (x : Step). SoFar plan later c.take_turn.new.state.state x whole) (sym w.so_far-is)
+          (next_still plan (items.Worker worker) later c.loop-worker.state.state c.take_turn.new.state.state c.loop-worker.so_far whole before
+          (c.in_ok-take_turn.ensures.turn ∙ ap (λ step. (c.take_turn.new.state.state, step)) w.in-Still.is))
+        | in-Made w ↦
+          subst (λ (x : Step). SoFar plan later c.take_turn.new.state.state x whole) (sym w.so_far-is)
+          (next_made plan (items.Worker worker) later c.loop-worker.state.state c.take_turn.new.state.state c.loop-worker.so_far whole before
+          (c.in_ok-take_turn.ensures.turn ∙ ap (λ step. (c.take_turn.new.state.state, step)) w.in-Made.is))
         ];
     }
