@@ -28,13 +28,13 @@ loop-worker-preserved c =
     record {
       of = c.in_ok-take_turn.ensures.of;
       so_far = elim c.match-branch-2.branch [
-          in-Still w ↦
-          subst (λ (x : Step). SoFar plan later c.take_turn.new.state.state x whole) (sym w.so_far-is)
-          (next_still plan (items.Worker worker) later c.loop-worker.state.state c.take_turn.new.state.state c.loop-worker.so_far whole before
-          (c.in_ok-take_turn.ensures.turn ∙ ap (λ step. (c.take_turn.new.state.state, step)) w.in-Still.is))
+        | in-Still w ↦
+            subst (λ (x : Step). SoFar plan later c.take_turn.new.state.state x whole) (sym w.so_far-is)
+            (next_still plan (items.Worker worker) later c.loop-worker.state.state c.take_turn.new.state.state c.loop-worker.so_far whole before
+            (c.in_ok-take_turn.ensures.turn ∙ ap (λ step. (c.take_turn.new.state.state, step)) w.in-Still.is))
         | in-Made w ↦
-          subst (λ (x : Step). SoFar plan later c.take_turn.new.state.state x whole) (sym w.so_far-is)
-          (next_made plan (items.Worker worker) later c.loop-worker.state.state c.take_turn.new.state.state c.loop-worker.so_far whole before
-          (c.in_ok-take_turn.ensures.turn ∙ ap (λ step. (c.take_turn.new.state.state, step)) w.in-Made.is))
-        ];
+            subst (λ (x : Step). SoFar plan later c.take_turn.new.state.state x whole) (sym w.so_far-is)
+            (next_made plan (items.Worker worker) later c.loop-worker.state.state c.take_turn.new.state.state c.loop-worker.so_far whole before
+            (c.in_ok-take_turn.ensures.turn ∙ ap (λ step. (c.take_turn.new.state.state, step)) w.in-Made.is))
+      ];
     }
