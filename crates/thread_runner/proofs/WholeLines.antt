@@ -1,8 +1,10 @@
 -- A worker's line, from what stands before its script, what it did of it, and what stands behind it.
-use Rattle.std.proofs.Common.{◌≡◌, ◌≢◌, ℕ, zero, suc, Bool, true, false, cond, List, [], ◌∷◌, ◌++◌, length, get_or, map, refl, sym, ap, ◌∙◌, subst, Ok, Err}
+use Rattle.std.proofs.Common.{◌≡◌, ◌≢◌, ◌⊎◌, ℕ, zero, suc, Bool, true, false, cond, List, [], ◌∷◌, ◌++◌, length, get_or, map, Option, Some, None, inl, inr, refl, sym, ap, ◌∙◌, subst, Ok, Err}
+use Rattle.std.specs.Prelude.{IfSome, IfNone}
 use Rattle.std.specs.List.{flat_map, list_any}
 use Rattle.std.proofs.lemmas.Bool.{false≢true}
 use Rattle.std.proofs.lemmas.List.{append-nil, append_assoc}
+use Rattle.std.proofs.lemmas.Option.{same_Some}
 use Rattle.script_calls.specs.declared.call.Call.{Call}
 use Rattle.script_calls.specs.declared.call.Reply.{Reply}
 use Rattle.script_calls.specs.Runs.{RunsAlong}
@@ -20,7 +22,7 @@ use Rattle.thread_objects.specs.Laws.{Stays, Joins}
 use Rattle.thread_objects.specs.Working.{Desk, Moves, Works}
 use Rattle.thread_runner.specs.DidLines.{DidLine, MadeCalls, WentThrough, ending_by}
 use Rattle.thread_runner.specs.Halting.{HaltsAll}
-use Rattle.thread_runner.specs.Replies.{has_come}
+use Rattle.thread_runner.specs.Replies.{has_come, is_through, misuse_in}
 use Rattle.thread_runner.proofs.Working.{rests}
 
 -- where one worker waits to be started, some do
@@ -109,6 +111,22 @@ module _ (plan : Plan) (worker : ℕ) where
       end = halted_by misuse _ made.rest made.last made.end;
       moves = made.moves;
     }
+
+    -- a worker that didn't make all its calls went no further
+    pub not_through : (old now : Desk) (made : Option (CallAnswer (Unit {0}))) → is_through made ≡ false → IfSome made (λ answer. MadeCalls plan worker script replies old answer now)
+        → IfSome made (λ answer. WentThrough plan worker script replies old answer now)
+    not_through old now None is made = tt
+    not_through old now (Some (Done (Ok tt))) is made = absurd (false≢true (sym is))
+    not_through old now (Some (Done (Err misuse))) is made = misused_before old now misuse made
+    not_through old now (Some (Halted misuse)) is made = halted_before old now misuse made
+
+    -- and one that did has made them
+    pub was_through : (old now : Desk) (made : Option (CallAnswer (Unit {0}))) → is_through made ≡ true → IfSome made (λ answer. MadeCalls plan worker script replies old answer now)
+        → MadeCalls plan worker script replies old (Done (Ok tt)) now
+    was_through old now None is made = absurd (false≢true is)
+    was_through old now (Some (Done (Ok tt))) is made = made
+    was_through old now (Some (Done (Err misuse))) is made = absurd (false≢true is)
+    was_through old now (Some (Halted misuse)) is made = absurd (false≢true is)
 
     abbrev DidLineOf : Desk → Desk → Type 0
     DidLineOf old new = (line : Line) × DidLine plan worker script replies old new line
@@ -199,3 +217,20 @@ module _ (plan : Plan) (worker : ℕ) where
               moves = subst (λ (l : List Made). Moves start l last) all (joined start now last (opens.items ++ (made ++ went.last)) halts.items (both went.spelt went.last went.moves) halts.moves);
             },
           )
+
+      -- by what was told of how it went: with a misuse, whose halts stand behind
+      pub line_told : (misuse : Misuse) (last : Desk) (went : Option (CallAnswer (Unit {0}))) → misuse_in went ≡ Some misuse → IfSome went (λ answer. WentThrough plan worker script replies old answer now)
+          → HaltsAll plan misuse now last → DidLineOf start last
+      line_told misuse last None is went halts = absurd cc
+      line_told misuse last (Some (Done (Ok tt))) is went halts = absurd cc
+      line_told misuse last (Some (Done (Err other))) is went halts =
+          let same : other ≡ misuse = same_Some other misuse is in
+          line_misused misuse last (subst (λ (m : Misuse). WentThrough plan worker script replies old (Done (Err m)) now) same went) halts
+      line_told misuse last (Some (Halted other)) is went halts = absurd cc
+
+      -- or with none, where a call may have been given up
+      pub line_untold : (gave : Type 0) (went : Option (CallAnswer (Unit {0}))) → misuse_in went ≡ None → IfNone went gave → IfSome went (λ answer. WentThrough plan worker script replies old answer now) → DidLineOf start now ⊎ gave
+      line_untold gave None is given_up went = inr given_up
+      line_untold gave (Some (Done (Ok tt))) is given_up went = inl (line_whole went)
+      line_untold gave (Some (Done (Err misuse))) is given_up went = absurd cc
+      line_untold gave (Some (Halted misuse)) is given_up went = inl (line_halted misuse went)

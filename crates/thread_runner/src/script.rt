@@ -8,6 +8,7 @@ ghost use Rattle.run_record.specs.Lines.{Line};
 ghost use Rattle.thread_objects.specs.Desks.{AreSeats};
 ghost use Rattle.thread_objects.specs.GivenUp.{GaveUp};
 ghost use Rattle.thread_objects.specs.Passes.{owns_of};
+ghost use Rattle.thread_runner.specs.Replies.{is_through, misuse_in};
 ghost use Rattle.thread_runner.specs.Sites.{IsSite, AreRooms, cost_of_calls, ranges_in_calls};
 ghost use Rattle.thread_objects.specs.Working.{desk_with};
 ghost use Rattle.thread_runner.specs.DidLines.{DidLine, IsFresh, MadeCalls, WentThrough};
@@ -24,6 +25,30 @@ use sync_outside::{Clock, Gate};
 use sync_types::{BoundedSeq, Misuse};
 use thread_objects::parts::laws::moves;
 use thread_objects::{AnyPass, Worker};
+
+// Whether a worker made all that it was to make.
+fn is_through(made: &Option<Answer<Result<(), Misuse>>>) -> bool
+    ensures { result ≡ is_through made.now }
+{
+    match made {
+        None => false,
+        Some(Answer::Done(Ok(()))) => true,
+        Some(Answer::Done(Err(_misuse))) => false,
+        Some(Answer::Halted(_misuse)) => false,
+    }
+}
+
+// The misuse that a worker met, where it met one.
+fn misuse_in(made: &Option<Answer<Result<(), Misuse>>>) -> Option<Misuse>
+    ensures { result ≡ misuse_in made.now }
+{
+    match made {
+        None => None,
+        Some(Answer::Done(Ok(()))) => None,
+        Some(Answer::Done(Err(misuse))) => Some(*misuse),
+        Some(Answer::Halted(_misuse)) => None,
+    }
+}
 
 // Makes the calls of a worker's script in order, but those that a reply passes over, with the gate before and behind each. The first
 // that is a misuse or meets a halt is the last one, and its answer is this one's. `None`, where a call was given up.
@@ -113,12 +138,10 @@ fn go_through<S: Shared, C: Clock, G: Gate, R: Wait>(
 {
     moves();
     let made = make_calls(rt, site, worker, gate, caller, passes, replies, rooms);
-    match made {
-        None => None,
-        Some(Answer::Done(Ok(_made))) => Some(closes(rt, site, worker, passes, &mut caller.note)),
-        Some(Answer::Done(Err(misuse))) => Some(Answer::Done(Err(misuse))),
-        Some(Answer::Halted(misuse)) => Some(Answer::Halted(misuse)),
+    if !is_through(&made) {
+        return made;
     }
+    Some(closes(rt, site, worker, passes, &mut caller.note))
 }
 
 /// Makes the calls of a worker's script in order, but those that a reply passes over, with the gate before and behind each. Where some
@@ -161,10 +184,9 @@ pub(crate) fn run_script<S: Shared, C: Clock, G: Gate, R: Wait>(
         return;
     }
     let went = go_through(rt, site, worker, gate, caller, passes, replies, rooms);
-    match went {
+    match misuse_in(&went) {
         None => {}
-        Some(Answer::Done(Ok(_ended))) => {}
-        Some(Answer::Done(Err(misuse))) => halt_all(
+        Some(misuse) => halt_all(
             rt,
             worker,
             site.catalog.workload,
@@ -173,6 +195,5 @@ pub(crate) fn run_script<S: Shared, C: Clock, G: Gate, R: Wait>(
             &mut caller.note,
             misuse,
         ),
-        Some(Answer::Halted(_misuse)) => {}
     }
 }
