@@ -1,5 +1,5 @@
 -- The workload of a seed has a text.
-use Rattle.std.proofs.Common.{◌≡◌, ℕ, ◌+◌, ◌<◌, ◌≤◌, true, false, Bool, cond, ◌==◌, eq-eqb, List, [], ◌∷◌, map, length, Some, slice_get, zero, suc, add-zero, zero-add, refl, sym, ap, ◌∙◌, arith}
+use Rattle.std.proofs.Common.{◌≡◌, ℕ, ◌+◌, ◌<◌, ◌≤◌, true, false, Bool, cond, ◌==◌, eq-eqb, List, [], ◌∷◌, map, length, replicate, Some, slice_get, zero, suc, add-zero, zero-add, refl, sym, ap, ◌∙◌, arith}
 use Rattle.std.specs.Prelude.{sum_by}
 use Rattle.std.specs.List.{list_all, list_any, flat_map, range_with_len, count_by}
 use Rattle.std.specs.Str.{bytes_eq}
@@ -7,13 +7,15 @@ use Rattle.std.proofs.lemmas.List.{length-map}
 use Rattle.std.proofs.lemmas.List.Concat.{length-flat_map}
 use Rattle.std.proofs.lemmas.List.FromFn.{length-map-range_with_len}
 use Rattle.script_calls.specs.declared.call.Call.{Call}
+use Rattle.script_calls.specs.Starts.{starts, start_count}
 use Rattle.workload.specs.Draft.{all_keys, keys_of, call_count, range_count, distinct_count, try_count, is_call, is_range, tries_of}
 use Rattle.workload.specs.Canonical.{canonical}
+use Rattle.workload.specs.Plan.{starts_dormant}
 use Rattle.workload.specs.Readable.{IsReadable}
 use Rattle.made_workload.specs.Generated.{in_twos, script_by, drawn_for, generated_scripts, generated_plan, generated_text}
 use Rattle.made_workload.proofs.Ranges.{pair, all_pass, sum_of_same}
 use Rattle.made_workload.proofs.Draws.{drawn_rounds}
-use Rattle.made_workload.proofs.Scripts.{is_in_place, script_in_place, script_in_range, length_script, script_keys, script_ranges, script_tries, round_key}
+use Rattle.made_workload.proofs.Scripts.{is_in_place, script_in_place, script_in_range, length_script, script_keys, script_ranges, script_tries, script_starts, script_waits, round_key}
 
 abbrev script : ℕ → ℕ → List Call
 script seed worker = script_by worker (drawn_for seed worker)
@@ -33,6 +35,9 @@ no_ranges seed = sum_of_same (count_by is_range) (script seed) 0 0 8 (λ worker 
 
 no_tries : (seed : ℕ) → try_count (generated_scripts seed) ≡ 0
 no_tries seed = sum_of_same (sum_by (λ (call : Call). tries_of call.operation)) (script seed) 0 0 8 (λ worker there. script_tries worker (in_twos (drawn_for seed worker)))
+
+no_starts : (seed other : ℕ) → start_count other (generated_scripts seed) ≡ 0
+no_starts seed other = sum_of_same (count_by (starts other)) (script seed) 0 0 8 (λ worker there. script_starts other worker (in_twos (drawn_for seed worker)))
 
 -- a script has 500 keys, which may be the same ones
 some_keys : (seed worker : ℕ) → worker < 8 → length (flat_map keys_of (script seed worker)) ≡ 500
@@ -56,8 +61,10 @@ unfolding generated_plan
 readable seed =
     let scripts = generated_scripts seed in
     let in_place = all_pass (list_all is_in_place) (script seed) 0 8 (λ worker there. script_in_place worker (in_twos (drawn_for seed worker)) (drawn_rounds seed worker there).small) in
+    let wait : Call → Bool = λ call. starts_dormant (replicate 8 false) call.operation in
+    let waits = all_pass (list_all wait) (script seed) 0 8 (λ worker there. script_waits (replicate 8 false) worker (in_twos (drawn_for seed worker))) in
     record {
-      valid = pair (length scripts == 8) _ (eq-eqb (length scripts) 8 (length-map-range_with_len (script seed) 0 8)) (pair (list_all (list_all is_in_place) scripts) true in_place refl);
+      valid = pair (length scripts == 8) _ (eq-eqb (length scripts) 8 (length-map-range_with_len (script seed) 0 8)) (pair (list_all (list_all is_in_place) scripts) (list_all (list_all wait) scripts) in_place waits);
       some_workers = omega arith;
       few_workers = omega arith;
       objects = refl;
@@ -66,6 +73,7 @@ readable seed =
       key_room = omega (arith, distinct_count-le (all_keys scripts), few_keys seed);
       range_room = omega (arith, no_ranges seed);
       try_room = omega (arith, no_tries seed);
+      starts = λ other. omega (arith, no_starts seed other);
       items = refl;
       turn_room = omega arith;
     }

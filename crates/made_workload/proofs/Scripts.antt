@@ -6,12 +6,13 @@ use Rattle.std.specs.Option.{option_to_list}
 use Rattle.std.proofs.lemmas.Bool.{lt-ltb, le-leb, ltb-true}
 use Rattle.std.proofs.lemmas.List.Folds.{list_all-append}
 use Rattle.script_calls.specs.declared.call.Call.{Call}
+use Rattle.script_calls.specs.Starts.{starts}
 use Rattle.sync_types.specs.declared.map_object.MapCall.TheVariants.{Load, Store, Delete}
 use Rattle.sync_types.specs.declared.value.TheConstants.{MAX_VALUE}
 use Rattle.sync_types.specs.Name.{is_name}
 use Rattle.sync_types.specs.SequentialMap.{map_key}
 use Rattle.workload.specs.Draft.{keys_of, is_call, is_map_call, is_value, is_range, tries_of}
-use Rattle.workload.specs.Plan.{is_on}
+use Rattle.workload.specs.Plan.{is_on, starts_dormant}
 use Rattle.made_workload.specs.Generated.{key_of, call_by, round, generated_objects}
 use Rattle.made_workload.proofs.Ranges.{both, pair}
 use Rattle.made_workload.proofs.Draws.{is_small}
@@ -85,3 +86,13 @@ script_ranges worker (words ∷ rounds) = script_ranges worker rounds
 pub script_tries : (worker : ℕ) (rounds : List (ℕ × ℕ)) → sum_by (λ (call : Call). tries_of call.operation) (flat_map (round worker) rounds) ≡ 0
 script_tries worker [] = refl
 script_tries worker (words ∷ rounds) = script_tries worker rounds
+
+-- and no `go`
+pub script_starts : (other worker : ℕ) (rounds : List (ℕ × ℕ)) → count_by (starts other) (flat_map (round worker) rounds) ≡ 0
+script_starts other worker [] = refl
+script_starts other worker (words ∷ rounds) = script_starts other worker rounds
+
+-- so it starts none that doesn't wait
+pub script_waits : (dormant : List Bool) (worker : ℕ) (rounds : List (ℕ × ℕ)) → list_all (λ (call : Call). starts_dormant dormant call.operation) (flat_map (round worker) rounds) ≡ true
+script_waits dormant worker [] = refl
+script_waits dormant worker (words ∷ rounds) = script_waits dormant worker rounds

@@ -2,7 +2,7 @@
 use Rattle.std.proofs.Common.{◌≡◌, ℕ, true, Option, Some, None}
 use Rattle.std.specs.Prelude.{slice_get}
 use Rattle.script_calls.specs.declared.call.Call.{Call}
-use Rattle.script_calls.specs.declared.call.ComposedCall.TheVariants.{IfEqual, WaitFor}
+use Rattle.script_calls.specs.declared.call.ComposedCall.TheVariants.{IfEqual, WaitFor, Go}
 use Rattle.script_calls.specs.declared.call.Operation.{Operation}
 use Rattle.script_calls.specs.declared.call.Operation.TheVariants as operations
 use Rattle.workload.specs.Keys.{keys_in}
@@ -11,7 +11,7 @@ use Rattle.workload.specs.declared.object.ObjectKind.{ObjectKind}
 use Rattle.workload.specs.declared.object.ObjectKind.TheVariants as kinds
 use Rattle.workload.specs.declared.object.ObjectLine.{ObjectLine}
 use Rattle.run_record.specs.Calls.{SpellsCall, call_at, call_on}
-use Rattle.run_record.specs.Objects.{map_number, atomic_number, first_part}
+use Rattle.run_record.specs.Objects.{map_number, atomic_number, first_part, starts_number}
 use Rattle.run_record.specs.Record.{object_number}
 use Rattle.run_cuts.specs.CallCuts.{at_cut, call_cut, is_told, on_cut}
 use Rattle.run_cuts.specs.Cuts.{Cuts}
@@ -23,6 +23,7 @@ use Rattle.run_cuts.proofs.OnceCut.{do_cuts, func_cuts, value_cuts}
 use Rattle.run_cuts.proofs.PoolCut.{pool_cuts}
 use Rattle.run_cuts.proofs.RwMutexCut.{rw_mutex_cuts}
 use Rattle.run_cuts.proofs.SharedCut.{atomic_cuts, if_equal_cuts, map_cuts}
+use Rattle.run_cuts.proofs.StartsCut.{go_cuts}
 use Rattle.run_cuts.proofs.WaitForCut.{wait_for_cuts}
 
 on_cuts : (plan : Plan) (worker before place : ℕ) (kind : ObjectKind) (operation : Operation) → is_told operation ≡ true → Cuts (call_on plan worker before place kind operation) (on_cut plan worker place kind operation)
@@ -35,6 +36,7 @@ on_cuts plan worker before place kinds.RwMutex (operations.RwMutex call) h = rw_
 on_cuts plan worker before place (kinds.Cond mutex) (operations.Cond call) h = cond_cuts (object_number place) (object_number mutex) call
 on_cuts plan worker before place (kinds.Cond mutex) (operations.Composed (WaitFor atomic value tries)) h = wait_for_cuts (object_number place) (object_number mutex) (atomic_number plan.objects atomic) value tries
 on_cuts plan worker before place (kinds.WaitGroup start) (operations.WaitGroup call) h = group_cuts (object_number place) call
+on_cuts plan worker before place (kinds.WaitGroup start) (operations.Composed (Go started)) h = go_cuts (object_number place) (starts_number plan) started
 on_cuts plan worker before place (kinds.Once atomic delta) operations.Once h = do_cuts (object_number place) (atomic_number plan.objects atomic) delta
 on_cuts plan worker before place (kinds.OnceFunc code) operations.OnceFunc h = func_cuts (object_number place) code
 on_cuts plan worker before place (kinds.OnceValue value) operations.OnceValue h = value_cuts (object_number place) value

@@ -1,7 +1,7 @@
 -- How a call of a workload is cut from a list. A kind of object is a line here.
 use Rattle.std.specs.Prelude.{ℕ, Bool, true, false, Option, Some, None, slice_get}
 use Rattle.script_calls.specs.declared.call.Call.{Call}
-use Rattle.script_calls.specs.declared.call.ComposedCall.TheVariants.{IfEqual, WaitFor}
+use Rattle.script_calls.specs.declared.call.ComposedCall.TheVariants.{IfEqual, WaitFor, Go}
 use Rattle.script_calls.specs.declared.call.Operation.{Operation}
 use Rattle.script_calls.specs.declared.call.Operation.TheVariants as operations
 use Rattle.script_calls.specs.declared.call.Reply.{Reply}
@@ -10,7 +10,7 @@ use Rattle.workload.specs.Plan.{Plan}
 use Rattle.workload.specs.declared.object.ObjectKind.{ObjectKind}
 use Rattle.workload.specs.declared.object.ObjectKind.TheVariants as kinds
 use Rattle.workload.specs.declared.object.ObjectLine.{ObjectLine}
-use Rattle.run_record.specs.Objects.{map_number, atomic_number, first_part}
+use Rattle.run_record.specs.Objects.{map_number, atomic_number, first_part, starts_number}
 use Rattle.run_record.specs.Record.{object_number}
 use Rattle.run_cuts.specs.CondCuts.{cond_cut}
 use Rattle.run_cuts.specs.Cuts.{Cutter, never_cut}
@@ -20,6 +20,7 @@ use Rattle.run_cuts.specs.OnceCuts.{do_cut, func_cut, value_cut}
 use Rattle.run_cuts.specs.PoolCuts.{pool_cut}
 use Rattle.run_cuts.specs.RwMutexCuts.{rw_mutex_cut}
 use Rattle.run_cuts.specs.SharedCuts.{atomic_cut, if_equal_cut, map_cut}
+use Rattle.run_cuts.specs.StartsCuts.{go_cut}
 use Rattle.run_cuts.specs.WaitForCuts.{wait_for_cut}
 
 -- Whether the function tells how such a call is cut: each but a range. A range replies its pairs sorted by the names of their keys. Its items don't fix the order of two pairs whose keys have one name: a key that is shown twice, or numbers that are no key's, which have one name, the empty one. Its items are cut by `shows_cut`.
@@ -36,6 +37,7 @@ on_cut plan worker place kinds.RwMutex (operations.RwMutex call) = rw_mutex_cut 
 on_cut plan worker place (kinds.Cond mutex) (operations.Cond call) = cond_cut (object_number place) (object_number mutex) call
 on_cut plan worker place (kinds.Cond mutex) (operations.Composed (WaitFor atomic value tries)) = wait_for_cut (object_number place) (object_number mutex) (atomic_number plan.objects atomic) value tries
 on_cut plan worker place (kinds.WaitGroup start) (operations.WaitGroup call) = group_cut (object_number place) call
+on_cut plan worker place (kinds.WaitGroup start) (operations.Composed (Go started)) = go_cut (object_number place) (starts_number plan) started
 on_cut plan worker place (kinds.Once atomic delta) operations.Once = do_cut (object_number place) (atomic_number plan.objects atomic) delta
 on_cut plan worker place (kinds.OnceFunc code) operations.OnceFunc = func_cut (object_number place) code
 on_cut plan worker place (kinds.OnceValue value) operations.OnceValue = value_cut (object_number place) value

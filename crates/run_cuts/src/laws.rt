@@ -11,7 +11,7 @@ ghost use Rattle.run_record.specs.MutexKind.{mutex_call};
 ghost use Rattle.run_record.specs.OnceKind.{do_call, func_call, value_call};
 ghost use Rattle.run_record.specs.PoolKind.{pool_call};
 ghost use Rattle.run_record.specs.RwMutexKind.{rw_mutex_call};
-ghost use Rattle.run_record.specs.StartsKind.{opening, closing, wait_start_part, end_part};
+ghost use Rattle.run_record.specs.StartsKind.{opening, closing, go_call, wait_start_part, end_part};
 ghost use Rattle.run_record.specs.Tests.{if_equal_call, wait_for_call};
 ghost use Rattle.run_record.specs.WaitGroupKind.{wait_group_call};
 ghost use Rattle.run_cuts.specs.CallCuts.{call_cut, is_told};
@@ -25,7 +25,7 @@ ghost use Rattle.run_cuts.specs.PoolCuts.{pool_cut};
 ghost use Rattle.run_cuts.specs.RangeCuts.{CutsRange};
 ghost use Rattle.run_cuts.specs.RwMutexCuts.{rw_mutex_cut};
 ghost use Rattle.run_cuts.specs.SharedCuts.{adds_cut, atomic_cut, if_equal_cut, map_cut};
-ghost use Rattle.run_cuts.specs.StartsCuts.{opening_cut, closing_cut, wait_start_cut, end_cut};
+ghost use Rattle.run_cuts.specs.StartsCuts.{opening_cut, closing_cut, go_cut, wait_start_cut, end_cut};
 ghost use Rattle.run_cuts.specs.WaitForCuts.{wait_for_cut};
 
 use sync_types::{
@@ -35,7 +35,7 @@ use sync_types::{
 /// The calls of each kind but a `range` are cut from a list by a function just as they are spelt. What is found spells the call. What
 /// spells it is found, whatever stands behind it. A list that ends within it goes on to one that spells it. One that begins with no such
 /// call still does so, however it goes on. Of a writer's `lock` the answers `Still` are found with it, wherever they may stand. So are cut, too, what
-/// a worker makes before its script, where it waits to be started, and what it makes behind it.
+/// a worker makes on Starts before its script, where it waits to be started, and behind it.
 pub fn calls_are_cut_as_they_are_spelt()
     ensures mutex { (object : ℕ) (call : MutexCall) → Cuts (mutex_call object call) (mutex_cut object call) }
     ensures rw_mutex { (object : ℕ) (call : RwMutexCall) → Cuts (rw_mutex_call object call) (rw_mutex_cut object call) }
@@ -50,6 +50,7 @@ pub fn calls_are_cut_as_they_are_spelt()
     ensures once_value { (object value : ℕ) → Cuts (value_call object value) (value_cut object value) }
     ensures pool { (workers worker first : ℕ) (call : PoolCall) → Cuts (pool_call workers worker first call) (pool_cut workers worker first call) }
     ensures wait_group { (object : ℕ) (call : WaitGroupCall) → Cuts (wait_group_call object call) (group_cut object call) }
+    ensures go { (group starts worker : ℕ) → Cuts (go_call group starts worker) (go_cut group starts worker) }
     ensures starts { (object : ℕ) → Cuts (wait_start_part object) (wait_start_cut object) × Cuts (end_part object) (end_cut object) }
 {}
 

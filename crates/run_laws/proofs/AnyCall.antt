@@ -5,7 +5,7 @@ use Rattle.std.specs.List.{list_all}
 use Rattle.std.proofs.lemmas.Bool.{false≢true}
 use Rattle.std.proofs.lemmas.Option.{none-some, same_Some}
 use Rattle.script_calls.specs.declared.call.Call.{Call}
-use Rattle.script_calls.specs.declared.call.ComposedCall.TheVariants.{IfEqual, WaitFor}
+use Rattle.script_calls.specs.declared.call.ComposedCall.TheVariants.{IfEqual, WaitFor, Go}
 use Rattle.script_calls.specs.declared.call.Operation.{Operation}
 use Rattle.script_calls.specs.declared.call.Operation.TheVariants as operations
 use Rattle.workload.specs.declared.object.ObjectKind.{ObjectKind}
@@ -15,11 +15,11 @@ use Rattle.workload.specs.Keys.{keys_in}
 use Rattle.workload.specs.Plan.{Plan}
 use Rattle.run_record.specs.Lines.{SpeltCall}
 use Rattle.run_record.specs.Calls.{SpellsCall, call_at, call_on}
-use Rattle.run_record.specs.Objects.{map_number, atomic_number, first_part}
+use Rattle.run_record.specs.Objects.{map_number, atomic_number, first_part, starts_number}
 use Rattle.run_record.specs.Record.{object_number}
 use Rattle.run_laws.specs.NoRanges.{is_no_range}
 use Rattle.run_laws.specs.OneSpelling.{IsCertain}
-use Rattle.run_laws.proofs.CallsOneWay.{map_certain, atomic_certain, if_equal_certain, wait_for_certain, mutex_certain, rw_mutex_certain, cond_certain, wait_group_certain, do_certain, func_certain, value_certain, pool_certain}
+use Rattle.run_laws.proofs.CallsOneWay.{map_certain, atomic_certain, if_equal_certain, wait_for_certain, mutex_certain, rw_mutex_certain, cond_certain, wait_group_certain, go_certain, do_certain, func_certain, value_certain, pool_certain}
 use Rattle.run_laws.proofs.LinesOneWay.{AreCertain}
 use Rattle.run_laws.proofs.OneWay.{never_certain}
 use Rattle.run_laws.proofs.WritesOneWay.{LocksEnd}
@@ -52,6 +52,7 @@ module _ (law : LocksEnd) (plan : Plan) (worker before place : ℕ) where
   on_kind (kinds.Atomic type) (operations.Pool of) none = never_certain
   on_kind (kinds.Atomic type) (operations.Composed (IfEqual value passes)) none = if_equal_certain (atomic_number plan.objects place) value
   on_kind (kinds.Atomic type) (operations.Composed (WaitFor atomic value tries)) none = never_certain
+  on_kind (kinds.Atomic type) (operations.Composed (Go started)) none = never_certain
   on_kind kinds.Mutex (operations.Map of) none = never_certain
   on_kind kinds.Mutex operations.Range none = never_certain
   on_kind kinds.Mutex (operations.Atomic of) none = never_certain
@@ -89,6 +90,7 @@ module _ (law : LocksEnd) (plan : Plan) (worker before place : ℕ) where
   on_kind (kinds.Cond mutex) (operations.Pool of) none = never_certain
   on_kind (kinds.Cond mutex) (operations.Composed (IfEqual value passes)) none = never_certain
   on_kind (kinds.Cond mutex) (operations.Composed (WaitFor atomic value tries)) none = wait_for_certain (object_number place) (object_number mutex) (atomic_number plan.objects atomic) value tries
+  on_kind (kinds.Cond mutex) (operations.Composed (Go started)) none = never_certain
   on_kind (kinds.WaitGroup start) (operations.Map of) none = never_certain
   on_kind (kinds.WaitGroup start) operations.Range none = never_certain
   on_kind (kinds.WaitGroup start) (operations.Atomic of) none = never_certain
@@ -100,7 +102,9 @@ module _ (law : LocksEnd) (plan : Plan) (worker before place : ℕ) where
   on_kind (kinds.WaitGroup start) operations.OnceFunc none = never_certain
   on_kind (kinds.WaitGroup start) operations.OnceValue none = never_certain
   on_kind (kinds.WaitGroup start) (operations.Pool of) none = never_certain
-  on_kind (kinds.WaitGroup start) (operations.Composed of) none = never_certain
+  on_kind (kinds.WaitGroup start) (operations.Composed (IfEqual value passes)) none = never_certain
+  on_kind (kinds.WaitGroup start) (operations.Composed (WaitFor atomic value tries)) none = never_certain
+  on_kind (kinds.WaitGroup start) (operations.Composed (Go started)) none = go_certain (object_number place) (starts_number plan) started
   on_kind (kinds.Once atomic delta) (operations.Map of) none = never_certain
   on_kind (kinds.Once atomic delta) operations.Range none = never_certain
   on_kind (kinds.Once atomic delta) (operations.Atomic of) none = never_certain

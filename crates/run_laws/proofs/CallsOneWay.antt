@@ -24,6 +24,9 @@ use Rattle.protocols.specs.declared.pool.PoolStage.{PoolStage}
 use Rattle.protocols.specs.declared.pool.PoolStage.TheVariants as pool_stage
 use Rattle.script_calls.specs.declared.call.Reply.{Reply}
 use Rattle.script_calls.specs.declared.call.Reply.TheVariants as replies
+use Rattle.starts_core.specs.declared.protocol.StartsStage.{StartsStage}
+use Rattle.starts_core.specs.declared.protocol.StartsStage.TheVariants as starts_stage
+use Rattle.starts_core.specs.StartsStages.{starts_event, starts_meaning}
 use Rattle.sync_model.specs.declared.answer.Answer.TheVariants.{Done}
 use Rattle.sync_model.specs.declared.item.SharedCall.TheVariants as shared
 use Rattle.sync_model.specs.declared.item.SharedReply.{SharedReply}
@@ -47,6 +50,7 @@ use Rattle.sync_types.specs.declared.pool_call.PoolCallReply.TheVariants as pool
 use Rattle.sync_types.specs.declared.wait_call.CondCall.{CondCall}
 use Rattle.sync_types.specs.declared.wait_call.CondCall.TheVariants as cond_calls
 use Rattle.sync_types.specs.declared.wait_call.WaitGroupCall.{WaitGroupCall}
+use Rattle.sync_types.specs.declared.wait_call.WaitGroupCall.TheVariants as group_calls
 use Rattle.sync_types.specs.Renaming.{renamed_call}
 use Rattle.workload.specs.Keys.{key_number}
 use Rattle.run_record.specs.declared.entered.ObjectEvent.TheVariants as event
@@ -59,10 +63,11 @@ use Rattle.run_record.specs.OnceKind.{goes_on_once, once_part, do_call, failure,
 use Rattle.run_record.specs.Parts.{Part, and_then, read_as, returns, stages}
 use Rattle.run_record.specs.PoolKind.{pool_part, stage_of, found_or, part_of, found_by, looks_of, swept_by, pool_call}
 use Rattle.run_record.specs.RwMutexKind.{rw_part, rw_mutex_call}
+use Rattle.run_record.specs.StartsKind.{starts_part, go_call}
 use Rattle.run_record.specs.Tests.{holds, tests, compared, if_equal_call, unless_met, waits_for, wait_for_call}
 use Rattle.run_record.specs.WaitGroupKind.{wait_group_stage, wait_group_call}
 use Rattle.run_laws.specs.OneSpelling.{IsCertain}
-use Rattle.run_laws.proofs.Backs.{mutex_back, is_mutex_back, rw_mutex_back, is_rw_mutex_back, cond_back, is_cond_back, wait_group_back, is_wait_group_back, once_back, is_once_back, once_func_back, is_once_func_back, once_value_back, is_once_value_back, pool_back, is_pool_back}
+use Rattle.run_laws.proofs.Backs.{mutex_back, is_mutex_back, rw_mutex_back, is_rw_mutex_back, cond_back, is_cond_back, wait_group_back, is_wait_group_back, once_back, is_once_back, once_func_back, is_once_func_back, once_value_back, is_once_value_back, pool_back, is_pool_back, starts_back, is_starts_back}
 use Rattle.run_laws.proofs.WritesOneWay.{LocksEnd, write_certain}
 use Rattle.run_laws.proofs.OneWay.{returns_certain, never_certain, read_as_certain, and_then_certain, place_certain, stages_certain}
 
@@ -121,6 +126,14 @@ pub wait_group_certain : (object : ℕ) (call : WaitGroupCall) → IsCertain (wa
 wait_group_certain object call =
     read_as_certain (λ done. replies.Returned) (stages event.WaitGroup reply.WaitGroup group_event group_meaning object (wait_group_stage call))
     (stages_certain event.WaitGroup reply.WaitGroup wait_group_back is_wait_group_back object group_event group_meaning (wait_group_stage call))
+
+pub starts_part_certain : (object : ℕ) (stage : StartsStage) → IsCertain (starts_part object stage)
+starts_part_certain object stage = stages_certain event.Starts reply.Starts starts_back is_starts_back object starts_event starts_meaning stage
+
+pub go_certain : (group starts worker : ℕ) → IsCertain (go_call group starts worker)
+go_certain group starts worker =
+    and_then_certain (wait_group_call group (group_calls.Add (pos 1))) (λ added. read_as (λ started. replies.Returned) (starts_part starts (starts_stage.Start worker))) (wait_group_certain group (group_calls.Add (pos 1)))
+    (λ added. read_as_certain (λ started. replies.Returned) (starts_part starts (starts_stage.Start worker)) (starts_part_certain starts (starts_stage.Start worker)))
 
 cond_part_certain : (object : ℕ) (stage : CondStage) → IsCertain (cond_part object stage)
 cond_part_certain object stage = stages_certain event.Cond reply.Cond cond_back is_cond_back object cond_event cond_meaning stage

@@ -1,6 +1,8 @@
 -- Lists each of whose items is such.
-use Rattle.std.proofs.Common.{◌≡◌, ℕ, zero, suc, List, [], ◌∷◌, ◌++◌, Some, slice_get, subst}
+use Rattle.std.proofs.Common.{◌≡◌, ℕ, zero, suc, ◌==◌, Bool, true, false, cond, List, [], ◌∷◌, ◌++◌, Some, slice_get, subst}
 use Rattle.std.proofs.lemmas.Option.{none-some, same_Some}
+use Rattle.sync_model.specs.Journal.{by}
+use Rattle.run_record.specs.Record.{ObjectEntry}
 
 abbrev pub Each : {A : Type 0} → (A → Type 0) → List A → Type 0
 Each P [] = Unit {0}
@@ -23,3 +25,11 @@ module _ {A : Type 0} (P : A → Type 0) where
   pub each_right : (xs ys : List A) → Each P (xs ++ ys) → Each P ys
   each_right [] ys each = each
   each_right (x ∷ xs) ys each = each_right xs ys each.1
+
+-- among the entries of one caller, too
+pub each_by : (P : ObjectEntry → Type 0) (caller : ℕ) (xs : List ObjectEntry) → Each P xs → Each P (by caller xs)
+each_by P caller [] each = tt
+each_by P caller (x ∷ xs) each = chosen (x.caller == caller) each.0 (each_by P caller xs each.1) where
+  chosen : (b : Bool) → P x → Each P (by caller xs) → Each P (cond b (x ∷ by caller xs) (by caller xs))
+  chosen true first rest = (first, rest)
+  chosen false first rest = rest

@@ -39,7 +39,7 @@ use Rattle.run_laws.specs.Examples.{declared, on, none_known}
 use Rattle.run_laws.specs.ExamplesOnce.{plan, outcome, adds, added, first_known, runs, ends, is_told, ran_once, ran_twice}
 use Rattle.run_laws.proofs.OneCallEach.{IsFirst, one_each}
 use Rattle.run_laws.proofs.Backs.{once_back, is_once_back}
-use Rattle.run_laws.proofs.SmallRecords.{ByScript, none_at, EachFrom, from_at, each_at, no_third, whole_line, are_whole, both_ended}
+use Rattle.run_laws.proofs.SmallRecords.{ByScript, none_at, above_none, same_known, EachFrom, from_at, each_at, no_third, whole_line, are_whole, both_ended}
 use Rattle.run_laws.proofs.Unlifted.{follows_back}
 
 abbrev addition : Item
@@ -65,13 +65,6 @@ own_told = own_entry 1 Begin (once_reply.Done (pos 3)) first_known
 
 abbrev own : List (Entry (OnceEvent ℤ) (OnceReply ℤ))
 own = own_run ∷ own_end ∷ own_told ∷ []
-
--- any front knows at least nothing
-above_none : (front : List ℕ) → AtLeast front none_known
-above_none front c = omega (arith, none_at c)
-
-same_known : (front : List ℕ) → AtLeast front front
-same_known front c = omega arith
 
 known_first : (i : ℕ) (x : Entry (OnceEvent ℤ) (OnceReply ℤ)) → slice_get own i ≡ Some x → AtLeast first_known x.front
 known_first = each_at (λ (x : Entry (OnceEvent ℤ) (OnceReply ℤ)). AtLeast first_known x.front) own (above_none first_known, (same_known first_known, (same_known first_known, tt)))

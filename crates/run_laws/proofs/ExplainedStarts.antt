@@ -91,7 +91,7 @@ is_ended : IsLineOf plan 0 ended_line
 is_ended = record {
   opens = (refl, refl);
   calls = ((Done (Ok tt), (own_wait ∷ [], refl, ((0, refl), (refl, refl))), refl), tt);
-  ends = (refl, (Done (Ok outcomes.Done), (own_end ∷ [], refl, ((0, refl), (refl, refl))), refl));
+  ends = (refl, ([], Entered 2 ends ∷ [], Done (Ok tt), refl, (refl, refl), (Done (Ok outcomes.Done), (own_end ∷ [], refl, ((0, refl), (refl, refl))), refl)));
   halts = refl;
 }
 

@@ -15,6 +15,7 @@ mod EndsShown
 mod EntriesIn
 mod ExplainedCircle
 mod ExplainedCond
+mod ExplainedGo
 mod ExplainedMap
 mod ExplainedMutex
 mod ExplainedOnce

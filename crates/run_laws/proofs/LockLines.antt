@@ -41,7 +41,8 @@ use Rattle.run_record.specs.Objects.{starts_number}
 use Rattle.run_record.specs.Parts.{lifted, lifted_deed, with_outcome}
 use Rattle.run_record.specs.Record.{ObjectEntry, object_number, shared_in, entries_in}
 use Rattle.run_laws.specs.Locks.{has_plain_objects, is_in_turn, keeps_lock}
-use Rattle.run_laws.proofs.AroundScripts.{starts_apart, closing_elsewhere, begun_elsewhere, first_elsewhere}
+use Rattle.run_laws.proofs.AroundScripts.{IsNoMutexs, starts_apart, closing_no_mutex, first_elsewhere}
+use Rattle.run_laws.proofs.EachOf.{Each, each_left}
 use Rattle.run_laws.proofs.EntriesIn.{entries_append, entries_shared, entries_elsewhere}
 use Rattle.run_laws.proofs.Holders.{IsHolders, OnlyHolder, holds_after}
 use Rattle.run_laws.proofs.PlainCalls.{PlainCall, on_map, on_range, on_atomic, on_test, on_mutex, IsOfKind, plain_call}
@@ -65,6 +66,16 @@ entries_here object other (x ∷ entries) same =
 only_first : (held : Bool) (xs ys : List ObjectEntry) → OnlyHolder held (xs ++ ys) → OnlyHolder held xs
 only_first held [] ys only = tt
 only_first held (x ∷ xs) ys only = (only.0, only_first (holds_after held x.deed) xs ys only.1)
+
+-- deeds of others unlock nothing
+others_only : (held : Bool) (xs ys : List ObjectEntry) → Each (λ (x : ObjectEntry). IsNoMutexs x.deed) xs → OnlyHolder held ys → OnlyHolder held (xs ++ ys)
+others_only held [] ys others only = only
+others_only held (x ∷ xs) ys others only =
+    let one = unheld x.deed others.0 in
+    (one.0, subst (λ (h : Bool). OnlyHolder h (xs ++ ys)) (sym one.1) (others_only held xs ys others.1 only)) where
+      unheld : (deed : Deed ObjectEvent ObjectReply) → IsNoMutexs deed → IsHolders held deed × (holds_after held deed ≡ held)
+      unheld (Event e (reply.Mutex r)) none = absurd none
+      unheld deed none = (tt, refl)
 
 -- what comes behind a call, after which its caller holds the mutex or doesn't: where the call wasn't completed it unlocks nothing
 abbrev Behind : {O : Type 0} → CallAnswer O → Bool → List ObjectEntry → Type 0
@@ -252,28 +263,32 @@ module _ (plan : Plan) (plain : has_plain_objects plan ≡ true) (place : ℕ) (
     apart : (starts_number plan == object_number place) ≡ false
     apart = starts_apart plan place mutex.0 mutex.1
 
-    closed : (last halts : List Made) (held : Bool) → entries_in (object_number place) last ≡ [] → OnlyHolder held (entries_in (object_number place) halts) → OnlyHolder held (entries_in (object_number place) last ++ entries_in (object_number place) halts)
-    closed last halts held none only = subst (λ (es : List ObjectEntry). OnlyHolder held (es ++ entries_in (object_number place) halts)) (sym none) only
+    -- what stands behind the script is nothing on a mutex
+    closed : (last halts : List Made) (held : Bool) → Each (λ (x : ObjectEntry). IsNoMutexs x.deed) (entries_in (object_number place) last) → OnlyHolder held (entries_in (object_number place) halts) → OnlyHolder held (entries_in (object_number place) last ++ entries_in (object_number place) halts)
+    closed last halts held others only = others_only held (entries_in (object_number place) last) (entries_in (object_number place) halts) others only
 
     last_turns : (before : ℕ) (ending : LineEnd) (left : List Call) (last halts : List Made) → EndsBy plan worker before ending left last → AreHalts ending halts → (held : Bool) → keeps_lock place held left ≡ true
         → OnlyHolder held (entries_in (object_number place) last ++ entries_in (object_number place) halts)
-    last_turns before whole left last halts ends none held keeps = closed last halts held (closing_elsewhere plan (object_number place) apart worker last (Done (Ok tt)) ends.1) (unhalted halts none held)
-    last_turns before (misused m) [] last halts ends all held keeps = closed last halts held (closing_elsewhere plan (object_number place) apart worker last (Done (Err m)) ends) (halts_only (object_number place) m halts all held)
+    last_turns before whole left last halts ends none held keeps = closed last halts held (closing_no_mutex plan (object_number place) worker last (Done (Ok tt)) ends.1) (unhalted halts none held)
+    last_turns before (misused m) [] last halts ends all held keeps = closed last halts held (closing_no_mutex plan (object_number place) worker last (Done (Err m)) ends) (halts_only (object_number place) m halts all held)
     last_turns before (misused m) (call ∷ left) last halts spelt all held keeps =
         call_turns held call last (Done (Err m)) (entries_in (object_number place) halts) (plain_call plan plain worker before call last (Done (Err m)) spelt) (keeps_on place held call left keeps).0 (halts_only (object_number place) m halts all)
-    last_turns before (halted m) [] last halts ends none held keeps = closed last halts held (closing_elsewhere plan (object_number place) apart worker last (Halted m) ends) (unhalted halts none held)
+    last_turns before (halted m) [] last halts ends none held keeps = closed last halts held (closing_no_mutex plan (object_number place) worker last (Halted m) ends) (unhalted halts none held)
     last_turns before (halted m) (call ∷ left) last halts spelt none held keeps =
         call_turns held call last (Halted m) (entries_in (object_number place) halts) (plain_call plan plain worker before call last (Halted m) spelt) (keeps_on place held call left keeps).0 (unhalted halts none)
     last_turns before unfinished [] last halts (later, answer, some, ends) none held keeps =
-        closed last halts held (begun_elsewhere plan (object_number place) apart last later (closing_elsewhere plan (object_number place) apart worker (last ++ later) answer ends)) (unhalted halts none held)
-    last_turns before (stayed stay) left last halts ends none held keeps = closed last halts held (ap (λ (l : List Made). entries_in (object_number place) l) ends) (unhalted halts none held)
+        closed last halts held
+        (each_left (λ (x : ObjectEntry). IsNoMutexs x.deed) (entries_in (object_number place) last) (entries_in (object_number place) later)
+        (subst (Each (λ (x : ObjectEntry). IsNoMutexs x.deed)) (entries_append (object_number place) last later) (closing_no_mutex plan (object_number place) worker (last ++ later) answer ends)))
+        (unhalted halts none held)
+    last_turns before (stayed stay) left last halts ends none held keeps = closed last halts held (subst (λ (l : List Made). Each (λ (x : ObjectEntry). IsNoMutexs x.deed) (entries_in (object_number place) l)) (sym ends) tt) (unhalted halts none held)
     last_turns before unfinished (call ∷ left) last halts (later, answer, spelt) none held keeps =
         subst (λ (l : List Made). OnlyHolder held (entries_in (object_number place) last ++ entries_in (object_number place) l)) (sym none)
         (subst (λ (es : List ObjectEntry). OnlyHolder held es) (sym (append-nil (entries_in (object_number place) last)))
         (only_first held (entries_in (object_number place) last) (entries_in (object_number place) later) (subst (λ (es : List ObjectEntry). OnlyHolder held es) (entries_append (object_number place) last later)
         (only_first held (entries_in (object_number place) (last ++ later)) [] (call_turns held call (last ++ later) answer [] (plain_call plan plain worker before call (last ++ later) answer spelt) (keeps_on place held call left keeps).0 (behind_nothing answer (next_held place held call)))))))
 
-    -- the whole list; what stands around the script has no entry of the mutex
+    -- the whole list; what stands around the script is nothing on the mutex
     pub line_turns : (line : Line) → IsLineOf plan worker line → keeps_lock place false (script_of line) ≡ true → OnlyHolder false (entries_in (object_number place) (items_of line))
     line_turns line is keeps =
         let calls = flat_map (λ spelt. spelt.items) line.spelt in

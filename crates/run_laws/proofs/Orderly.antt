@@ -1,10 +1,15 @@
 -- Where all workers keep to their locks, nobody meets a misuse.
-use Rattle.std.proofs.Common.{◌≡◌, ◌⊎◌, inl, inr, ℕ, zero, suc, ◌<◌, ◌≤◌, ◌==◌, Bool, true, false, cond, List, [], ◌∷◌, ◌++◌, length, get_or, Some, None, slice_get, refl, sym, ap, ◌∙◌, subst, append_assoc}
-use Rattle.std.specs.Prelude.{Ok, Err}
-use Rattle.std.specs.List.{flat_map}
+use Rattle.std.proofs.Common.{◌≡◌, ◌⊎◌, inl, inr, ℕ, zero, suc, ◌+◌, ◌*◌, ◌<◌, ◌≤◌, ◌==◌, Bool, true, false, cond, List, [], ◌∷◌, ◌++◌, length, get_or, Some, None, slice_get, refl, sym, ap, ◌∙◌, subst, arith, append_assoc}
+use Rattle.std.specs.Prelude.{Ok, Err, count_by}
+use Rattle.std.specs.List.{flat_map, list_all}
 use Rattle.std.specs.Option.{option_map}
-use Rattle.std.proofs.lemmas.Bool.{false≢true, eq-eqb}
+use Rattle.std.proofs.lemmas.Bool.{false≢true, eq-eqb, and_parts}
+use Rattle.std.proofs.lemmas.List.Sums.{sum_by-cons}
 use Rattle.std.proofs.lemmas.Option.{none-some, slice_get_cases, slice_get-map, get_or_from_slice_get}
+use Rattle.std.proofs.Math.ListN.{get_or-eq_default}
+use Rattle.std.proofs.Math.Nat.{eq-or-lt_of_le, zero-mul}
+use Rattle.starts_core.specs.declared.starts.StartEvent.{StartEvent}
+use Rattle.starts_core.specs.declared.starts.StartReply.{StartReply}
 use Rattle.sync_model.specs.declared.answer.Answer.TheVariants.{Done, Halted}
 use Rattle.script_calls.specs.declared.call.Call.{Call}
 use Rattle.script_calls.specs.declared.call.Reply.{Reply}
@@ -29,21 +34,25 @@ use Rattle.protocols.specs.declared.step.Step.{Step}
 use Rattle.protocols.specs.declared.step.Step.TheVariants.{Finished, Misused, Waits, Next, Never}
 use Rattle.protocols.specs.MutexStages.{mutex_event, mutex_meaning}
 use Rattle.protocols.specs.Spelling.{CallAnswer, Rest, IsFirstDeed, Spells}
+use Rattle.workload.specs.declared.object.ObjectKind.{ObjectKind}
 use Rattle.workload.specs.declared.object.ObjectKind.TheVariants as kinds
-use Rattle.workload.specs.Plan.{Plan}
+use Rattle.workload.specs.declared.object.ObjectLine.{ObjectLine}
+use Rattle.workload.specs.Plan.{Plan, has_dormant}
 use Rattle.run_record.specs.declared.entered.ObjectEvent.TheVariants as event
 use Rattle.run_record.specs.declared.entered.ObjectReply.TheVariants as reply
 use Rattle.run_record.specs.declared.made.Made.{Made}
 use Rattle.run_record.specs.Calls.{IsJournalOf}
 use Rattle.run_record.specs.Explains.{IsRecordOf}
 use Rattle.run_record.specs.Lines.{LineEnd, misused, Line, script_of, items_of, EndsBy}
+use Rattle.run_record.specs.Objects.{is_pool, starts_number}
 use Rattle.run_record.specs.Parts.{lifted_deed, with_outcome}
 use Rattle.run_record.specs.Record.{Record, ObjectEntry, object_number, journal_of, list_of, shared_in, entries_in}
 use Rattle.run_record.specs.Runs.{SpellScripts}
-use Rattle.run_laws.specs.Locks.{keeps_lock, KeepsItsLocks}
-use Rattle.run_laws.proofs.AroundScripts.{closing_is_no_misuse}
-use Rattle.run_laws.proofs.EntriesIn.{entries_append}
-use Rattle.run_laws.proofs.EachOf.{each_left, each_right}
+use Rattle.run_record.specs.StartsKind.{IsStartsJournal}
+use Rattle.run_laws.specs.Locks.{is_plain, keeps_lock, KeepsItsLocks}
+use Rattle.run_laws.proofs.AroundScripts.{IsNoGroups, closing_misused}
+use Rattle.run_laws.proofs.EntriesIn.{entries_append, deeds_such}
+use Rattle.run_laws.proofs.EachOf.{Each, each_left, each_right, each_by}
 use Rattle.run_laws.proofs.Holders.{IsUse, AreUses, OnlyHolder, is_misuse, journal_uses}
 use Rattle.run_laws.proofs.LockLines.{entries_here, of_kind, deeds, line_turns}
 use Rattle.run_laws.proofs.PlainCalls.{PlainCall, on_map, on_range, on_atomic, on_test, on_mutex, IsOfKind, list_all_at, plain_call}
@@ -107,6 +116,29 @@ get_past (list ∷ lists) (suc i) none = get_past lists i none
 pub get_at : {A : Type 0} (lists : List (List A)) (i : ℕ) (list : List A) → slice_get lists i ≡ Some list → get_or lists i [] ≡ list
 get_at {A} lists i list at = get_or_from_slice_get lists i list [] at
 
+mutex_no_group : (deed : Deed MutexEvent MutexReply) → IsNoGroups (lifted_deed event.Mutex reply.Mutex deed)
+mutex_no_group (Event e r) = tt
+mutex_no_group (Refused e misuse) = tt
+mutex_no_group (Halt misuse) = tt
+
+starts_no_group : (deed : Deed StartEvent StartReply) → IsNoGroups (lifted_deed event.Starts reply.Starts deed)
+starts_no_group (Event e r) = tt
+starts_no_group (Refused e misuse) = tt
+starts_no_group (Halt misuse) = tt
+
+abbrev as_one : Bool → ℕ
+as_one b = cond b 1 0
+
+no_pools : (objects : List ObjectLine) → list_all (λ (object : ObjectLine). is_plain object.kind) objects ≡ true → count_by (λ (object : ObjectLine). is_pool object.kind) objects ≡ 0
+no_pools [] plain = refl
+no_pools (object ∷ objects) plain =
+    let both = and_parts (is_plain object.kind) (list_all (λ (o : ObjectLine). is_plain o.kind) objects) plain in
+    let rest = no_pools objects both.1 in
+    omega (arith, rest, no_pool object.kind both.0, sum_by-cons (λ (o : ObjectLine). as_one (is_pool o.kind)) object objects) where
+      no_pool : (kind : ObjectKind) → is_plain kind ≡ true → as_one (is_pool kind) ≡ 0
+      no_pool kinds.Pool plain = absurd (false≢true plain)
+      no_pool kind plain = refl
+
 module _ (keeps_valid : (s : State) (c : ℕ) (e : MutexEvent) → IsValid s → IsValid (next s c e).0) (starts_valid : (callers : ℕ) → IsValid (start callers))
     (plan : Plan) (keeps : KeepsItsLocks plan) (r : Record) (outcome : Outcome) (lines : List Line) (are : SpellScripts plan r outcome lines) (lawful : IsRecordOf plan r) where
   -- a worker's list is its line's, and its script too
@@ -145,11 +177,51 @@ module _ (keeps_valid : (s : State) (c : ℕ) (e : MutexEvent) → IsValid s →
       no_misuse entries _ given (given_err given (sym (ap (is_err {O = Reply ℕ}) gives))) spelt
       (subst AreUses (ap (λ (l : List Made). entries_in object l) are_items ∙ entries_here object object entries (eq-eqb object object refl)) own)
 
+  -- no journal has an event of a wait group
+  no_group : has_dormant plan ≡ true → (place : ℕ) → Each (λ (x : ObjectEntry). IsNoGroups x.deed) (journal_of r (object_number place))
+  no_group some place = by_object (slice_get_cases plan.objects place).1 where
+    Without : List ObjectEntry → Type 0
+    Without journal = Each (λ (x : ObjectEntry). IsNoGroups x.deed) journal
+
+    by_kind : (kind : ObjectKind) → is_plain kind ≡ true → IsJournalOf plan place kind (journal_of r (object_number place)) → Without (journal_of r (object_number place))
+    by_kind kinds.Map plain none = subst Without (sym none) tt
+    by_kind (kinds.Atomic type) plain none = subst Without (sym none) tt
+    by_kind kinds.Mutex plain (own, are, follows, edges) = subst Without (sym are) (deeds_such event.Mutex reply.Mutex IsNoGroups mutex_no_group own)
+    by_kind kind plain is = absurd (false≢true plain)
+
+    last : starts_number plan ≡ object_number (length plan.objects)
+    last = behind (count_by (λ (o : ObjectLine). is_pool o.kind) plan.objects * plan.workers) (ap (λ (pools : ℕ). pools * plan.workers) (no_pools plan.objects keeps.plain) ∙ zero-mul plan.workers) where
+      behind : (parts : ℕ) → parts ≡ 0 → object_number (length plan.objects) + parts ≡ object_number (length plan.objects)
+      behind parts none = omega (arith, none)
+
+    by_starts : IsStartsJournal plan.dormant (journal_of r (starts_number plan)) → Without (journal_of r (starts_number plan))
+    by_starts (own, are, follows, edges) = subst Without (sym are) (deeds_such event.Starts reply.Starts IsNoGroups starts_no_group own)
+
+    past_all : length plan.objects < place → journal_of r (object_number place) ≡ []
+    past_all past = get_or-eq_default r.journals [] (omega (arith, past, lawful.objects, last, ap as_one some))
+
+    by_place : (length plan.objects ≡ place) ⊎ (length plan.objects < place) → Without (journal_of r (object_number place))
+    by_place (inl is) = subst (λ (n : ℕ). Without (journal_of r n)) (last ∙ ap object_number is) (by_starts (lawful.starts some))
+    by_place (inr past) = subst Without (sym (past_all past)) tt
+
+    by_object : ((object : ObjectLine) × (place < length plan.objects) × (slice_get plan.objects place ≡ Some object) × (get_or plan.objects place object ≡ object)) ⊎ ((length plan.objects ≤ place) × (slice_get plan.objects place ≡ None)) → Without (journal_of r (object_number place))
+    by_object (inl (object, within, at, is)) = by_kind object.kind (list_all_at (λ (o : ObjectLine). is_plain o.kind) plan.objects place object keeps.plain at) (lawful.journals place object at)
+    by_object (inr (past, none)) = by_place (eq-or-lt_of_le past)
+
+  -- so no list has one
+  none_there : has_dormant plan ≡ true → (worker place : ℕ) (items before behind : List Made) → list_of r worker ≡ before ++ (items ++ behind) → Each (λ (x : ObjectEntry). IsNoGroups x.deed) (entries_in (object_number place) items)
+  none_there some worker place items before behind is =
+      let object = object_number place in
+      let Without = λ (x : ObjectEntry). IsNoGroups x.deed in
+      let listed = subst (λ (l : List Made). Each Without (entries_in object l)) is (subst (Each Without) (sym (lawful.once worker object)) (each_by Without worker (journal_of r object) (no_group some place))) in
+      let behind_them = each_right Without (entries_in object before) (entries_in object (items ++ behind)) (subst (Each Without) (entries_append object before (items ++ behind)) listed) in
+      each_left Without (entries_in object items) (entries_in object behind) (subst (Each Without) (entries_append object items behind) behind_them)
+
   pub nobody_misuses : (worker : ℕ) (line : Line) (m : Misuse) → slice_get lines worker ≡ Some line → line.ending ≡ misused m → ⊥
   nobody_misuses worker line m at ending = ended line.rest line.last (subst (λ (e : LineEnd). EndsBy plan worker (length (shared_in (flat_map (λ spelt. spelt.items) line.spelt))) e line.rest line.last) ending (are.each worker line at).ends) (list_at worker line at) where
     calls : List Made
     calls = flat_map (λ spelt. spelt.items) line.spelt
 
     ended : (left : List Call) (last : List Made) → EndsBy plan worker (length (shared_in calls)) (misused m) left last → list_of r worker ≡ line.first ++ (calls ++ (last ++ line.halts)) → ⊥
-    ended [] last ends is = closing_is_no_misuse plan worker last m ends
+    ended [] last ends is = closing_misused plan worker last m (λ some place. none_there some worker place last (line.first ++ calls) line.halts (is ∙ sym (append_assoc line.first calls (last ++ line.halts)))) ends
     ended (call ∷ left) last spelt is = no_call worker line at call last (line.first ++ calls) line.halts m (is ∙ sym (append_assoc line.first calls (last ++ line.halts))) (plain_call plan keeps.plain worker _ call last (Done (Err m)) spelt)

@@ -23,11 +23,11 @@ use Rattle.run_record.specs.Calls.{IsJournalOf}
 use Rattle.run_record.specs.Explains.{KeepsFronts, IsRecordOf, IsAtEnd, AreLines}
 use Rattle.run_record.specs.Lines.{SpeltCall, Line, whole, AreSpelt, IsLineOf}
 use Rattle.run_record.specs.Objects.{contents_of, first_part, object_count, is_pool, starts_number}
-use Rattle.run_record.specs.Parts.{returns}
+use Rattle.run_record.specs.Parts.{and_then, returns}
 use Rattle.run_record.specs.PoolKind.{IsPartJournal}
 use Rattle.run_record.specs.Record.{Record, ObjectEntry, object_number, journal_of, list_of, calls_of, shared_in, entries_in, front_of}
 use Rattle.run_record.specs.Runs.{SpellScripts}
-use Rattle.run_record.specs.StartsKind.{wait_start_part, end_part, IsStartsJournal}
+use Rattle.run_record.specs.StartsKind.{wait_start_part, end_part, done_part, IsStartsJournal}
 use Rattle.run_laws.specs.Examples.{none_known, record_of}
 
 -- the lines of a workload without tests are those of its scripts
@@ -51,6 +51,17 @@ module _ {A : Type 0} where
   from_at P n (y ∷ ys) all zero x at = subst (λ (k : ℕ). P k x) (omega arith) (subst (P n) (ap (λ (o : Option A). unwrap_or o x) at) all.0)
   from_at P n (y ∷ ys) all (suc i) x at = subst (λ (k : ℕ). P k x) (omega arith) (from_at P (n + 1) ys all.1 i x at)
 
+  -- what holds of each two, the first of which stands before the other
+  abbrev pub Pairs : (A → A → Type 0) → List A → Type 0
+  Pairs P [] = Unit {0}
+  Pairs P (x ∷ xs) = AllByRecursion (P x) xs × Pairs P xs
+
+  pub pair_at : (P : A → A → Type 0) (xs : List A) → Pairs P xs → (i j : ℕ) (x y : A) → i < j → slice_get xs i ≡ Some x → slice_get xs j ≡ Some y → P x y
+  pair_at P [] all i j x y before at_x at_y = absurd (none-some x at_x)
+  pair_at P (z ∷ zs) all i zero x y before at_x at_y = absurd (omega (arith, before))
+  pair_at P (z ∷ zs) all zero (suc j) x y before at_x at_y = subst (λ (first : A). P first y) (ap (λ (o : Option A). unwrap_or o x) at_x) (each_at (P z) zs all.0 j y at_y)
+  pair_at P (z ∷ zs) all (suc i) (suc j) x y before at_x at_y = pair_at P zs all.1 i j x y (omega (arith, before)) at_x at_y
+
 -- what holds of each number below one
 abbrev pub Below : ℕ → (ℕ → Type 0) → Type 0
 Below zero P = Unit {0}
@@ -71,6 +82,13 @@ pub none_at : (c : ℕ) → slice_index none_known c ≡ 0
 none_at zero = refl
 none_at (suc zero) = refl
 none_at (suc (suc c)) = refl
+
+-- any front knows at least nothing, and what it knows
+pub above_none : (front : List ℕ) → AtLeast front none_known
+above_none front c = omega (arith, none_at c)
+
+pub same_known : (front : List ℕ) → AtLeast front front
+same_known front c = omega arith
 
 -- the edges of a journal whose entries know nothing
 pub quiet_edges : {E R : Type 0} (frees takes : E → R → Bool) (own : List (Entry E R)) → AllByRecursion (λ x. x.front ≡ none_known) own → KeepsEdges frees takes own
@@ -224,7 +242,7 @@ is_whole : (plan : Plan) (worker : ℕ) (spelt : List SpeltCall) → is_dormant 
 is_whole plan worker spelt live none are = record {
   opens = subst (λ (b : Bool). cond b (wait_start_part (starts_number plan)) (returns true) [] (Done (Ok true))) (sym live) (refl, refl);
   calls = are;
-  ends = (refl, subst (λ (b : Bool). cond b (end_part (starts_number plan)) (returns tt) [] (Done (Ok tt))) (sym none) (refl, refl));
+  ends = (refl, subst (λ (b : Bool). cond b (and_then (done_part plan worker) (λ done. end_part (starts_number plan))) (returns tt) [] (Done (Ok tt))) (sym none) (refl, refl));
   halts = refl;
 }
 

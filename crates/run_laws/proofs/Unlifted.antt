@@ -2,7 +2,7 @@
 use Rattle.std.proofs.Common.{◌≡◌, ℕ, Bool, true, List, [], ◌∷◌, map, None, refl, sym, ap, ◌∙◌, subst}
 use Rattle.sync_model.specs.declared.journal.Deed.{Deed}
 use Rattle.sync_model.specs.declared.journal.Entry.{Entry}
-use Rattle.sync_model.specs.Journal.{Follows}
+use Rattle.sync_model.specs.Journal.{Follows, KeepsEdges}
 use Rattle.run_record.specs.declared.entered.ObjectEvent.{ObjectEvent}
 use Rattle.run_record.specs.declared.entered.ObjectReply.{ObjectReply}
 use Rattle.run_record.specs.Journals.{FollowsFrom}
@@ -25,3 +25,9 @@ module _ {E R : Type 0} (event : E → ObjectEvent) (reply : R → ObjectReply) 
       → FollowsFrom event reply next frees takes start journal → Follows next true start None (map unlifted journal)
   follows_back {S} next frees takes start journal follows =
       subst (Follows next true start None) (sym (ap (map unlifted) follows.1 ∙ all_back follows.0)) follows.2
+
+  -- and keeps the edge law
+  pub edges_back : {S : Type 0} (next : S → ℕ → E → S × R) (frees takes : E → R → Bool) (start : S) (journal : List ObjectEntry)
+      → FollowsFrom event reply next frees takes start journal → KeepsEdges frees takes (map unlifted journal)
+  edges_back {S} next frees takes start journal follows =
+      subst (KeepsEdges frees takes) (sym (ap (map unlifted) follows.1 ∙ all_back follows.0)) follows.3

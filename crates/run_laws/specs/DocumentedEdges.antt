@@ -63,7 +63,7 @@ pub data RwLocks : RwEvent → RwReply → Type 0 where
   a_writer_behind_writers : (now : ℕ) → RwLocks (on_rw.WriteWoken now) (of_rw.Resumed rw_resumption.Acquired)
   whoever_was_let_in : RwLocks on_rw.Leave of_rw.Left
 
--- "A call to Done synchronizes before the return of any Wait call that it unblocks." Done adds -1, and Add of any number below 0 is the same.
+-- "A call to Done synchronizes before the return of any Wait call that it unblocks." Done adds -1, and Add of any number below 0 is the same. `Go` says it of "the return from f": that is the `done` which a started worker makes behind its script.
 pub data Dones : GroupEvent → GroupReply → Type 0 where
   takes_away : (less : ℕ) → Dones (on_group.Add (negsuc less)) of_group.Done
 

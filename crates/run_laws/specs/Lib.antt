@@ -3,6 +3,7 @@ pub mod DocumentedEdges
 pub mod Examples
 pub mod ExamplesCircle
 pub mod ExamplesCond
+pub mod ExamplesGo
 pub mod ExamplesMap
 pub mod ExamplesMutex
 pub mod ExamplesOnce

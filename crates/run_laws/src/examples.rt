@@ -1,7 +1,9 @@
 //! Small records, one of each kind of object that explains a run, and one that differs from it in one thing and explains none.
 //! So what it means that a record explains a run is shown by what it lets through, and by what it refuses.
+ghost use Rattle.std.specs.Prelude.{ℕ, List};
 ghost use Rattle.run_record.specs.Explains.{Explains};
 ghost use Rattle.run_laws.specs.ExamplesCond as cond;
+ghost use Rattle.run_laws.specs.ExamplesGo as go;
 ghost use Rattle.run_laws.specs.ExamplesMap as map;
 ghost use Rattle.run_laws.specs.ExamplesMutex as mutex;
 ghost use Rattle.run_laws.specs.ExamplesOnce as once;
@@ -99,6 +101,18 @@ pub fn no_item_is_got_that_nobody_put()
 pub fn a_worker_is_not_given_up_while_another_is_live()
     ensures explained { Explains starts.plan starts.outcome starts.told_at_the_end }
     ensures refused { (outcome : Outcome) → Explains starts.plan outcome starts.told_too_early → ⊥ }
+{
+    scripts_without_tests_are_spelt_call_by_call();
+}
+
+/// A worker that a `go` started is done before its group is left. A load behind the wait for it that finds what the worker added is
+/// explained. One that finds what there was before isn't, whatever its caller knew then: behind its script the worker is done with the
+/// group, and the wait that returns behind that `done` knows all that the worker knew. Nor is a wait explained that returns before it,
+/// since the `go` has added to the group.
+pub fn a_started_worker_is_done_before_its_group_is_left()
+    ensures explained { Explains go.plan go.outcome go.finds_the_sum }
+    ensures refused { (outcome : Outcome) (at_wait at_load : List ℕ) → Explains go.plan outcome (go.finds_nothing at_wait at_load) → ⊥ }
+    ensures not_left { (outcome : Outcome) (at_wait at_load : List ℕ) → Explains go.plan outcome (go.left_before at_wait at_load) → ⊥ }
 {
     scripts_without_tests_are_spelt_call_by_call();
 }

@@ -1,7 +1,5 @@
 -- Which calls on maps and atomics a call of a workload is made of.
-use Rattle.std.proofs.Common.{◌≡◌, ℕ, Bool, true, false, cond, List, [], ◌∷◌, ◌++◌, map, Some, None, refl, sym, subst}
-use Rattle.std.specs.Prelude.{Ok, Err}
-use Rattle.sync_model.specs.declared.answer.Answer.TheVariants.{Done, Halted}
+use Rattle.std.proofs.Common.{◌≡◌, ℕ, List, [], ◌∷◌, ◌++◌, map, Some, None, refl, sym, subst}
 use Rattle.sync_types.specs.declared.atomic_object.AtomicCall.{AtomicCall}
 use Rattle.sync_types.specs.declared.atomic_object.AtomicCall.TheVariants.{Add}
 use Rattle.sync_types.specs.declared.atomic_object.Number.TheVariants.{Int64}
@@ -12,15 +10,15 @@ use Rattle.sync_model.specs.declared.item.SharedCall.{SharedCall}
 use Rattle.sync_model.specs.declared.item.SharedCall.TheVariants as calls
 use Rattle.sync_model.specs.declared.item.SharedReply.{SharedReply}
 use Rattle.sync_model.specs.declared.item.SharedReply.TheVariants as answers
-use Rattle.sync_model.specs.declared.journal.Entry.{Entry}
 use Rattle.sync_types.specs.declared.map_object.MapCall.{MapCall}
 use Rattle.sync_types.specs.Renaming.{renamed_call}
-use Rattle.protocols.specs.Spelling.{CallAnswer}
+use Rattle.protocols.specs.GroupStages.{group_event, group_meaning}
+use Rattle.protocols.specs.declared.wait_group.GroupStage.TheVariants as group_stage
 use Rattle.protocols.specs.declared.step.Step.{Step}
 use Rattle.starts_core.specs.declared.protocol.StartsStage.TheVariants as stage
 use Rattle.starts_core.specs.StartsStages.{starts_event, starts_meaning}
 use Rattle.workload.specs.Keys.{keys_in, key_number}
-use Rattle.workload.specs.Plan.{Plan, is_dormant, has_dormant}
+use Rattle.workload.specs.Plan.{Plan}
 use Rattle.run_record.specs.declared.entered.ObjectEvent.{ObjectEvent}
 use Rattle.run_record.specs.declared.entered.ObjectEvent.TheVariants as event
 use Rattle.run_record.specs.declared.entered.ObjectReply.{ObjectReply}
@@ -29,12 +27,12 @@ use Rattle.run_record.specs.declared.made.Made.{Made}
 use Rattle.run_record.specs.declared.made.Made.TheVariants.{Shared, Entered}
 use Rattle.run_record.specs.Calls.{SpellsCall}
 use Rattle.run_record.specs.Limits.{told}
-use Rattle.run_record.specs.Objects.{starts_number}
-use Rattle.run_record.specs.Parts.{Part, GoesOn, returns, never, and_then, read_as, Places, lifted, stages}
+use Rattle.run_record.specs.Parts.{Part, Places, stages}
 use Rattle.run_record.specs.Record.{shared_in}
-use Rattle.run_record.specs.StartsKind.{starts_part, was_started, wait_start_part, end_part, opening, closing}
-use Rattle.run_record.proofs.CallParts.{HoldsOfParts, holds_of_call}
-use Rattle.run_record.proofs.Having.{Each, each_both}
+use Rattle.run_record.specs.StartsKind.{opening, closing}
+use Rattle.run_record.proofs.CallParts.{HoldsOfParts, holds_of_call, of_opening, of_closing}
+use Rattle.run_record.proofs.EachItem.{EachOf, through, of_entries, of_stages}
+use Rattle.run_record.proofs.Having.{Each}
 
 module _ (P : SharedCall → Type 0) where
   -- a call on a map or an atomic is such a one
@@ -44,30 +42,7 @@ module _ (P : SharedCall → Type 0) where
 
   -- each of the part is
   abbrev pub AsksOnly : {O : Type 0} → Part O → Type 0
-  AsksOnly {O} part = (items : List Made) (answer : CallAnswer O) → part items answer → Each Asks items
-
-  module _ {O : Type 0} where
-    by_returns : (outcome : O) → AsksOnly (returns outcome)
-    by_returns outcome items answer is = subst (Each Asks) (sym is.0) tt
-
-    by_chosen : (b : Bool) (first second : Part O) → AsksOnly first → AsksOnly second → AsksOnly (cond b first second)
-    by_chosen true first second one other = one
-    by_chosen false first second one other = other
-
-    by_never : AsksOnly (never {O = O})
-    by_never items answer is = absurd is
-
-  module _ {O Q : Type 0} where
-    by_later : (next : O → Part Q) (given : CallAnswer O) (later : List Made) (answer : CallAnswer Q) → ((outcome : O) → AsksOnly (next outcome)) → GoesOn next given later answer → Each Asks later
-    by_later next (Done (Ok outcome)) later answer each goes = each outcome later answer goes
-    by_later next (Done (Err misuse)) later answer each goes = subst (Each Asks) (sym goes.0) tt
-    by_later next (Halted misuse) later answer each goes = subst (Each Asks) (sym goes.0) tt
-
-    by_then : (first : Part O) (next : O → Part Q) → AsksOnly first → ((outcome : O) → AsksOnly (next outcome)) → AsksOnly (and_then first next)
-    by_then first next one each items answer (xs, ys, given, is, made, goes) = subst (Each Asks) (sym is) (each_both Asks xs ys (one xs given made) (by_later next given ys answer each goes))
-
-    by_read : (f : O → Q) (part : Part O) → AsksOnly part → AsksOnly (read_as f part)
-    by_read f part one items answer (given, made, is) = one items given made
+  AsksOnly part = EachOf Asks part
 
   by_made : (made : List Item) → Each (λ (t : SharedCall × SharedReply). P t.0) (map told made) → Each Asks (map Shared made)
   by_made [] each = tt
@@ -77,21 +52,16 @@ module _ (P : SharedCall → Type 0) where
   by_places made items each (xs, is, are) = subst (Each Asks) (sym is) (by_made xs (subst (Each (λ (t : SharedCall × SharedReply). P t.0)) (sym are) each))
 
   module _ {E R : Type 0} (event : E → ObjectEvent) (reply : R → ObjectReply) (object : ℕ) where
-    by_entries : (entries : List (Entry E R)) → Each Asks (map (λ entry. Entered object (lifted event reply entry)) entries)
-    by_entries [] = tt
-    by_entries (entry ∷ entries) = (tt, by_entries entries)
-
-    by_stages : {G O : Type 0} (event_of : G → ℕ → E) (meaning : G → R → Step G O) (stage : G) → AsksOnly (stages event reply event_of meaning object stage)
-    by_stages event_of meaning stage items answer (entries, is, spelt) = subst (Each Asks) (sym is) (by_entries entries)
+    by_stages : {G O : Type 0} (event_of : G → ℕ → E) (meaning : G → R → Step G O) (from : G) → AsksOnly (stages event reply event_of meaning object from)
+    by_stages event_of meaning from = of_stages Asks event reply object event_of meaning from (λ entry. tt)
 
   -- what stands before a script asks nothing, nor what stands behind it
   pub by_opening : (plan : Plan) (worker : ℕ) → AsksOnly (opening plan worker)
-  by_opening plan worker = by_chosen (is_dormant plan worker) (wait_start_part (starts_number plan)) (returns true)
-      (by_read was_started (starts_part (starts_number plan) stage.WaitStart) (by_stages event.Starts reply.Starts (starts_number plan) starts_event starts_meaning stage.WaitStart)) (by_returns true)
+  by_opening plan worker = of_opening (λ O part. AsksOnly part) (through Asks) plan worker (λ object. by_stages event.Starts reply.Starts object starts_event starts_meaning stage.WaitStart)
 
   pub by_closing : (plan : Plan) (worker : ℕ) → AsksOnly (closing plan worker)
-  by_closing plan worker = by_chosen (has_dormant plan) (end_part (starts_number plan)) (returns tt)
-      (by_read (λ ended. tt) (starts_part (starts_number plan) stage.End) (by_stages event.Starts reply.Starts (starts_number plan) starts_event starts_meaning stage.End)) (by_returns tt)
+  by_closing plan worker = of_closing (λ O part. AsksOnly part) (through Asks) plan worker
+      (λ object. by_stages event.WaitGroup reply.WaitGroup object group_event group_meaning group_stage.Done) (λ object. by_stages event.Starts reply.Starts object starts_event starts_meaning stage.End)
 
   -- such are the calls of cursors and atomics
   module _ (begins : (m : ℕ) → P (calls.Begin m)) (steps : (begin : ℕ) → P (calls.Next begin)) (atomics : (a : ℕ) (call : AtomicCall) → P (calls.Atomic a call)) where
@@ -101,13 +71,10 @@ module _ (P : SharedCall → Type 0) where
 
     abbrev asked : HoldsOfParts (λ O part. AsksOnly part)
     asked = record {
-      returned = λ O outcome. by_returns outcome;
-      none = λ O. by_never;
-      behind = λ O Q first next one later. by_then first next one later;
-      read = λ O Q f part one. by_read f part one;
+      through = through Asks;
       mutex = λ object stage. by_stages event.Mutex reply.Mutex object _ _ stage;
       rw_mutex = λ object stage. by_stages event.RwMutex reply.RwMutex object _ _ stage;
-      writes = λ object items answer locks. subst (Each Asks) (sym locks.1) (by_entries event.RwMutex reply.RwMutex object locks.0);
+      writes = λ object items answer locks. subst (Each Asks) (sym locks.1) (of_entries Asks event.RwMutex reply.RwMutex object (λ entry. tt) locks.0);
       cond = λ object stage. by_stages event.Cond reply.Cond object _ _ stage;
       wait_group = λ object stage. by_stages event.WaitGroup reply.WaitGroup object _ _ stage;
       once = λ object stage. by_stages event.Once reply.Once object _ _ stage;
@@ -123,6 +90,7 @@ module _ (P : SharedCall → Type 0) where
         → AsksOnly (SpellsCall plan worker before call)
     by_call plan worker before call keyed =
         holds_of_call (λ O part. AsksOnly part) asked plan worker before call (λ m op is items answer spelt. by_places _ items (keyed m op is, tt) spelt.1)
+        (λ object started is. by_stages event.Starts reply.Starts object starts_event starts_meaning (stage.Start started))
 
 -- where nothing is asked, there are no calls on maps and atomics
 pub none_asked : (items : List Made) → Each (Asks (λ call. ⊥)) items → shared_in items ≡ []

@@ -1,5 +1,5 @@
 -- What the items of each call of a workload are.
-use Rattle.std.proofs.Common.{ℕ, ℤ, true, List, map}
+use Rattle.std.proofs.Common.{ℕ, ℤ, List, map}
 use Rattle.script_calls.specs.declared.call.Call.{Call}
 use Rattle.script_calls.specs.declared.call.Reply.TheVariants as replies
 use Rattle.sync_model.specs.declared.journal.Deed.{Deed}
@@ -11,17 +11,18 @@ use Rattle.protocols.specs.PoolStages.{pool_event, pool_meaning}
 use Rattle.protocols.specs.RwMutexStages.{rw_event, rw_meaning}
 use Rattle.protocols.specs.Spelling.{CallAnswer, Spells, Ends}
 use Rattle.protocols.specs.declared.step.Step.{Step}
+use Rattle.protocols.specs.declared.wait_group.GroupStage.TheVariants as group_stage
+use Rattle.starts_core.specs.declared.protocol.StartsStage.{StartsStage}
 use Rattle.starts_core.specs.declared.protocol.StartsStage.TheVariants as stage
 use Rattle.starts_core.specs.StartsStages.{starts_event, starts_meaning}
-use Rattle.workload.specs.Plan.{Plan, is_dormant, has_dormant}
+use Rattle.workload.specs.Plan.{Plan}
 use Rattle.run_record.specs.declared.entered.ObjectEvent.TheVariants as event
 use Rattle.run_record.specs.declared.entered.ObjectReply.TheVariants as reply
 use Rattle.run_record.specs.Calls.{SpellsCall}
-use Rattle.run_record.specs.Objects.{starts_number}
-use Rattle.run_record.specs.Parts.{returns}
-use Rattle.run_record.specs.StartsKind.{starts_part, was_started, wait_start_part, end_part, opening, closing}
-use Rattle.run_record.proofs.CallParts.{HoldsOfParts, holds_of_call}
-use Rattle.run_record.proofs.PartLemmas.{IsSound, of_returns, of_chosen, of_never, of_and_then, of_read_as, of_places, of_entries, of_stages}
+use Rattle.run_record.specs.StartsKind.{starts_part, opening, closing}
+use Rattle.run_record.proofs.CallParts as holds
+use Rattle.run_record.proofs.CallParts.{GoesThrough, HoldsOfParts, holds_of_call}
+use Rattle.run_record.proofs.PartLemmas.{IsSound, of_returns, of_never, of_and_then, of_read_as, of_places, of_entries, of_stages}
 use Rattle.run_record.proofs.WriteLocks.{lock_ends}
 
 -- each call of a protocol ends as calls do
@@ -38,12 +39,17 @@ pub record AllEndAlike : Type 0 where
   pub pool : EndsAlike pool_event pool_meaning
   pub starts : EndsAlike starts_event starts_meaning
 
-abbrev sound : AllEndAlike → HoldsOfParts (λ O part. IsSound part)
-sound alike = record {
+abbrev through : GoesThrough (λ O part. IsSound part)
+through = record {
   returned = λ O outcome. of_returns outcome;
   none = λ O. of_never;
   behind = λ O P first next one later. of_and_then first next one later;
   read = λ O P f part one. of_read_as f part one;
+}
+
+abbrev sound : AllEndAlike → HoldsOfParts (λ O part. IsSound part)
+sound alike = record {
+  through = through;
   mutex = λ object stage. of_stages event.Mutex reply.Mutex object mutex_event mutex_meaning stage (alike.mutex stage);
   rw_mutex = λ object stage. of_stages event.RwMutex reply.RwMutex object rw_event rw_meaning stage (alike.rw_mutex stage);
   writes = λ object items answer locks. of_entries event.RwMutex reply.RwMutex object locks.0 items answer locks.1 (lock_ends (map (λ entry. entry.deed) locks.0) answer locks.2);
@@ -58,17 +64,19 @@ sound alike = record {
   range = λ keys m begin items answer spelt. of_places _ items answer (replies.Pairs spelt.1) spelt.2 spelt.4;
 }
 
+of_starts : AllEndAlike → (object : ℕ) (from : StartsStage) → IsSound (starts_part object from)
+of_starts alike object from = of_stages event.Starts reply.Starts object starts_event starts_meaning from (alike.starts from)
+
 pub of_call : AllEndAlike → (plan : Plan) (worker before : ℕ) (call : Call) → IsSound (SpellsCall plan worker before call)
 of_call alike plan worker before call =
     holds_of_call (λ O part. IsSound part) (sound alike) plan worker before call (λ m op is items answer spelt. of_places _ items answer (replies.Map spelt.0) spelt.1 spelt.2)
+    (λ object started is. of_starts alike object (stage.Start started))
 
 -- and what stands before a script, and behind it
 pub of_opening : AllEndAlike → (plan : Plan) (worker : ℕ) → IsSound (opening plan worker)
-of_opening alike plan worker = of_chosen (is_dormant plan worker) (wait_start_part (starts_number plan)) (returns true)
-    (of_read_as was_started (starts_part (starts_number plan) stage.WaitStart) (of_stages event.Starts reply.Starts (starts_number plan) starts_event starts_meaning stage.WaitStart (alike.starts stage.WaitStart)))
-    (of_returns true)
+of_opening alike plan worker = holds.of_opening (λ O part. IsSound part) through plan worker (λ object. of_starts alike object stage.WaitStart)
 
 pub of_closing : AllEndAlike → (plan : Plan) (worker : ℕ) → IsSound (closing plan worker)
-of_closing alike plan worker = of_chosen (has_dormant plan) (end_part (starts_number plan)) (returns tt)
-    (of_read_as (λ ended. tt) (starts_part (starts_number plan) stage.End) (of_stages event.Starts reply.Starts (starts_number plan) starts_event starts_meaning stage.End (alike.starts stage.End)))
-    (of_returns tt)
+of_closing alike plan worker =
+    holds.of_closing (λ O part. IsSound part) through plan worker
+    (λ object. of_stages event.WaitGroup reply.WaitGroup object group_event group_meaning group_stage.Done (alike.wait_group group_stage.Done)) (λ object. of_starts alike object stage.End)

@@ -1,15 +1,16 @@
 -- What holds of the parts of calls, however they are put together, holds of the calls of a workload.
-use Rattle.std.proofs.Common.{◌≡◌, ℕ, zero, suc, ◌+◌, ℤ, Bool, true, false, List, [], ◌∷◌, Option, Some, None, slice_get, refl}
+use Rattle.std.proofs.Common.{◌≡◌, ℕ, zero, suc, ◌+◌, ℤ, Bool, true, false, cond, List, [], ◌∷◌, Option, Some, None, slice_get, refl}
 use Rattle.std.specs.List.{range_with_len}
 use Rattle.sync_types.specs.declared.atomic_object.AtomicCall.{AtomicCall}
 use Rattle.sync_types.specs.declared.atomic_object.AtomicCall.TheVariants.{Load}
 use Rattle.sync_types.specs.declared.atomic_object.Number.{Number}
 use Rattle.script_calls.specs.declared.call.Call.{Call}
-use Rattle.script_calls.specs.declared.call.ComposedCall.TheVariants.{IfEqual, WaitFor}
+use Rattle.script_calls.specs.declared.call.ComposedCall.TheVariants.{IfEqual, WaitFor, Go}
 use Rattle.script_calls.specs.declared.call.Operation.{Operation}
 use Rattle.script_calls.specs.declared.call.Operation.TheVariants as operations
 use Rattle.script_calls.specs.declared.call.Reply.{Reply}
 use Rattle.script_calls.specs.declared.call.Reply.TheVariants as replies
+use Rattle.script_calls.specs.Starts.{started_by, group_of}
 use Rattle.sync_types.specs.declared.lock_call.LockReply.{LockReply}
 use Rattle.sync_types.specs.declared.lock_call.RwMutexCall.{RwMutexCall}
 use Rattle.sync_types.specs.declared.lock_call.RwMutexCall.TheVariants as rw_calls
@@ -39,11 +40,14 @@ use Rattle.protocols.specs.declared.pool.PoolStage.TheVariants as pool_stage
 use Rattle.protocols.specs.declared.rw_mutex.RwMutexStage.{RwMutexStage}
 use Rattle.protocols.specs.declared.rw_mutex.RwMutexStage.TheVariants as rw_stage
 use Rattle.protocols.specs.declared.wait_group.GroupStage.{GroupStage}
+use Rattle.protocols.specs.declared.wait_group.GroupStage.TheVariants as group_stage
+use Rattle.starts_core.specs.declared.protocol.StartsOutcome.{StartsOutcome}
+use Rattle.starts_core.specs.declared.protocol.StartsStage.TheVariants as starts_stage
 use Rattle.workload.specs.declared.object.ObjectKind.{ObjectKind}
 use Rattle.workload.specs.declared.object.ObjectKind.TheVariants as kinds
 use Rattle.workload.specs.declared.object.ObjectLine.{ObjectLine}
 use Rattle.workload.specs.Keys.{keys_in}
-use Rattle.workload.specs.Plan.{Plan}
+use Rattle.workload.specs.Plan.{Plan, is_dormant, has_dormant}
 use Rattle.run_record.specs.declared.entered.ObjectEvent.TheVariants as event
 use Rattle.run_record.specs.declared.entered.ObjectReply.TheVariants as reply
 use Rattle.run_record.specs.AtomicKind.{adds, atomic_call}
@@ -51,18 +55,25 @@ use Rattle.run_record.specs.Calls.{call_on, call_at, SpellsCall}
 use Rattle.run_record.specs.CondKind.{cond_part, cond_call, wait_part}
 use Rattle.run_record.specs.MapKind.{map_call, range_call}
 use Rattle.run_record.specs.MutexKind.{mutex_part}
+use Rattle.run_record.specs.Objects.{starts_number}
 use Rattle.run_record.specs.OnceKind.{goes_on_once, once_part, do_call, func_call, value_call, failure}
 use Rattle.run_record.specs.Parts.{Part, returns, never, and_then, read_as, stages}
 use Rattle.run_record.specs.RwMutexKind.{rw_part, write_part}
 use Rattle.run_record.specs.PoolKind.{pool_part, pool_call, part_of, found_by, found_or, looks_of, stage_of, swept_by}
+use Rattle.run_record.specs.Record.{object_number}
+use Rattle.run_record.specs.StartsKind.{starts_part, was_started, wait_start_part, end_part, opening, done_under, done_part, closing}
 use Rattle.run_record.specs.Tests as test
 
--- it holds of each part, and goes on from parts to what they are put together to; of calls on maps nothing is said
-pub record HoldsOfParts (Q : (O : Type 0) → Part O → Type 0) : Type 1 where
+-- it goes on from parts to what they are put together to
+pub record GoesThrough (Q : (O : Type 0) → Part O → Type 0) : Type 1 where
   pub returned : (O : Type 0) (outcome : O) → Q O (returns outcome)
   pub none : (O : Type 0) → Q O never
   pub behind : (O P : Type 0) (first : Part O) (next : O → Part P) → Q O first → ((outcome : O) → Q P (next outcome)) → Q P (and_then first next)
   pub read : (O P : Type 0) (f : O → P) (part : Part O) → Q O part → Q P (read_as f part)
+
+-- and holds of each part; of calls on maps, and of starts, nothing is said
+pub record HoldsOfParts (Q : (O : Type 0) → Part O → Type 0) : Type 1 where
+  pub through : GoesThrough Q
   pub mutex : (object : ℕ) (stage : MutexStage) → Q LockReply (mutex_part object stage)
   pub rw_mutex : (object : ℕ) (stage : RwMutexStage) → Q LockReply (stages event.RwMutex reply.RwMutex rw_event rw_meaning object stage)
   pub writes : (object : ℕ) → Q LockReply (write_part object)
@@ -78,10 +89,10 @@ pub record HoldsOfParts (Q : (O : Type 0) → Part O → Type 0) : Type 1 where
 
 module _ (Q : (O : Type 0) → Part O → Type 0) (holds : HoldsOfParts Q) where
   of_wait : (object mutex : ℕ) → Q (Reply ℕ) (wait_part object mutex)
-  of_wait object mutex = holds.behind _ _ _ _ (holds.cond object cond_stage.Ticket) (λ ticket.
-      holds.behind _ _ _ _ (holds.mutex mutex mutex_stages.Unlock) (λ unlocked.
-      holds.behind _ _ _ _ (holds.cond object cond_stage.Leave) (λ left.
-      holds.read _ _ (λ locked. replies.Returned) _ (holds.mutex mutex mutex_stages.Lock))))
+  of_wait object mutex = holds.through.behind _ _ _ _ (holds.cond object cond_stage.Ticket) (λ ticket.
+      holds.through.behind _ _ _ _ (holds.mutex mutex mutex_stages.Unlock) (λ unlocked.
+      holds.through.behind _ _ _ _ (holds.cond object cond_stage.Leave) (λ left.
+      holds.through.read _ _ (λ locked. replies.Returned) _ (holds.mutex mutex mutex_stages.Lock))))
 
   of_rw_part : (object : ℕ) (call : RwMutexCall) → Q LockReply (rw_part object call)
   of_rw_part object rw_calls.Lock = holds.writes object
@@ -93,84 +104,112 @@ module _ (Q : (O : Type 0) → Part O → Type 0) (holds : HoldsOfParts Q) where
 
   of_cond_call : (object mutex : ℕ) (call : CondCall) → Q (Reply ℕ) (cond_call object mutex call)
   of_cond_call object mutex cond_calls.Wait = of_wait object mutex
-  of_cond_call object mutex cond_calls.Signal = holds.read _ _ (λ done. replies.Returned) _ (holds.cond object cond_stage.Signal)
-  of_cond_call object mutex cond_calls.Broadcast = holds.read _ _ (λ done. replies.Returned) _ (holds.cond object cond_stage.Broadcast)
+  of_cond_call object mutex cond_calls.Signal = holds.through.read _ _ (λ done. replies.Returned) _ (holds.cond object cond_stage.Signal)
+  of_cond_call object mutex cond_calls.Broadcast = holds.through.read _ _ (λ done. replies.Returned) _ (holds.cond object cond_stage.Broadcast)
 
   of_test : (a : ℕ) (value : Number) → Q Bool (test.tests a value)
-  of_test a value = holds.read _ _ (test.holds value) _ (holds.atomic a Load)
+  of_test a value = holds.through.read _ _ (test.holds value) _ (holds.atomic a Load)
 
   of_unless_met : (next : Part Bool) → Q Bool next → (met : Bool) → Q Bool (test.unless_met next met)
-  of_unless_met next later true = holds.returned Bool true
+  of_unless_met next later true = holds.through.returned Bool true
   of_unless_met next later false = later
 
   of_waits_for : (object mutex a : ℕ) (value : Number) (tries : ℕ) → Q Bool (test.waits_for object mutex a value tries)
   of_waits_for object mutex a value zero = of_test a value
   of_waits_for object mutex a value (suc tries) =
-      holds.behind _ _ _ _ (of_test a value) (of_unless_met _ (holds.behind _ _ _ _ (of_wait object mutex) (λ waited. of_waits_for object mutex a value tries)))
+      holds.through.behind _ _ _ _ (of_test a value) (of_unless_met _ (holds.through.behind _ _ _ _ (of_wait object mutex) (λ waited. of_waits_for object mutex a value tries)))
 
   module _ {T : Type 0} (part : OnceStage T → Part (OnceOutcome T)) (function : Part T) (ran returned : T → Reply ℕ) (of_part : (stage : OnceStage T) → Q (OnceOutcome T) (part stage)) (of_function : Q T function) where
     of_goes_on : (outcome : OnceOutcome T) → Q (Reply ℕ) (goes_on_once part function ran returned outcome)
-    of_goes_on Run = holds.behind _ _ function _ of_function (λ value. holds.read _ _ (λ ended. ran value) _ (of_part (once_stage.End value)))
-    of_goes_on (Already kept) = holds.returned _ (returned kept)
-    of_goes_on Ended = holds.none _
+    of_goes_on Run = holds.through.behind _ _ function _ of_function (λ value. holds.through.read _ _ (λ ended. ran value) _ (of_part (once_stage.End value)))
+    of_goes_on (Already kept) = holds.through.returned _ (returned kept)
+    of_goes_on Ended = holds.through.none _
 
     of_once : Q (Reply ℕ) (once_part part function ran returned)
-    of_once = holds.behind _ _ _ _ (of_part once_stage.Begin) of_goes_on
+    of_once = holds.through.behind _ _ _ _ (of_part once_stage.Begin) of_goes_on
 
   of_do : (object a : ℕ) (amount : ℤ) → Q (Reply ℕ) (do_call object a amount)
   of_do object a amount = of_once (stages event.Once reply.Once once_event once_meaning object) (adds a amount) (λ sum. replies.Once (do_replies.Ran sum)) (λ kept. replies.Once do_replies.Done) (holds.once object) (holds.added a amount)
 
   of_func : (object code : ℕ) → Q (Reply ℕ) (func_call object code)
   of_func object code =
-      of_once (stages event.OnceFunc reply.OnceFunc once_event once_meaning object) (returns code) (λ kept. replies.OnceFunc (failure kept)) (λ kept. replies.OnceFunc (failure kept)) (holds.func object) (holds.returned ℕ code)
+      of_once (stages event.OnceFunc reply.OnceFunc once_event once_meaning object) (returns code) (λ kept. replies.OnceFunc (failure kept)) (λ kept. replies.OnceFunc (failure kept)) (holds.func object) (holds.through.returned ℕ code)
 
   of_value : (object value : ℕ) → Q (Reply ℕ) (value_call object value)
-  of_value object value = of_once (stages event.OnceValue reply.OnceValue once_event once_meaning object) (returns value) replies.OnceValue replies.OnceValue (holds.value object) (holds.returned ℕ value)
+  of_value object value = of_once (stages event.OnceValue reply.OnceValue once_event once_meaning object) (returns value) replies.OnceValue replies.OnceValue (holds.value object) (holds.through.returned ℕ value)
 
   of_found : (rest : Part (Reply ℕ)) → Q (Reply ℕ) rest → (outcome : PoolOutcome) → Q (Reply ℕ) (found_or rest outcome)
-  of_found rest later (Item item) = holds.returned _ (replies.Pool (pool_replies.Put item))
+  of_found rest later (Item item) = holds.through.returned _ (replies.Pool (pool_replies.Put item))
   of_found rest later Nothing = later
-  of_found rest later Kept = holds.none _
-  of_found rest later (Dropped item) = holds.none _
-  of_found rest later Swept = holds.none _
+  of_found rest later Kept = holds.through.none _
+  of_found rest later (Dropped item) = holds.through.none _
+  of_found rest later Swept = holds.through.none _
 
   of_looks : (worker first : ℕ) (looks : List (PoolEvent ℕ)) → Q (Reply ℕ) (found_by worker first looks)
-  of_looks worker first [] = holds.returned _ (replies.Pool pool_replies.New)
-  of_looks worker first (look ∷ looks) = holds.behind _ _ _ _ (holds.pool (first + part_of worker look) (stage_of look)) (of_found (found_by worker first looks) (of_looks worker first looks))
+  of_looks worker first [] = holds.through.returned _ (replies.Pool pool_replies.New)
+  of_looks worker first (look ∷ looks) = holds.through.behind _ _ _ _ (holds.pool (first + part_of worker look) (stage_of look)) (of_found (found_by worker first looks) (of_looks worker first looks))
 
   of_sweeps : (first : ℕ) (parts : List ℕ) → Q (Reply ℕ) (swept_by first parts)
-  of_sweeps first [] = holds.returned _ (replies.Pool pool_replies.Done)
-  of_sweeps first (part ∷ parts) = holds.behind _ _ _ _ (holds.pool (first + part) pool_stage.Sweep) (λ swept. of_sweeps first parts)
+  of_sweeps first [] = holds.through.returned _ (replies.Pool pool_replies.Done)
+  of_sweeps first (part ∷ parts) = holds.through.behind _ _ _ _ (holds.pool (first + part) pool_stage.Sweep) (λ swept. of_sweeps first parts)
 
   of_pool_call : (workers worker first : ℕ) (call : PoolCall) → Q (Reply ℕ) (pool_call workers worker first call)
-  of_pool_call workers worker first (pool_calls.Put item) = holds.read _ _ (λ put. replies.Pool pool_replies.Done) _ (holds.pool (first + worker) (pool_stage.Put item))
+  of_pool_call workers worker first (pool_calls.Put item) = holds.through.read _ _ (λ put. replies.Pool pool_replies.Done) _ (holds.pool (first + worker) (pool_stage.Put item))
   of_pool_call workers worker first pool_calls.Get = of_looks worker first (looks_of workers worker)
   of_pool_call workers worker first pool_calls.Sweep = of_sweeps first (range_with_len 0 workers)
 
-  -- where it holds of the call, if that is one on a map
+  -- where it holds of the call, if that is one on a map, and of the start of whom it starts
   module _ (plan : Plan) (worker before : ℕ) where
     abbrev OfMap : Operation → Type 0
     OfMap operation = (m : ℕ) (call : MapCall (List ℕ)) → operation ≡ operations.Map call → Q (Reply ℕ) (map_call (keys_in plan.scripts) m call)
 
-    of_call_on : (place : ℕ) (kind : ObjectKind) (operation : Operation) → OfMap operation → Q (Reply ℕ) (call_on plan worker before place kind operation)
-    of_call_on place kinds.Map (operations.Map call) on_map = on_map _ call refl
-    of_call_on place kinds.Map operations.Range on_map = holds.range _ _ before
-    of_call_on place (kinds.Atomic type) (operations.Atomic call) on_map = holds.atomic _ call
-    of_call_on place (kinds.Atomic type) (operations.Composed (IfEqual value passes)) on_map = holds.read _ _ test.compared _ (of_test _ value)
-    of_call_on place kinds.Mutex (operations.Mutex call) on_map = holds.read _ _ replies.Lock _ (holds.mutex _ _)
-    of_call_on place kinds.RwMutex (operations.RwMutex call) on_map = holds.read _ _ replies.Lock _ (of_rw_part _ call)
-    of_call_on place (kinds.Cond mutex) (operations.Cond call) on_map = of_cond_call _ _ call
-    of_call_on place (kinds.Cond mutex) (operations.Composed (WaitFor atomic value tries)) on_map = holds.read _ _ test.compared _ (of_waits_for _ _ _ value tries)
-    of_call_on place (kinds.WaitGroup start) (operations.WaitGroup call) on_map = holds.read _ _ (λ done. replies.Returned) _ (holds.wait_group _ _)
-    of_call_on place (kinds.Once atomic delta) operations.Once on_map = of_do _ _ delta
-    of_call_on place (kinds.OnceFunc code) operations.OnceFunc on_map = of_func _ code
-    of_call_on place (kinds.OnceValue value) operations.OnceValue on_map = of_value _ value
-    of_call_on place kinds.Pool (operations.Pool call) on_map = of_pool_call _ _ _ call
-    of_call_on place kind operation on_map = holds.none _
+    abbrev OfStart : Operation → Type 0
+    OfStart operation = (object started : ℕ) → started_by operation ≡ Some started → Q StartsOutcome (starts_part object (starts_stage.Start started))
 
-    of_call_at : (place : ℕ) (object : Option ObjectLine) (operation : Operation) → OfMap operation → Q (Reply ℕ) (call_at plan worker before place object operation)
-    of_call_at place None operation on_map = holds.none _
-    of_call_at place (Some object) operation on_map = of_call_on place object.kind operation on_map
+    of_call_on : (place : ℕ) (kind : ObjectKind) (operation : Operation) → OfMap operation → OfStart operation → Q (Reply ℕ) (call_on plan worker before place kind operation)
+    of_call_on place kinds.Map (operations.Map call) on_map on_start = on_map _ call refl
+    of_call_on place kinds.Map operations.Range on_map on_start = holds.range _ _ before
+    of_call_on place (kinds.Atomic type) (operations.Atomic call) on_map on_start = holds.atomic _ call
+    of_call_on place (kinds.Atomic type) (operations.Composed (IfEqual value passes)) on_map on_start = holds.through.read _ _ test.compared _ (of_test _ value)
+    of_call_on place kinds.Mutex (operations.Mutex call) on_map on_start = holds.through.read _ _ replies.Lock _ (holds.mutex _ _)
+    of_call_on place kinds.RwMutex (operations.RwMutex call) on_map on_start = holds.through.read _ _ replies.Lock _ (of_rw_part _ call)
+    of_call_on place (kinds.Cond mutex) (operations.Cond call) on_map on_start = of_cond_call _ _ call
+    of_call_on place (kinds.Cond mutex) (operations.Composed (WaitFor atomic value tries)) on_map on_start = holds.through.read _ _ test.compared _ (of_waits_for _ _ _ value tries)
+    of_call_on place (kinds.WaitGroup start) (operations.WaitGroup call) on_map on_start = holds.through.read _ _ (λ done. replies.Returned) _ (holds.wait_group _ _)
+    of_call_on place (kinds.WaitGroup start) (operations.Composed (Go started)) on_map on_start =
+        holds.through.behind _ _ _ _ (holds.through.read _ _ (λ done. replies.Returned) _ (holds.wait_group _ _)) (λ added. holds.through.read _ _ (λ started. replies.Returned) _ (on_start _ started refl))
+    of_call_on place (kinds.Once atomic delta) operations.Once on_map on_start = of_do _ _ delta
+    of_call_on place (kinds.OnceFunc code) operations.OnceFunc on_map on_start = of_func _ code
+    of_call_on place (kinds.OnceValue value) operations.OnceValue on_map on_start = of_value _ value
+    of_call_on place kinds.Pool (operations.Pool call) on_map on_start = of_pool_call _ _ _ call
+    of_call_on place kind operation on_map on_start = holds.through.none _
 
-    pub holds_of_call : (call : Call) → OfMap call.operation → Q (Reply ℕ) (SpellsCall plan worker before call)
-    holds_of_call call on_map = of_call_at call.object (slice_get plan.objects call.object) call.operation on_map
+    of_call_at : (place : ℕ) (object : Option ObjectLine) (operation : Operation) → OfMap operation → OfStart operation → Q (Reply ℕ) (call_at plan worker before place object operation)
+    of_call_at place None operation on_map on_start = holds.through.none _
+    of_call_at place (Some object) operation on_map on_start = of_call_on place object.kind operation on_map on_start
+
+    pub holds_of_call : (call : Call) → OfMap call.operation → OfStart call.operation → Q (Reply ℕ) (SpellsCall plan worker before call)
+    holds_of_call call on_map on_start = of_call_at call.object (slice_get plan.objects call.object) call.operation on_map on_start
+
+-- and of what stands before a script, and behind it
+module _ (Q : (O : Type 0) → Part O → Type 0) (through : GoesThrough Q) where
+  of_chosen : (O : Type 0) (b : Bool) (first second : Part O) → Q O first → Q O second → Q O (cond b first second)
+  of_chosen O true first second one other = one
+  of_chosen O false first second one other = other
+
+  pub of_opening : (plan : Plan) (worker : ℕ) → ((object : ℕ) → Q StartsOutcome (starts_part object starts_stage.WaitStart)) → Q Bool (opening plan worker)
+  of_opening plan worker waits =
+      of_chosen Bool (is_dormant plan worker) (wait_start_part (starts_number plan)) (returns true) (through.read _ _ was_started _ (waits (starts_number plan))) (through.returned Bool true)
+
+  of_done : (group : Option ℕ) → ((object : ℕ) → Q (Unit {0}) (stages event.WaitGroup reply.WaitGroup group_event group_meaning object group_stage.Done)) → Q (Unit {0}) (done_under group)
+  of_done None done = through.returned _ tt
+  of_done (Some group) done = through.read _ _ (λ done. tt) _ (through.read _ _ (λ done. replies.Returned) _ (done (object_number group)))
+
+  pub of_closing : (plan : Plan) (worker : ℕ) → ((object : ℕ) → Q (Unit {0}) (stages event.WaitGroup reply.WaitGroup group_event group_meaning object group_stage.Done))
+      → ((object : ℕ) → Q StartsOutcome (starts_part object starts_stage.End)) → Q (Unit {0}) (closing plan worker)
+  of_closing plan worker done ends =
+      of_chosen (Unit {0}) (has_dormant plan) (and_then (done_part plan worker) (λ done. end_part (starts_number plan))) (returns tt)
+      (through.behind _ _ (done_part plan worker) (λ done. end_part (starts_number plan))
+      (of_chosen (Unit {0}) (is_dormant plan worker) (done_under (group_of worker plan.scripts)) (returns tt) (of_done (group_of worker plan.scripts) done) (through.returned _ tt))
+      (λ done. through.read _ _ (λ ended. tt) _ (ends (starts_number plan))))
+      (through.returned _ tt)

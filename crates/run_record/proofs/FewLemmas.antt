@@ -6,7 +6,7 @@ use Rattle.std.proofs.lemmas.Bool.{le-leb}
 use Rattle.std.proofs.lemmas.List.Sorted.{length_permutation}
 use Rattle.sync_model.specs.declared.answer.Answer.TheVariants.{Done, Halted}
 use Rattle.script_calls.specs.declared.call.Call.{Call}
-use Rattle.script_calls.specs.declared.call.ComposedCall.TheVariants.{IfEqual, WaitFor}
+use Rattle.script_calls.specs.declared.call.ComposedCall.TheVariants.{IfEqual, WaitFor, Go}
 use Rattle.script_calls.specs.declared.call.Operation.{Operation}
 use Rattle.script_calls.specs.declared.call.Operation.TheVariants as operations
 use Rattle.script_calls.specs.declared.call.Reply.{Reply}
@@ -123,6 +123,7 @@ module _ (most : ℕ) where
     few_on place (kinds.Cond mutex) (operations.Cond call) spelt = few_cond _ _ call items answer spelt
     few_on place (kinds.Cond mutex) (operations.Composed (WaitFor atomic value tries)) (given, made, is) = subst Few (sym is) (few_given compared (λ met. refl) given)
     few_on place (kinds.WaitGroup start) (operations.WaitGroup call) (given, made, is) = subst Few (sym is) (few_given (λ done. replies.Returned) (λ done. refl) given)
+    few_on place (kinds.WaitGroup start) (operations.Composed (Go started)) spelt = few_then _ _ (λ added. few_read (λ started. replies.Returned) _ (λ started. refl)) items answer spelt
     few_on place (kinds.Once atomic delta) operations.Once spelt =
         few_once (stages event.Once reply.Once once_event once_meaning _) (adds _ delta) (λ sum. replies.Once (do_replies.Ran sum)) (λ kept. replies.Once do_replies.Done) (λ sum. refl) (λ kept. refl) items answer spelt
     few_on place (kinds.OnceFunc code) operations.OnceFunc spelt =

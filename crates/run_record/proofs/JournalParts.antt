@@ -57,7 +57,7 @@ module _ {A : Type 0} where
       }
 
 module _ {E R : Type 0} where
-  log_both : (xs ys : List (Entry E R)) → log_of (xs ++ ys) ≡ log_of xs ++ log_of ys
+  pub log_both : (xs ys : List (Entry E R)) → log_of (xs ++ ys) ≡ log_of xs ++ log_of ys
   log_both [] ys = refl
   log_both (x ∷ xs) ys = by_deed x.deed (log_both xs ys) where
     by_deed : (d : Deed E R) → log_of (xs ++ ys) ≡ log_of xs ++ log_of ys → logged x.caller d (log_of (xs ++ ys)) ≡ logged x.caller d (log_of xs) ++ log_of ys

@@ -2,9 +2,11 @@ mod AskLemmas
 mod CallLemmas
 mod CallParts
 mod CondWaits
+mod EachItem
 mod EdgeLemmas
 mod ExampleLemmas
 mod FewLemmas
+mod GoLemmas
 mod GroupSums
 mod HaltLemmas
 mod HaltedNumbers
@@ -22,6 +24,7 @@ mod NamedLemmas
 mod NumberLemmas
 mod ObjectJournals
 mod OnceReturns
+mod OneEvent
 mod OpeningLemmas
 mod PairLemmas
 mod PartLemmas
@@ -33,7 +36,9 @@ mod RoundCounts
 mod RoundLemmas
 mod RunLines
 mod RwReturns
+mod StartItems
 mod StartLemmas
+mod StartTurns
 mod TwoCalls
 mod WaitLemmas
 mod WaitReturns

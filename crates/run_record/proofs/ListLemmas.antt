@@ -45,6 +45,12 @@ module _ {A : Type 0} where
   get_past (list ∷ lists) zero past = absurd (omega (arith, past))
   get_past (list ∷ lists) (suc i) past = get_past lists i (omega (arith, past))
 
+  -- a list that has such an item is one of them, at its place
+  pub list_there : (lists : List (List A)) (at i : ℕ) (x : A) → slice_get (get_or lists at []) i ≡ Some x → slice_get lists at ≡ Some (get_or lists at [])
+  list_there [] at i x is = absurd (none-some x is)
+  list_there (list ∷ lists) zero i x is = refl
+  list_there (list ∷ lists) (suc at) i x is = list_there lists at i x is
+
   -- what stands behind a list is at its length
   pub at_length : (xs ys : List A) (y : A) → slice_get (xs ++ y ∷ ys) (length xs) ≡ Some y
   at_length [] ys y = refl

@@ -36,7 +36,7 @@ use Rattle.run_record.proofs.Limits.{KnowsKey, item_of}
 use Rattle.run_record.proofs.RunLines.{each_along}
 
 module _ {A : Type 0} (P : A → Type 0) where
-  each_from : (xs : List A) → ((i : ℕ) (x : A) → slice_get xs i ≡ Some x → P x) → Each P xs
+  pub each_from : (xs : List A) → ((i : ℕ) (x : A) → slice_get xs i ≡ Some x → P x) → Each P xs
   each_from [] at = tt
   each_from (x ∷ xs) at = (at 0 x refl, each_from xs (λ i y found. at (suc i) y found))
 

@@ -1,5 +1,5 @@
 -- What the items of a call are: none is a halt, and one was refused where the call was halted.
-use Rattle.std.proofs.Common.{◌≡◌, inl, inr, ℕ, Bool, true, false, cond, List, [], ◌∷◌, ◌++◌, map, sym, ap, subst}
+use Rattle.std.proofs.Common.{◌≡◌, inl, inr, ℕ, List, [], ◌∷◌, ◌++◌, map, sym, ap, subst}
 use Rattle.std.specs.Prelude.{Ok, Err}
 use Rattle.sync_model.specs.declared.answer.Answer.TheVariants.{Done, Halted}
 use Rattle.sync_model.specs.declared.item.Item.{Item}
@@ -48,10 +48,6 @@ IsSound {O} part = (items : List Made) (answer : CallAnswer O) → part items an
 module _ {O : Type 0} where
   pub of_returns : (outcome : O) → IsSound (returns outcome)
   of_returns outcome items answer is = subst (λ (xs : List Made). IsSoundBy xs answer) (sym is.0) (tt, subst (λ (a : CallAnswer O). Refuses a []) (sym is.1) tt)
-
-  pub of_chosen : (b : Bool) (first second : Part O) → IsSound first → IsSound second → IsSound (cond b first second)
-  of_chosen true first second one other = one
-  of_chosen false first second one other = other
 
   pub of_never : IsSound (never {O = O})
   of_never items answer is = absurd is

@@ -10,9 +10,9 @@ use Rattle.workload.specs.Plan.{Plan, is_dormant, has_dormant}
 use Rattle.run_record.specs.declared.made.Made.{Made}
 use Rattle.run_record.specs.Lines.{SpeltCall, Stay, never, stopped, waits, LineEnd, whole, misused, halted, unfinished, stayed, EndsBy, OpensBy}
 use Rattle.run_record.specs.Objects.{starts_number}
-use Rattle.run_record.specs.Parts.{returns}
+use Rattle.run_record.specs.Parts.{Part, and_then, returns}
 use Rattle.run_record.specs.Plain.{EndsPlainly}
-use Rattle.run_record.specs.StartsKind.{wait_start_part, end_part, opening, closing}
+use Rattle.run_record.specs.StartsKind.{wait_start_part, end_part, opening, done_part, closing}
 
 -- where nobody waits, no worker does
 pub nobody : (dormant : List Bool) (worker : ℕ) → list_any (λ waits. waits) dormant ≡ false → get_or dormant worker false ≡ false
@@ -61,10 +61,14 @@ module _ (plan : Plan) (worker : ℕ) where
     opens_so unfinished spelt first none came = came_so first none
     opens_so (stayed stay) spelt first none came = absurd (came stay refl)
 
+  -- what closes a script where some wait
+  abbrev pub closing_part : Part (Unit {0})
+  closing_part = and_then (done_part plan worker) (λ done. end_part (starts_number plan))
+
   -- where nobody waits, nothing closes a script
   module _ (none_waits : has_dormant plan ≡ false) where
     pub nothing_closes : (items : List Made) (answer : CallAnswer (Unit {0})) → closing plan worker items answer → (items ≡ []) × (answer ≡ Done (Ok tt))
-    nothing_closes items answer closes = subst (λ (b : Bool). cond b (end_part (starts_number plan)) (returns tt) items answer) none_waits closes
+    nothing_closes items answer closes = subst (λ (b : Bool). cond b closing_part (returns tt) items answer) none_waits closes
 
     abbrev is_ok : CallAnswer (Unit {0}) → Bool
     is_ok (Done (Ok ended)) = true
@@ -82,7 +86,7 @@ module _ (plan : Plan) (worker : ℕ) where
     ends_plainly before (stayed stay) rest last came ends = came stay refl
 
     pub ends_so : (before : ℕ) (ending : LineEnd) (rest : List Call) (last : List Made) → EndsPlainly plan worker before ending rest last → EndsBy plan worker before ending rest last
-    ends_so before whole rest last ends = (ends.0, subst (λ (b : Bool). cond b (end_part (starts_number plan)) (returns tt) last (Done (Ok tt))) (sym none_waits) (ends.1, refl))
+    ends_so before whole rest last ends = (ends.0, subst (λ (b : Bool). cond b closing_part (returns tt) last (Done (Ok tt))) (sym none_waits) (ends.1, refl))
     ends_so before (misused misuse) [] last ends = absurd ends
     ends_so before (misused misuse) (call ∷ rest) last ends = ends
     ends_so before (halted misuse) [] last ends = absurd ends

@@ -60,7 +60,7 @@ module _ {O P : Type 0} (first : Part O) (next : O → Part P) (items : List Mad
   pub goes_on : and_then first next items (Done (Ok answer)) → Goes first next items answer
   goes_on (earlier, later, given, are, made, goes) = by_given earlier later given are made goes
 
-map_none : {A B : Type 0} (f : A → B) (xs : List A) → map f xs ≡ [] → xs ≡ []
+pub map_none : {A B : Type 0} (f : A → B) (xs : List A) → map f xs ≡ [] → xs ≡ []
 map_none f [] e = refl
 map_none f (x ∷ xs) e = absurd cc
 

@@ -1,7 +1,7 @@
 -- Which items spell a call of a workload, and what it answers by them. A kind of object is a line here, and one in `IsJournalOf`.
 use Rattle.std.specs.Prelude.{◌≡◌, ℕ, List, [], Option, Some, None, slice_get}
 use Rattle.script_calls.specs.declared.call.Call.{Call}
-use Rattle.script_calls.specs.declared.call.ComposedCall.TheVariants.{IfEqual, WaitFor}
+use Rattle.script_calls.specs.declared.call.ComposedCall.TheVariants.{IfEqual, WaitFor, Go}
 use Rattle.script_calls.specs.declared.call.Operation.{Operation}
 use Rattle.script_calls.specs.declared.call.Operation.TheVariants as operations
 use Rattle.script_calls.specs.declared.call.Reply.{Reply}
@@ -14,12 +14,13 @@ use Rattle.run_record.specs.AtomicKind.{atomic_call}
 use Rattle.run_record.specs.CondKind.{cond_call, IsCondJournal}
 use Rattle.run_record.specs.MapKind.{map_call, range_call}
 use Rattle.run_record.specs.MutexKind.{mutex_call, IsMutexJournal}
-use Rattle.run_record.specs.Objects.{map_number, atomic_number, first_part}
+use Rattle.run_record.specs.Objects.{map_number, atomic_number, first_part, starts_number}
 use Rattle.run_record.specs.OnceKind.{do_call, func_call, value_call, IsOnceJournal, IsOnceFuncJournal, IsOnceValueJournal}
 use Rattle.run_record.specs.Parts.{Part, never}
 use Rattle.run_record.specs.PoolKind.{pool_call}
 use Rattle.run_record.specs.Record.{ObjectEntry, object_number}
 use Rattle.run_record.specs.RwMutexKind.{rw_mutex_call, IsRwMutexJournal}
+use Rattle.run_record.specs.StartsKind.{go_call}
 use Rattle.run_record.specs.Tests.{if_equal_call, wait_for_call}
 use Rattle.run_record.specs.WaitGroupKind.{wait_group_call, IsWaitGroupJournal}
 
@@ -34,6 +35,7 @@ call_on plan worker before place kinds.RwMutex (operations.RwMutex call) = rw_mu
 call_on plan worker before place (kinds.Cond mutex) (operations.Cond call) = cond_call (object_number place) (object_number mutex) call
 call_on plan worker before place (kinds.Cond mutex) (operations.Composed (WaitFor atomic value tries)) = wait_for_call (object_number place) (object_number mutex) (atomic_number plan.objects atomic) value tries
 call_on plan worker before place (kinds.WaitGroup start) (operations.WaitGroup call) = wait_group_call (object_number place) call
+call_on plan worker before place (kinds.WaitGroup start) (operations.Composed (Go started)) = go_call (object_number place) (starts_number plan) started
 call_on plan worker before place (kinds.Once atomic delta) operations.Once = do_call (object_number place) (atomic_number plan.objects atomic) delta
 call_on plan worker before place (kinds.OnceFunc code) operations.OnceFunc = func_call (object_number place) code
 call_on plan worker before place (kinds.OnceValue value) operations.OnceValue = value_call (object_number place) value

@@ -24,6 +24,7 @@ pub mod Returns
 pub mod Rounds
 pub mod Runs
 pub mod RwMutexKind
+pub mod Starting
 pub mod StartsKind
 pub mod Tests
 pub mod WaitGroupKind

@@ -22,8 +22,12 @@ wait_group_stage (calls.Add delta) = stage.Add delta
 wait_group_stage calls.Done = stage.Done
 wait_group_stage calls.Wait = stage.Wait
 
+-- a call on a wait group, from a stage on
+abbrev pub wait_group_part : ℕ → GroupStage → Part (Unit {0})
+wait_group_part object from = stages event.WaitGroup reply.WaitGroup group_event group_meaning object from
+
 abbrev pub wait_group_call : ℕ → WaitGroupCall → Part (Reply ℕ)
-wait_group_call object call = read_as (λ done. replies.Returned) (stages event.WaitGroup reply.WaitGroup group_event group_meaning object (wait_group_stage call))
+wait_group_call object call = read_as (λ done. replies.Returned) (wait_group_part object (wait_group_stage call))
 
 -- the counter that the workload declares, and nobody waits
 abbrev pub group_start : ℕ → ℕ → GroupState

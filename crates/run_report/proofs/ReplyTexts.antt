@@ -8,6 +8,7 @@ use Rattle.std.proofs.lemmas.Fmt.{decimal_injective, signed_decimal_injective}
 use Rattle.std.proofs.lemmas.List.{append_assoc, append_cancel_left}
 use lib.Signed.{mag}
 use Rattle.script_calls.specs.declared.call.ComposedCall.{ComposedCall}
+use Rattle.script_calls.specs.declared.call.ComposedCall.TheVariants.{IfEqual, WaitFor, Go}
 use Rattle.script_calls.specs.declared.call.Operation.{Operation}
 use Rattle.script_calls.specs.declared.call.Operation.TheVariants as operations
 use Rattle.script_calls.specs.declared.call.Reply.{Reply}
@@ -255,14 +256,17 @@ atomic_apart type (atomic_calls.And operand) a b fa fb ha hb e = atomic_held typ
 atomic_apart type (atomic_calls.Or operand) a b fa fb ha hb e = atomic_held type a b fa fb ha hb e
 atomic_apart type (atomic_calls.CompareAndSwap old new) a b fa fb ha hb e = atomic_compared a b fa fb e
 
--- a call that is made of others answers whether a number was found
+-- a call that is made of others and answers as an atomic does answers whether a number was found
+composed_said : (call : ComposedCall) (a : AtomicReply) → is_reply_to {K = ℕ} (operations.Composed call) (replies.Atomic a) ≡ true → is_atomic_compared a ≡ true
+composed_said (IfEqual value passes) (atomic_replies.Compared a) fa = refl
+composed_said (IfEqual value passes) a fa = absurd cc
+composed_said (WaitFor atomic value tries) (atomic_replies.Compared a) fa = refl
+composed_said (WaitFor atomic value tries) a fa = absurd cc
+composed_said (Go worker) a fa = absurd cc
+
 composed_apart : (call : ComposedCall) (a b : AtomicReply) → is_reply_to {K = ℕ} (operations.Composed call) (replies.Atomic a) ≡ true → is_reply_to {K = ℕ} (operations.Composed call) (replies.Atomic b) ≡ true
     → atomic_reply_text a ≡ atomic_reply_text b → a ≡ b
-composed_apart call (atomic_replies.Compared a) (atomic_replies.Compared b) fa fb e = atomic_compared (atomic_replies.Compared a) (atomic_replies.Compared b) refl refl e
-composed_apart call (atomic_replies.Compared a) atomic_replies.Done fa fb e = absurd cc
-composed_apart call (atomic_replies.Compared a) (atomic_replies.Held b) fa fb e = absurd cc
-composed_apart call atomic_replies.Done b fa fb e = absurd cc
-composed_apart call (atomic_replies.Held a) b fa fb e = absurd cc
+composed_apart call a b fa fb e = atomic_compared a b (composed_said call a fa) (composed_said call b fb) e
 
 -- the numbers of an object are of one type
 abbrev IsTyped : Option ObjectLine → AtomicKind → Type 0
@@ -495,16 +499,19 @@ module _ (plan : Plan) (are : AreKeys (keys_in plan.scripts)) where
     where
       by_operation : (o : Operation) (a : MapReply) (b : Reply ℕ) → is_reply_to {K = ℕ} o (replies.Map a) ≡ true → is_reply_to {K = ℕ} o b ≡ true → map_in_range a ≡ true → is_in_range plan call b ≡ true → map_reply_text a ≡ reply_text keys b → replies.Map a ≡ b
       by_operation (operations.Map of) a (replies.Map b) fa fb ha hb e = ap (λ (r : MapReply). replies.Map r) (map_apart of a b fa fb ha hb e)
+      by_operation (operations.Composed (Go worker)) a b fa fb ha hb e = absurd cc
       by_operation o a b fa fb ha hb e = absurd cc
   reply_apart call (replies.Pairs a) b fa fb ha hb e = by_operation call.operation a b fa fb ha hb e
     where
       by_operation : (o : Operation) (a : List (ℕ × ℕ)) (b : Reply ℕ) → is_reply_to {K = ℕ} o (replies.Pairs a) ≡ true → is_reply_to {K = ℕ} o b ≡ true → list_all is_pair a ≡ true → is_in_range plan call b ≡ true → pairs_text keys a ≡ reply_text keys b → replies.Pairs a ≡ b
       by_operation operations.Range a (replies.Pairs b) fa fb ha hb e = ap (λ (r : List (ℕ × ℕ)). replies.Pairs r) (pairs_apart a b ha hb e)
+      by_operation (operations.Composed (Go worker)) a b fa fb ha hb e = absurd cc
       by_operation o a b fa fb ha hb e = absurd cc
   reply_apart call (replies.Atomic a) b fa fb ha hb e = by_operation call.operation a b fa fb ha hb e
     where
       by_operation : (o : Operation) (a : AtomicReply) (b : Reply ℕ) → is_reply_to {K = ℕ} o (replies.Atomic a) ≡ true → is_reply_to {K = ℕ} o b ≡ true → atomic_in_range (slice_get plan.objects call.object) a ≡ true → is_in_range plan call b ≡ true → atomic_reply_text a ≡ reply_text keys b → replies.Atomic a ≡ b
       by_operation (operations.Atomic of) a (replies.Atomic b) fa fb ha hb e = ap (λ (r : AtomicReply). replies.Atomic r) (atomic_at_apart (slice_get plan.objects call.object) of a b fa fb ha hb e)
+      by_operation (operations.Composed (Go worker)) a b fa fb ha hb e = absurd cc
       by_operation (operations.Composed of) a (replies.Atomic b) fa fb ha hb e = ap (λ (r : AtomicReply). replies.Atomic r) (composed_apart of a b fa fb e)
       by_operation o a b fa fb ha hb e = absurd cc
   reply_apart call (replies.Lock a) b fa fb ha hb e = by_operation call.operation a b fa fb hb e
@@ -512,30 +519,36 @@ module _ (plan : Plan) (are : AreKeys (keys_in plan.scripts)) where
       by_operation : (o : Operation) (a : LockReply) (b : Reply ℕ) → is_reply_to {K = ℕ} o (replies.Lock a) ≡ true → is_reply_to {K = ℕ} o b ≡ true → is_in_range plan call b ≡ true → lock_reply_text a ≡ reply_text keys b → replies.Lock a ≡ b
       by_operation (operations.Mutex of) a (replies.Lock b) fa fb hb e = ap (λ (r : LockReply). replies.Lock r) (mutex_apart of a b fa fb e)
       by_operation (operations.RwMutex of) a (replies.Lock b) fa fb hb e = ap (λ (r : LockReply). replies.Lock r) (rw_mutex_apart of a b fa fb e)
+      by_operation (operations.Composed (Go worker)) a b fa fb hb e = absurd cc
       by_operation o a b fa fb hb e = absurd cc
   reply_apart call replies.Returned b fa fb ha hb e = by_operation call.operation b fa fb
     where
       by_operation : (o : Operation) (b : Reply ℕ) → is_reply_to {K = ℕ} o replies.Returned ≡ true → is_reply_to {K = ℕ} o b ≡ true → replies.Returned ≡ b
       by_operation (operations.Cond of) replies.Returned fa fb = refl
       by_operation (operations.WaitGroup of) replies.Returned fa fb = refl
+      by_operation (operations.Composed (Go worker)) replies.Returned fa fb = refl
       by_operation o b fa fb = absurd cc
   reply_apart call (replies.Once a) b fa fb ha hb e = by_operation call.operation a b fa fb ha hb e
     where
       by_operation : (o : Operation) (a : DoReply) (b : Reply ℕ) → is_reply_to {K = ℕ} o (replies.Once a) ≡ true → is_reply_to {K = ℕ} o b ≡ true → once_in_range a ≡ true → is_in_range plan call b ≡ true → once_reply_text a ≡ reply_text keys b → replies.Once a ≡ b
       by_operation operations.Once a (replies.Once b) fa fb ha hb e = ap (λ (r : DoReply). replies.Once r) (once_apart a b ha hb e)
+      by_operation (operations.Composed (Go worker)) a b fa fb ha hb e = absurd cc
       by_operation o a b fa fb ha hb e = absurd cc
   reply_apart call (replies.OnceFunc a) b fa fb ha hb e = by_operation call.operation a b fa fb ha hb e
     where
       by_operation : (o : Operation) (a : Option ℕ) (b : Reply ℕ) → is_reply_to {K = ℕ} o (replies.OnceFunc a) ≡ true → is_reply_to {K = ℕ} o b ≡ true → code_in_range a ≡ true → is_in_range plan call b ≡ true → once_func_reply_text a ≡ reply_text keys b → replies.OnceFunc a ≡ b
       by_operation operations.OnceFunc a (replies.OnceFunc b) fa fb ha hb e = ap (λ (r : Option ℕ). replies.OnceFunc r) (func_apart a b ha hb e)
+      by_operation (operations.Composed (Go worker)) a b fa fb ha hb e = absurd cc
       by_operation o a b fa fb ha hb e = absurd cc
   reply_apart call (replies.OnceValue a) b fa fb ha hb e = by_operation call.operation a b fa fb ha hb e
     where
       by_operation : (o : Operation) (a : ℕ) (b : Reply ℕ) → is_reply_to {K = ℕ} o (replies.OnceValue a) ≡ true → is_reply_to {K = ℕ} o b ≡ true → has_64_bits a ≡ true → is_in_range plan call b ≡ true → decimal a ≡ reply_text keys b → replies.OnceValue a ≡ b
       by_operation operations.OnceValue a (replies.OnceValue b) fa fb ha hb e = ap (λ (r : ℕ). replies.OnceValue r) (decimal_one a b ha hb e)
+      by_operation (operations.Composed (Go worker)) a b fa fb ha hb e = absurd cc
       by_operation o a b fa fb ha hb e = absurd cc
   reply_apart call (replies.Pool a) b fa fb ha hb e = by_operation call.operation a b fa fb ha hb e
     where
       by_operation : (o : Operation) (a : PoolCallReply) (b : Reply ℕ) → is_reply_to {K = ℕ} o (replies.Pool a) ≡ true → is_reply_to {K = ℕ} o b ≡ true → pool_in_range a ≡ true → is_in_range plan call b ≡ true → pool_reply_text a ≡ reply_text keys b → replies.Pool a ≡ b
       by_operation (operations.Pool of) a (replies.Pool b) fa fb ha hb e = ap (λ (r : PoolCallReply). replies.Pool r) (pool_apart of a b fa fb ha hb e)
+      by_operation (operations.Composed (Go worker)) a b fa fb ha hb e = absurd cc
       by_operation o a b fa fb ha hb e = absurd cc

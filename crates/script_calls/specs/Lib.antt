@@ -1,3 +1,4 @@
 pub mod Outcome
 pub mod Replies
 pub mod Runs
+pub mod Starts

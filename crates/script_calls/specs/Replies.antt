@@ -2,6 +2,7 @@
 use Rattle.std.specs.Prelude.{Bool, true, false}
 use Rattle.sync_types.specs.Replies.{map_form, atomic_form, mutex_form, rw_mutex_form, pool_form}
 use Rattle.sync_types.specs.declared.atomic_object.AtomicReply.TheVariants.{Compared}
+use Rattle.script_calls.specs.declared.call.ComposedCall.TheVariants.{IfEqual, WaitFor, Go}
 use Rattle.script_calls.specs.declared.call.Operation.{Operation}
 use Rattle.script_calls.specs.declared.call.Operation.TheVariants as operations
 use Rattle.script_calls.specs.declared.call.Reply.{Reply}
@@ -20,5 +21,7 @@ is_reply_to operations.Once (replies.Once reply) = true
 is_reply_to operations.OnceFunc (replies.OnceFunc code) = true
 is_reply_to operations.OnceValue (replies.OnceValue value) = true
 is_reply_to (operations.Pool call) (replies.Pool reply) = pool_form call reply
-is_reply_to (operations.Composed call) (replies.Atomic (Compared equal)) = true
+is_reply_to (operations.Composed (IfEqual value passes)) (replies.Atomic (Compared equal)) = true
+is_reply_to (operations.Composed (WaitFor atomic value tries)) (replies.Atomic (Compared equal)) = true
+is_reply_to (operations.Composed (Go worker)) replies.Returned = true
 is_reply_to operation reply = false

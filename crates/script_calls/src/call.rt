@@ -64,6 +64,10 @@ pub enum ComposedCall {
         value: Number,
         tries: u32,
     },
+    /// `go`, of a wait group: adds 1 to its counter, and then starts a worker that waits to be started.
+    Go {
+        worker: u32,
+    },
 }
 
 /// What a call answers, where keys are of a type `K`: a name, or a number among the workload's keys.
@@ -77,7 +81,7 @@ pub enum Reply<K> {
     Atomic(AtomicReply),
     /// The reply of a mutex or a reader/writer mutex.
     Lock(LockReply),
-    /// A call on a cond or a wait group returned.
+    /// A call on a cond or a wait group returned, a `go` too.
     Returned,
     /// The reply of a once.
     Once(DoReply),

@@ -1,10 +1,11 @@
 //! What replies say of their calls, and what a run of a script is. Each law is the contract of a function that does nothing.
-ghost use Rattle.std.specs.Prelude.{◌≡◌, ◌<◌, ◌≤◌, ℕ, ◌+◌, true, false, List, [], ◌∷◌, ◌++◌, map, length, take, drop, Some, slice_get};
+ghost use Rattle.std.specs.Prelude.{◌≡◌, ◌↔◌, ◌<◌, ◌≤◌, ℕ, ◌+◌, true, false, List, [], ◌∷◌, ◌++◌, map, length, take, drop, Some, None, slice_get};
 ghost use Rattle.std.specs.declared.cmp.Ordering.{Ordering};
 ghost use Rattle.std.specs.FinMap.{FinMap};
 ghost use Rattle.script_calls.specs.Outcome.{with_keys_renamed};
 ghost use Rattle.script_calls.specs.Replies.{is_reply_to};
 ghost use Rattle.script_calls.specs.Runs.{passed_over, has_test, left_of, made_of, places_from, RunsAlong};
+ghost use Rattle.script_calls.specs.Starts.{starts, start_count, group_of};
 ghost use Rattle.sync_types.specs.Replies.{atomic_form, map_form};
 ghost use Rattle.sync_types.specs.SequentialAtomic.{atomic_reply};
 ghost use Rattle.sync_types.specs.SequentialMap.{map_reply};
@@ -80,4 +81,19 @@ pub fn runs_do_not_hang_on_names<K, L>()
     ensures passed { (rename : K → L) (call : Call) (reply : Reply K) → passed_over call (with_keys_renamed rename reply) ≡ passed_over call reply }
     ensures left { (rename : K → L) (script : List Call) (given : List (Reply K)) → left_of script (map (with_keys_renamed rename) given) ≡ left_of script given }
     ensures made { (rename : K → L) (script : List Call) (given : List (Reply K)) → made_of script (map (with_keys_renamed rename) given) ≡ made_of script given }
+{}
+
+/// A worker is started by the `go`s of its number, and is under no group exactly where there is none. Where there is at most one,
+/// its group is that of its `go`, wherever it stands.
+pub fn who_starts_whom()
+    ensures starts { (worker : ℕ) (call : Call) → starts worker call ≡ true ↔ call.operation ≡ Operation.Composed (ComposedCall.Go worker) }
+    ensures nobody { (worker : ℕ) (scripts : List (List Call)) → group_of worker scripts ≡ None ↔ start_count worker scripts ≡ 0 }
+    ensures found { (worker group : ℕ) (scripts : List (List Call)) → group_of worker scripts ≡ Some group
+        → (at place : ℕ) × (script : List Call) × (call : Call) × (slice_get scripts at ≡ Some script) × (slice_get script place ≡ Some call) × (call.operation ≡ Operation.Composed (ComposedCall.Go worker)) × (call.object ≡ group) }
+    ensures group { (worker at place : ℕ) (scripts : List (List Call)) (script : List Call) (call : Call) → start_count worker scripts ≤ 1
+        → slice_get scripts at ≡ Some script → slice_get script place ≡ Some call → call.operation ≡ Operation.Composed (ComposedCall.Go worker) → group_of worker scripts ≡ Some call.object }
+    ensures one { (worker at after place other : ℕ) (scripts : List (List Call)) (script later : List Call) (call another : Call) → start_count worker scripts ≤ 1
+        → slice_get scripts at ≡ Some script → slice_get script place ≡ Some call → call.operation ≡ Operation.Composed (ComposedCall.Go worker)
+        → slice_get scripts after ≡ Some later → slice_get later other ≡ Some another → another.operation ≡ Operation.Composed (ComposedCall.Go worker)
+        → (at ≡ after) × (place ≡ other) }
 {}

@@ -1,5 +1,5 @@
 -- How a run ends.
-use Rattle.std.proofs.Common.{◌≡◌, ℕ, zero, suc, ◌+◌, ◌<◌, Bool, true, false, [], ◌++◌, map, length, get_or, refl, sym, ap, ◌∙◌, subst, arith}
+use Rattle.std.proofs.Common.{◌≡◌, ◌≢◌, ℕ, zero, suc, ◌+◌, ◌<◌, Bool, true, false, [], ◌++◌, map, length, get_or, refl, sym, ap, ◌∙◌, subst, arith}
 use Rattle.std.specs.Prelude.{if◌then◌else◌}
 use Rattle.sync_types.specs.declared.misuse.Misuse.{Misuse}
 use Rattle.script_calls.specs.declared.outcome.Outcome.{Outcome}
@@ -18,10 +18,10 @@ use Rattle.step_runner.specs.Outcomes.{rounds, is_misused, Reaches, IsDone, IsMi
 use Rattle.step_runner.specs.State.{State, start, IsStateOf}
 use Rattle.step_runner.specs.Turns.{with_event, and_then, items_of, round, has_ended}
 use Rattle.step_runner.specs.Computed.{behind_round, rounds_of, all_rounds, behind_schedule, whole_run, outcome_of, turns}
-use Rattle.step_runner.proofs.Numbered.{NamesAside, same_numbers, left_numbered}
+use Rattle.step_runner.proofs.Numbered.{NamesAside, get_mapped, same_numbers, left_numbered}
 use Rattle.step_runner.proofs.TurnLemmas.{true_false}
 use Rattle.step_runner.proofs.RunLemmas.{items_append, GoesOn, UsesUp, items_valid}
-use Rattle.step_runner.proofs.RoundLemmas.{where_ended, where_going, round_same, round_less, round_of, going_before, LeavesRest, live_ended, all_replied}
+use Rattle.step_runner.proofs.RoundLemmas.{where_ended, where_going, round_same, round_less, round_of, going_before, LeavesRest, live_ended, begun_ended, all_replied}
 
 -- ---- what comes behind the schedule and some rounds
 
@@ -99,6 +99,16 @@ module _ (plan : Plan) (goes_on : GoesOn plan) (uses : UsesUp plan) where
   done_made names of report done worker live =
       ap (λ (r : Report). left_of (get_or plan.scripts worker []) (get_or r.replies worker [])) done.leaves ∙ left_numbered names plan worker done.state.replies
       ∙ live_ended plan done.state (state_of done.state of done.reached) done.ended worker live
+
+  pub done_begun : NamesAside → IsStateOf plan (start plan) → (report : Report) → IsDone plan report → (worker : ℕ) → get_or report.replies worker [] ≢ [] → left_of (get_or plan.scripts worker []) (get_or report.replies worker []) ≡ []
+  done_begun names of report done worker some =
+      let given = get_or done.state.replies worker [] in
+      let rename = with_keys_renamed (key_number (keys_in plan.scripts)) in
+      let numbers : get_or report.replies worker [] ≡ map rename given =
+      ap (λ (r : Report). get_or r.replies worker []) done.leaves ∙ get_mapped (map rename) done.state.replies worker refl in
+      let begun : given ≢ [] = λ (none : given ≡ []). some (numbers ∙ ap (map rename) none) in
+      ap (λ (r : Report). left_of (get_or plan.scripts worker []) (get_or r.replies worker [])) done.leaves ∙ left_numbered names plan worker done.state.replies
+      ∙ begun_ended plan done.state (state_of done.state of done.reached) done.ended worker begun
 
   -- ---- and back
 

@@ -6,7 +6,7 @@ use Rattle.std.proofs.lemmas.Bool.{eqb-true, eqb-false}
 use Rattle.std.proofs.lemmas.Option.{slice_get-map}
 use Rattle.sync_types.specs.declared.atomic_object.Number.TheVariants.{Int64}
 use Rattle.script_calls.specs.declared.call.Call.{Call}
-use Rattle.script_calls.specs.declared.call.ComposedCall.TheVariants.{IfEqual, WaitFor}
+use Rattle.script_calls.specs.declared.call.ComposedCall.TheVariants.{IfEqual, WaitFor, Go}
 use Rattle.script_calls.specs.declared.call.Operation.{Operation}
 use Rattle.script_calls.specs.declared.call.Operation.TheVariants as operations
 use Rattle.script_calls.specs.declared.call.Reply.{Reply}
@@ -47,7 +47,7 @@ use Rattle.step_runner.specs.Left.{mutex_waits, rw_waits, mutex_left, rw_left, g
 use Rattle.step_runner.specs.Within.{IsIdle, StandsOn, StandsOnBoth, IsWithin}
 use Rattle.step_runner.proofs.SpeltAtObjects.{left_alone, left_referring, stands_alone, stands_referring}
 use Rattle.step_runner.proofs.RwSides.{out_sides}
-use Rattle.step_runner.proofs.TurnOwn.{Pair, only_pairs, cond_refers, once_refers, wait_for_alone}
+use Rattle.step_runner.proofs.TurnOwn.{Pair, only_pairs, cond_refers, once_refers, wait_for_alone, go_alone}
 
 -- ---- a new object
 
@@ -125,6 +125,7 @@ module _ (plan : Plan) (x before place : ℕ) where
   whole_on (operations.Cond call) o has alone idle out = absurd (cond_refers o call has alone)
   whole_on operations.Once o has alone idle out = absurd (once_refers o has alone)
   whole_on (operations.Composed (WaitFor atomic value tries)) o has alone idle out = absurd (wait_for_alone o atomic tries value has)
+  whole_on (operations.Composed (Go started)) o has alone idle out = absurd (go_alone o started has)
   whole_on operation o has alone idle out = absurd cc
 
   some_place : {a b : ℕ} → Some a ≡ Some b → b ≡ a

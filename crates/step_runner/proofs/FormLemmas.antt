@@ -1,5 +1,5 @@
 -- Each reply of a run has the form of its call's replies, and each worker stands at the mutex at which its call waits, and at no other.
-use Rattle.std.proofs.Common.{◌≡◌, ◌≢◌, ℕ, zero, suc, ◌≤◌, true, false, eqb, ◌&&◌, List, [], ◌∷◌, ◌++◌, map, drop, length, get_or, set, replicate, Option, Some, None, refl, sym, ap, ◌∙◌, subst, arith}
+use Rattle.std.proofs.Common.{◌≡◌, ◌≢◌, ℕ, zero, suc, ◌≤◌, inl, inr, true, false, eqb, ◌&&◌, List, [], ◌∷◌, ◌++◌, map, drop, length, get_or, set, replicate, Option, Some, None, refl, sym, ap, ◌∙◌, subst, arith}
 use Rattle.std.specs.Prelude.{slice_get}
 use Rattle.std.specs.Option.{option_map_or}
 use Rattle.std.proofs.lemmas.Bool.{eqb-true, eqb-false}
@@ -27,12 +27,13 @@ use Rattle.step_runner.specs.StandsWithin.{IsReadyWithin, waits_within}
 use Rattle.step_runner.specs.TurnWithin.{turn_within}
 use Rattle.step_runner.specs.Computed.{whole_run, outcome_of, turns}
 use Rattle.workload.specs.Forms.{have_forms, all_have_forms, has_forms}
-use Rattle.step_runner.specs.State.{State, start, with_reply, IsStateOf}
-use Rattle.step_runner.specs.Turns.{begun_by, next_call, turn_of, after_items}
-use Rattle.step_runner.proofs.NextCalls.{left_with, next_first}
+use Rattle.step_runner.specs.declared.state.Stand.TheVariants.{Waits, Gone}
+use Rattle.step_runner.specs.State.{State, start, stand_of, with_reply, with_stand, IsStateOf}
+use Rattle.step_runner.specs.Turns.{answered, begun_by, next_call, turn_of, after_items}
+use Rattle.step_runner.proofs.NextCalls.{waiting_next}
 use Rattle.step_runner.proofs.Numbered.{NamesAside}
 use Rattle.step_runner.proofs.StartLemmas.{each_start}
-use Rattle.step_runner.proofs.TurnLemmas.{both, both_true, Takes, takes_by, turn_cases, moved, begun_own, begun_other, replied_begun_other, replied_other, valid_scripts}
+use Rattle.step_runner.proofs.TurnLemmas.{both, both_true, Takes, takes_by, turn_cases, moved, begun_own, begun_other, next_gone, next_other, replied_begun_other, valid_scripts}
 use Rattle.step_runner.proofs.RunLemmas.{GoesOn, moment_valid, Kept, items_keep, run_keeps}
 use Rattle.step_runner.proofs.WithinKeeps.{out_anywhere}
 
@@ -149,22 +150,47 @@ module _ (laws : TurnStands) (plan : Plan) (by : ℕ) (s : State) (h : Standing 
     | false ↦ λ e. other_at worker call objects waits answer (eqb-false worker by e) takes
   ] refl
 
-  -- behind one that completes its call
-  replied : (worker : ℕ) (call : Call) (objects : List ObjectState) (waits : ℕ) (reply : Reply (List ℕ)) → Takes plan by s call objects waits (answers.Completed reply)
-      → IsOutBut (awaited plan worker (with_reply by reply (moved by objects waits s))) worker objects
-  replied worker call objects waits reply takes =
+  -- who waits to be started is out everywhere
+  pub waiting_out : (worker : ℕ) (call : Call) (objects : List ObjectState) (waits : ℕ) (answer : Answer) → worker ≢ by → Takes plan by s call objects waits answer → stand_of worker s ≡ Waits → IsOutBut None worker objects
+  waiting_out worker call objects waits answer apart takes waiting =
+      subst (λ (o : Option Call). IsOutBut (option_map_or (λ c. waits_within (kinds_in plan) c (begun_by worker (moved by objects waits s))) o None) worker objects) (waiting_next plan worker s waiting)
+      (other_at worker call objects waits answer apart takes)
+
+  -- behind the `done` behind its script, or another's
+  closed : (worker : ℕ) (call : Call) (objects : List ObjectState) (waits : ℕ) (reply : Reply (List ℕ)) → Takes plan by s call objects waits (answers.Completed reply)
+      → IsOutBut (awaited plan worker (with_stand by Gone (moved by objects waits s))) worker objects
+  closed worker call objects waits reply takes =
       let t = moved by objects waits s in
-      elim (eqb worker by) as (λ b. eqb worker by ≡ b → IsOutBut (awaited plan worker (with_reply by reply (moved by objects waits s))) worker objects) [
+      elim (eqb worker by) as (λ b. eqb worker by ≡ b → IsOutBut (awaited plan worker (with_stand by Gone (moved by objects waits s))) worker objects) [
         | true ↦ λ e.
             let here : by ≡ worker = sym (eqb-true worker by e) in
-            subst (λ (w : ℕ). IsOutBut (awaited plan w (with_reply by reply t)) w objects) here
-            (out_anywhere (awaited plan by (with_reply by reply t)) by objects (own_at call objects waits (answers.Completed reply) takes))
+            subst (λ (w : ℕ). IsOutBut (awaited plan w (with_stand by Gone t)) w objects) here
+            (out_anywhere (awaited plan by (with_stand by Gone t)) by objects (own_at call objects waits (answers.Completed reply) takes))
         | false ↦ λ e.
             let apart : worker ≢ by = eqb-false worker by e in
-            subst (λ (done : List (Reply (List ℕ))). IsOutBut (option_map_or (λ c. waits_within (kinds_in plan) c (begun_by worker (with_reply by reply t))) (slice_get (left_with plan worker done) 0) None) worker objects)
-            (sym (replied_other by worker reply t apart))
-            (subst (λ (n : ℕ). IsOutBut (option_map_or (λ c. waits_within (kinds_in plan) c n) (next_call plan worker s) None) worker objects) (sym (replied_begun_other by worker reply t apart))
-            (other_at worker call objects waits (answers.Completed reply) apart takes))
+            subst (λ (o : Option Call). IsOutBut (option_map_or (λ c. waits_within (kinds_in plan) c (begun_by worker t)) o None) worker objects) (sym (next_gone plan by worker t apart))
+            (other_at worker call objects waits (answers.Completed reply) apart takes)
+      ] refl
+
+  -- behind one that completes its call
+  replied : (worker : ℕ) (call : Call) (objects : List ObjectState) (waits : ℕ) (reply : Reply (List ℕ)) → Takes plan by s call objects waits (answers.Completed reply)
+      → IsOutBut (awaited plan worker (answered by call reply (moved by objects waits s))) worker objects
+  replied worker call objects waits reply takes =
+      let t = moved by objects waits s in
+      elim (eqb worker by) as (λ b. eqb worker by ≡ b → IsOutBut (awaited plan worker (answered by call reply (moved by objects waits s))) worker objects) [
+        | true ↦ λ e.
+            let here : by ≡ worker = sym (eqb-true worker by e) in
+            subst (λ (w : ℕ). IsOutBut (awaited plan w (answered by call reply t)) w objects) here
+            (out_anywhere (awaited plan by (answered by call reply t)) by objects (own_at call objects waits (answers.Completed reply) takes))
+        | false ↦ λ e.
+            let apart : worker ≢ by = eqb-false worker by e in
+            elim (next_other plan by worker call reply t apart) [
+              | inl same ↦
+                  subst (λ (o : Option Call). IsOutBut (option_map_or (λ c. waits_within (kinds_in plan) c (begun_by worker (with_reply by reply t))) o None) worker objects) (sym same)
+                  (subst (λ (n : ℕ). IsOutBut (option_map_or (λ c. waits_within (kinds_in plan) c n) (next_call plan worker s) None) worker objects) (sym (replied_begun_other by worker reply t apart))
+                  (other_at worker call objects waits (answers.Completed reply) apart takes))
+              | inr waiting ↦ out_anywhere (awaited plan worker (answered by call reply t)) worker objects (waiting_out worker call objects waits (answers.Completed reply) apart takes waiting)
+            ]
       ] refl
 
   pub turn_out : (worker : ℕ) → IsOutBut (awaited plan worker (turn_of plan by s).0) worker (turn_of plan by s).0.objects
@@ -172,7 +198,8 @@ module _ (laws : TurnStands) (plan : Plan) (by : ℕ) (s : State) (h : Standing 
     ended = λ is. h.out worker;
     still = λ call objects waits takes. unchanged worker call objects waits answers.Still refl takes;
     unfinished = λ call objects waits takes. unchanged worker call objects waits answers.Unfinished refl takes;
-    completed = λ call objects waits reply takes. replied worker call objects waits reply takes;
+    completed = λ call objects waits reply takes is. replied worker call objects waits reply takes;
+    closed = λ call objects waits reply takes is. closed worker call objects waits reply takes;
     misused = λ call objects waits misuse takes. unchanged worker call objects waits (answers.Misused misuse) refl takes;
   })
 
@@ -181,7 +208,8 @@ module _ (laws : TurnStands) (plan : Plan) (by : ℕ) (s : State) (h : Standing 
     ended = λ is. h.forms;
     still = λ call objects waits takes. h.forms;
     unfinished = λ call objects waits takes. h.forms;
-    completed = λ call objects waits reply takes. forms_set plan.scripts s.replies by call reply h.forms (next_first plan by s call takes.next) (form_at call objects waits (answers.Completed reply) takes);
+    completed = λ call objects waits reply takes is. forms_set plan.scripts s.replies by call reply h.forms is.first (form_at call objects waits (answers.Completed reply) takes);
+    closed = λ call objects waits reply takes is. h.forms;
     misused = λ call objects waits misuse takes. h.forms;
   })
 

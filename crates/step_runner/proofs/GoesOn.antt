@@ -1,6 +1,6 @@
 -- Whatever is left of a call can be spelt.
 use Rattle.std.proofs.Common.{◌≡◌, ℕ, ◌+◌, Bool, true, false, List, [], ◌∷◌, ◌++◌, map, Option, Some, None, refl, sym, subst, append-nil, arith}
-use Rattle.std.specs.Prelude.{Ok}
+use Rattle.std.specs.Prelude.{pos, Ok}
 use Rattle.std.specs.List.{range_with_len}
 use Rattle.std.proofs.lemmas.List.Sorted.{IsPermutation-refl}
 use Rattle.sync_types.specs.Renaming.{renamed_call}
@@ -9,7 +9,7 @@ use Rattle.sync_types.specs.declared.atomic_object.AtomicCall.TheVariants.{Load,
 use Rattle.sync_types.specs.declared.atomic_object.AtomicReply.TheVariants as atomic_replies
 use Rattle.sync_types.specs.declared.atomic_object.Number.TheVariants.{Int64}
 use Rattle.script_calls.specs.declared.call.Call.{Call}
-use Rattle.script_calls.specs.declared.call.ComposedCall.TheVariants.{IfEqual, WaitFor}
+use Rattle.script_calls.specs.declared.call.ComposedCall.TheVariants.{IfEqual, WaitFor, Go}
 use Rattle.script_calls.specs.declared.call.Operation.{Operation}
 use Rattle.script_calls.specs.declared.call.Operation.TheVariants as operations
 use Rattle.script_calls.specs.declared.call.Reply.{Reply}
@@ -62,6 +62,7 @@ use Rattle.run_record.specs.Parts.{Part, and_then, read_as, returns, stages}
 use Rattle.run_record.specs.PoolKind as record_pool
 use Rattle.run_record.specs.Record.{object_number}
 use Rattle.run_record.specs.RwMutexKind.{rw_part, write_part}
+use Rattle.run_record.specs.StartsKind.{go_call}
 use Rattle.run_record.specs.WaitGroupKind.{wait_group_stage, wait_group_call}
 use Rattle.run_record.specs.declared.entered.ObjectEvent.{ObjectEvent}
 use Rattle.run_record.specs.declared.entered.ObjectEvent.TheVariants as events
@@ -78,7 +79,7 @@ use Rattle.step_runner.specs.Left.{mutex_waits, rw_waits, rw_later, mutex_left, 
 use Rattle.step_runner.proofs.SpeltAtObjects.{left_alone, left_referring}
 use Rattle.step_runner.proofs.PlacedSpelled.{places}
 use Rattle.step_runner.proofs.Spelled.{refused}
-use Rattle.step_runner.proofs.TurnOwn.{Pair, only_pairs, cond_refers, once_refers, wait_for_alone}
+use Rattle.step_runner.proofs.TurnOwn.{Pair, only_pairs, cond_refers, once_refers, wait_for_alone, go_alone}
 
 -- some items spell it
 abbrev pub CanBe : {O : Type 0} → Part O → Type 0
@@ -135,6 +136,10 @@ group_can object group_calls.Wait false = group_whole object group_calls.Wait
 group_can object (group_calls.Add delta) waits = group_whole object (group_calls.Add delta)
 group_can object group_calls.Done waits = group_whole object group_calls.Done
 
+-- a `go`, whose `add` is refused
+pub go_can : (group starts worker : ℕ) → CanBe (go_call group starts worker)
+go_can group starts worker = halted (go_call group starts worker) (then_halts (wait_group_call group (group_calls.Add (pos 1))) _ (group_whole group (group_calls.Add (pos 1))))
+
 pub cond_can : (object other : ℕ) (call : CondCall) (has waits : Bool) → CanHalt (cond_left object other call has waits)
 cond_can object other cond_calls.Wait has true = read_halts (λ locked. replies.Returned) (stages events.Mutex answered.Mutex mutex_event mutex_meaning other mutex_stage.Resume) (stage_halts events.Mutex answered.Mutex mutex_event mutex_meaning other mutex_stage.Resume)
 cond_can object other cond_calls.Wait true false = then_halts (stages events.Cond answered.Cond cond_event cond_meaning object cond_stage.Leave) _ (stage_halts events.Cond answered.Cond cond_event cond_meaning object cond_stage.Leave)
@@ -188,6 +193,7 @@ module _ (plan : Plan) (x before place : ℕ) where
   on_can (operations.Cond call) o has alone = absurd (cond_refers o call has alone)
   on_can operations.Once o has alone = absurd (once_refers o has alone)
   on_can (operations.Composed (WaitFor atomic value tries)) o has alone = absurd (wait_for_alone o atomic tries value has)
+  on_can (operations.Composed (Go started)) o has alone = absurd (go_alone o started has)
   on_can operation o has alone = absurd cc
 
   both_can : (other : ℕ) (operation : Operation) (o target : ObjectState) → Pair operation o target → CanBe (left_on_both plan x before place other operation o target)

@@ -1,4 +1,5 @@
 mod CallBounds
+mod ClosingTurns
 mod DormantLemmas
 mod EndLemmas
 mod MadeLemmas
@@ -19,6 +20,8 @@ mod SpeltLines
 mod SpeltMisuse
 mod SpeltOutcome
 mod SpeltRun
+mod SpeltSoFar
+mod SpeltSome
 mod SpeltStarts
 mod SpeltTurns
 mod StartLemmas
@@ -65,6 +68,9 @@ mod RwSpelled
 mod Spelled
 mod TurnOwn
 mod WaitSpelled
+mod GoTurns
+mod GoMade
+mod GoSpelt
 mod TurnsWithin
 mod WaitTurns
 mod WithinKeeps

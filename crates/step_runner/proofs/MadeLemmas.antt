@@ -5,45 +5,54 @@ use Rattle.std.specs.List.{filter}
 use Rattle.std.specs.Option.{option_to_list}
 use Rattle.std.proofs.lemmas.Bool.{eqb-true, eqb-false, lt-ltb, ltb-true}
 use Rattle.std.proofs.lemmas.List.{length-append, get_or-set_same}
-use Rattle.script_calls.specs.Runs.{left_of, made_of}
+use Rattle.script_calls.specs.Runs.{made_of}
 use Rattle.script_calls.specs.declared.call.Call.{Call}
 use Rattle.script_calls.specs.declared.call.Reply.{Reply}
 use Rattle.workload.specs.declared.turn.Turn.{Turn}
 use Rattle.workload.specs.declared.turn.Turn.TheVariants as items
 use Rattle.workload.specs.Plan.{Plan}
+use Rattle.step_runner.specs.declared.turns.answer.Answer.TheVariants.{Completed}
+use Rattle.step_runner.specs.declared.turns.object_state.ObjectState.{ObjectState}
 use Rattle.step_runner.specs.declared.step.Step.{Step}
 use Rattle.step_runner.specs.declared.step.Step.TheVariants as steps
 use Rattle.step_runner.specs.State.{State, IsStateOf, start, with_moment}
-use Rattle.step_runner.specs.Turns.{next_call, turn_of, with_event, and_then, items_of, after_items}
+use Rattle.step_runner.specs.Turns.{answered, next_call, turn_of, with_event, and_then, items_of, after_items}
 use Rattle.step_runner.specs.MadeCalls.{completed_by, unless_misused, made_calls, calls_of}
-use Rattle.step_runner.proofs.NextCalls.{next_first}
-use Rattle.step_runner.proofs.ScriptRuns.{GoesFurther, split_first}
+use Rattle.step_runner.proofs.NextCalls.{IsOfScript}
+use Rattle.step_runner.proofs.ScriptRuns.{GoesFurther}
 use Rattle.step_runner.proofs.StartLemmas.{none_replied}
-use Rattle.step_runner.proofs.TurnLemmas.{moved, turn_cases, replied_other}
+use Rattle.step_runner.proofs.TurnLemmas.{Takes, moved, turn_cases, replied_other}
 use Rattle.step_runner.proofs.RunLemmas.{GoesOn, moment_valid}
 
 -- ---- the replies behind a turn
 
--- one call of the worker is completed
-record Completes (plan : Plan) (worker : ℕ) (s t : State) : Type 0 where
-  call : Call
-  reply : Reply (List ℕ)
-  next : next_call plan worker s ≡ Some call
-  own : get_or t.replies worker [] ≡ get_or s.replies worker [] ++ reply ∷ []
-  others : (k : ℕ) → k ≢ worker → get_or t.replies k [] ≡ get_or s.replies k []
+-- one call of the worker's script is completed
+pub record Completes (plan : Plan) (worker : ℕ) (s t : State) : Type 0 where
+  pub call : Call
+  pub reply : Reply (List ℕ)
+  pub next : next_call plan worker s ≡ Some call
+  pub of : IsOfScript plan worker (get_or s.replies worker []) call
+  pub own : get_or t.replies worker [] ≡ get_or s.replies worker [] ++ reply ∷ []
+  pub others : (k : ℕ) → k ≢ worker → get_or t.replies k [] ≡ get_or s.replies k []
+
+abbrev pub completes_answered : (plan : Plan) (worker : ℕ) (s : State) (call : Call) (objects : List ObjectState) (waits : ℕ) (reply : Reply (List ℕ)) → IsStateOf plan s → Takes plan worker s call objects waits (Completed reply)
+    → IsOfScript plan worker (get_or s.replies worker []) call → Completes plan worker s (answered worker call reply (moved worker objects waits s))
+completes_answered plan worker s call objects waits reply of takes is = record {
+  call = call;
+  reply = reply;
+  next = takes.next;
+  of = is;
+  own = get_or-set_same s.replies worker (get_or s.replies worker [] ++ reply ∷ []) [] (omega (arith, of.workers, takes.below));
+  others = λ k apart. replied_other worker k reply (moved worker objects waits s) apart;
+}
 
 turn_replies : (plan : Plan) (worker : ℕ) (s : State) → IsStateOf plan s → ((turn_of plan worker s).0.replies ≡ s.replies) ⊎ Completes plan worker s (turn_of plan worker s).0
 turn_replies plan worker s of = turn_cases (λ step. (step.0.replies ≡ s.replies) ⊎ Completes plan worker s step.0) plan worker s of (record {
   ended = λ is. inl refl;
   still = λ call objects waits takes. inl refl;
   unfinished = λ call objects waits takes. inl refl;
-  completed = λ call objects waits reply takes. inr (record {
-    call = call;
-    reply = reply;
-    next = takes.next;
-    own = get_or-set_same s.replies worker (get_or s.replies worker [] ++ reply ∷ []) [] (omega (arith, of.workers, takes.below));
-    others = λ k apart. replied_other worker k reply (moved worker objects waits s) apart;
-  });
+  completed = λ call objects waits reply takes is. inr (completes_answered plan worker s call objects waits reply of takes is);
+  closed = λ call objects waits reply takes is. inl refl;
   misused = λ call objects waits misuse takes. inl refl;
 })
 
@@ -65,7 +74,7 @@ none_completed plan worker s same =
       | false ↦ λ f. refl
     ] refl
 
-one_completed : (plan : Plan) (worker : ℕ) (s : State) → (c : Completes plan worker s (turn_of plan worker s).0) → completed_by plan worker s ≡ c.call ∷ []
+pub one_completed : (plan : Plan) (worker : ℕ) (s : State) → (c : Completes plan worker s (turn_of plan worker s).0) → completed_by plan worker s ≡ c.call ∷ []
 one_completed plan worker s c =
     let given = get_or s.replies worker [] in
     let count = ap (length {A = Reply (List ℕ)}) c.own ∙ length-append given (c.reply ∷ []) in
@@ -75,9 +84,7 @@ one_completed plan worker s c =
 made_own : GoesFurther → (plan : Plan) (worker : ℕ) (s : State) → (c : Completes plan worker s (turn_of plan worker s).0) → made plan worker (turn_of plan worker s).0 ≡ made plan worker s ++ c.call ∷ []
 made_own further plan worker s c =
     let script = get_or plan.scripts worker [] in
-    let given = get_or s.replies worker [] in
-    let left = split_first (left_of script given) c.call (next_first plan worker s c.call c.next) in
-    ap (made_of script) c.own ∙ further.made script given c.call left.0 c.reply left.1
+    ap (made_of script) c.own ∙ further.made script (get_or s.replies worker []) c.call c.of.rest c.reply c.of.left
 
 -- one completed call, of this worker or of another
 made_turn : GoesFurther → (plan : Plan) (worker turn : ℕ) (s : State) (more : List (ℕ × Call)) (b : Bool) → eqb turn worker ≡ b → (c : Completes plan turn s (turn_of plan turn s).0)

@@ -1,5 +1,5 @@
 -- Scripts of calls on maps, atomics and pools alone.
-use Rattle.std.proofs.Common.{◌≡◌, ℕ, Bool, true, false, List, [], ◌∷◌, ◌++◌, map, length, get_or, Option, Some, None, refl, sym, ap, ◌∙◌, subst}
+use Rattle.std.proofs.Common.{◌≡◌, ℕ, inl, inr, Bool, true, false, List, [], ◌∷◌, ◌++◌, map, length, get_or, Option, Some, None, refl, sym, ap, ◌∙◌, subst}
 use Rattle.std.specs.Prelude.{is_some, not}
 use Rattle.std.specs.List.{list_all, range_with_len}
 use Rattle.script_calls.specs.Runs.{have_tests}
@@ -22,7 +22,7 @@ use Rattle.step_runner.specs.Outcomes.{rounds, is_misused, StepsTo}
 use Rattle.step_runner.specs.State.{State, start, IsStateOf}
 use Rattle.step_runner.specs.Turns.{begun_by, next_call, turn_of, item_of, with_event, and_then, items_of}
 use Rattle.step_runner.specs.Computed.{turns}
-use Rattle.step_runner.proofs.NextCalls.{next_first}
+use Rattle.step_runner.proofs.NextCalls.{is_started, next_is}
 use Rattle.step_runner.proofs.ScriptRuns.{in_script}
 use Rattle.step_runner.proofs.TurnLemmas.{true_false, both_true, all_get, all_at, Takes, takes_by, turn_cases, StepUses}
 use Rattle.step_runner.proofs.RoundLemmas.{LeavesRest}
@@ -47,15 +47,22 @@ AllTakeOneTurn plan = list_all (list_all (λ call. takes_one_turn call.operation
 next_takes_one_turn : (plan : Plan) (worker : ℕ) (s : State) (call : Call) → AllTakeOneTurn plan → next_call plan worker s ≡ Some call → takes_one_turn call.operation ≡ true
 next_takes_one_turn plan worker s call all is =
     let one : Call → Bool = λ call. takes_one_turn call.operation in
-    let at = in_script (get_or plan.scripts worker []) (get_or s.replies worker []) call (next_first plan worker s call is) in
-    all_get one (get_or plan.scripts worker []) at.0 call (all_at one plan.scripts worker all) at.1
+    elim (next_is plan worker s call is) [
+      | inl script ↦
+          (let at = in_script (get_or plan.scripts worker []) (get_or s.replies worker []) call script.first in
+          all_get one (get_or plan.scripts worker []) at.0 call (all_at one plan.scripts worker all) at.1)
+      | inr closing ↦
+          (let started = is_started worker plan.scripts closing.group closing.under in
+          absurd (true_false (sym (all_get one (get_or plan.scripts started.by []) started.place started.call (all_at one plan.scripts started.by all) started.there) ∙ ap takes_one_turn started.goes)))
+    ]
 
 turn_goes : Completing → (plan : Plan) (worker : ℕ) (s : State) → AllTakeOneTurn plan → IsStateOf plan s → Goes plan worker s (turn_of plan worker s).1
 turn_goes completes plan worker s all of = turn_cases (λ step. Goes plan worker s step.1) plan worker s of (record {
   ended = λ is. is;
   still = λ call objects waits takes. absurd (completed call objects waits answers.Still takes);
   unfinished = λ call objects waits takes. tt;
-  completed = λ call objects waits reply takes. tt;
+  completed = λ call objects waits reply takes is. tt;
+  closed = λ call objects waits reply takes is. tt;
   misused = λ call objects waits misuse takes. completed call objects waits (answers.Misused misuse) takes;
 })
   where

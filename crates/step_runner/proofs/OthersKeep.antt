@@ -1,7 +1,7 @@
 -- Another's turn leaves a worker's call where it is: what is left of it is the same, and so is where the worker stands.
 use Rattle.std.proofs.Common.{◌≡◌, ◌≢◌, ℕ, Bool, true, false, Option, Some, None, inl, inr, refl, sym, ap, ◌∙◌}
 use Rattle.std.specs.Prelude.{ℤ, if◌then◌else◌}
-use Rattle.script_calls.specs.declared.call.ComposedCall.TheVariants.{IfEqual, WaitFor}
+use Rattle.script_calls.specs.declared.call.ComposedCall.TheVariants.{IfEqual, WaitFor, Go}
 use Rattle.script_calls.specs.declared.call.Operation.{Operation}
 use Rattle.script_calls.specs.declared.call.Operation.TheVariants as operations
 use Rattle.sync_types.specs.declared.atomic_object.Number.{Number}
@@ -225,6 +225,7 @@ module _ (plan : Plan) (x before place : ℕ) where
       ap (λ (k : ℕ). wait_for_call (object_number place) (object_number k) (atomic_number plan.objects atomic) value tries) same.1
   left_same (states.Cond m at) (states.Cond n other) operation same = refl
   left_same (states.WaitGroup m first) (states.WaitGroup n other) (operations.WaitGroup call) same = ap (group_left (object_number place) call) same.0
+  left_same (states.WaitGroup m first) (states.WaitGroup n other) (operations.Composed (Go started)) same = refl
   left_same (states.WaitGroup m first) (states.WaitGroup n other) operation same = refl
   left_same (states.Once m at delta) (states.Once n other amount) operations.Once same = λ i. do_call (object_number place) (atomic_number plan.objects (same.1.0 i)) (same.1.1 i)
   left_same (states.Once m at delta) (states.Once n other amount) operation same = refl

@@ -1,6 +1,6 @@
 -- A pool has room for every put that is left to make on it.
-use Rattle.std.proofs.Common.{◌≡◌, ℕ, zero, suc, ◌+◌, ◌-◌, ◌<◌, ◌≤◌, true, cond, ◌&&◌, List, [], ◌∷◌, ◌++◌, length, get_or, set, replicate, Some, None, refl, sym, ap, ◌∙◌, subst, arith}
-use Rattle.std.specs.Prelude.{slice_get, count_by}
+use Rattle.std.proofs.Common.{◌≡◌, ℕ, zero, suc, ◌+◌, ◌-◌, ◌<◌, ◌≤◌, inl, inr, Bool, true, false, cond, ◌&&◌, List, [], ◌∷◌, ◌++◌, length, get_or, set, replicate, Some, None, refl, sym, ap, ◌∙◌, subst, arith}
+use Rattle.std.specs.Prelude.{◌==◌, slice_get, count_by}
 use Rattle.std.proofs.lemmas.Bool.{eq-eqb}
 use Rattle.std.proofs.lemmas.List.Sums.{sum_by-cons}
 use Rattle.script_calls.specs.Runs.{passed_over, left_of}
@@ -25,7 +25,7 @@ use Rattle.step_runner.specs.TurnWithin.{turn_within}
 use Rattle.workload.specs.Puts.{is_put_at, puts_at}
 use Rattle.step_runner.specs.State.{State, start, with_reply, IsStateOf}
 use Rattle.step_runner.specs.Turns.{begun_by, next_call, turn_of, after_items}
-use Rattle.step_runner.proofs.NextCalls.{next_first}
+use Rattle.step_runner.proofs.NextCalls.{IsOfScript, IsClosing, next_is}
 use Rattle.step_runner.proofs.ScriptRuns.{GoesFurther, split_first, none_left, count_behind}
 use Rattle.step_runner.proofs.StartLemmas.{each_start}
 use Rattle.step_runner.proofs.TurnLemmas.{Takes, is_there, moved, takes_by, turn_cases}
@@ -99,10 +99,20 @@ pub record HasRoom (plan : Plan) (s : State) : Type 0 where
   pub of : IsStateOf plan s
   pub fits : AllFit (left_at plan s) s.objects
 
+-- the `done` behind a script is no put
+no_put : (place worker : ℕ) (given : List (Reply (List ℕ))) (plan : Plan) (call : Call) → IsClosing plan worker given call → put_of place call ≡ 0
+no_put place worker given plan call closing = ap (put_of place) closing.is ∙ none_there (closing.group == place)
+  where
+    none_there : (b : Bool) → cond {A = ℕ} (b && false) 1 0 ≡ 0
+    none_there true = refl
+    none_there false = refl
+
 -- a put before which a worker stands is left to make
 some_left : GoesFurther → (plan : Plan) (worker : ℕ) (s : State) (call : Call) (place : ℕ) → IsStateOf plan s → worker < plan.workers → next_call plan worker s ≡ Some call → put_of place call ≤ left_at plan s place
-some_left further plan worker s call place of below is =
-    omega (arith, one_put_fewer further place plan.scripts s.replies worker call replies.Returned (omega (arith, of.workers, below)) (next_first plan worker s call is))
+some_left further plan worker s call place of below is = elim (next_is plan worker s call is) [
+  | inl script ↦ omega (arith, one_put_fewer further place plan.scripts s.replies worker call replies.Returned (omega (arith, of.workers, below)) script.first)
+  | inr closing ↦ omega (arith, no_put place worker (get_or s.replies worker []) plan call closing)
+]
 
 takes_fits : Rooms → (plan : Plan) (worker : ℕ) (s : State) (call : Call) (objects : List ObjectState) (waits : ℕ) (answer : Answer) → HasRoom plan s → Takes plan worker s call objects waits answer
     → AllFit (λ place. left_behind answer (put_of place call) (left_at plan s place)) objects
@@ -111,10 +121,17 @@ takes_fits rooms plan worker s call objects waits answer has takes =
     (λ r. rooms.goes_on worker s.moment (begun_by worker s) (left_at plan s) call s.objects (some_left rooms.further plan worker s call call.object has.of takes.below takes.next) has.fits)
 
 completed_fits : Rooms → (plan : Plan) (worker : ℕ) (s : State) (call : Call) (objects : List ObjectState) (waits : ℕ) (reply : Reply (List ℕ)) → HasRoom plan s → Takes plan worker s call objects waits (answers.Completed reply)
-    → AllFit (left_at plan (with_reply worker reply (moved worker objects waits s))) objects
-completed_fits rooms plan worker s call objects waits reply has takes place object at =
-    let fewer = one_put_fewer rooms.further place plan.scripts s.replies worker call reply (omega (arith, has.of.workers, takes.below)) (next_first plan worker s call takes.next) in
+    → IsOfScript plan worker (get_or s.replies worker []) call → AllFit (left_at plan (with_reply worker reply (moved worker objects waits s))) objects
+completed_fits rooms plan worker s call objects waits reply has takes script place object at =
+    let fewer = one_put_fewer rooms.further place plan.scripts s.replies worker call reply (omega (arith, has.of.workers, takes.below)) script.first in
     fewer_fit (left_at plan s place - put_of place call) (left_at plan (with_reply worker reply (moved worker objects waits s)) place) object (omega (arith, fewer))
+    (takes_fits rooms plan worker s call objects waits (answers.Completed reply) has takes place object at)
+
+-- and the `done` leaves as many puts
+closed_fits : Rooms → (plan : Plan) (worker : ℕ) (s : State) (call : Call) (objects : List ObjectState) (waits : ℕ) (reply : Reply (List ℕ)) → HasRoom plan s → Takes plan worker s call objects waits (answers.Completed reply)
+    → IsClosing plan worker (get_or s.replies worker []) call → AllFit (left_at plan s) objects
+closed_fits rooms plan worker s call objects waits reply has takes closing place object at =
+    fewer_fit (left_at plan s place - put_of place call) (left_at plan s place) object (omega (arith, no_put place worker (get_or s.replies worker []) plan call closing))
     (takes_fits rooms plan worker s call objects waits (answers.Completed reply) has takes place object at)
 
 turn_fits : Rooms → (plan : Plan) (worker : ℕ) (s : State) → HasRoom plan s → AllFit (left_at plan (turn_of plan worker s).0) (turn_of plan worker s).0.objects
@@ -122,7 +139,8 @@ turn_fits rooms plan worker s has = turn_cases (λ step. AllFit (left_at plan st
   ended = λ is. has.fits;
   still = λ call objects waits takes. takes_fits rooms plan worker s call objects waits answers.Still has takes;
   unfinished = λ call objects waits takes. takes_fits rooms plan worker s call objects waits answers.Unfinished has takes;
-  completed = λ call objects waits reply takes. completed_fits rooms plan worker s call objects waits reply has takes;
+  completed = λ call objects waits reply takes is. completed_fits rooms plan worker s call objects waits reply has takes is;
+  closed = λ call objects waits reply takes is. closed_fits rooms plan worker s call objects waits reply has takes is;
   misused = λ call objects waits misuse takes. takes_fits rooms plan worker s call objects waits (answers.Misused misuse) has takes;
 })
 
@@ -147,7 +165,7 @@ pub put_is_kept : Rooms → (plan : Plan) (worker : ℕ) (s : State) (place item
     → slice_get s.objects place ≡ Some (states.Pool p) → (pool.next p worker (event.Put item)).1 ≡ pool_reply.Kept
 put_is_kept rooms plan worker s place item p has is there =
     let call : Call = record { object = place; operation = operations.Pool (pool_calls.Put item) } in
-    let below : worker < plan.workers = is_there plan worker s call has.of.valid is in
+    let below : worker < plan.workers = is_there plan worker s call has.of is in
     let parts : length p.primary ≡ plan.workers = (has.of.machines place (states.Pool p) there).0 in
     let one : put_of place call ≡ 1 = ap (λ b. cond (b && true) 1 0) (eq-eqb place place refl) in
     rooms.kept worker item (left_at plan s place) p (omega (arith, below, parts)) (omega (arith, some_left rooms.further plan worker s call place has.of below is, one)) (has.fits place (states.Pool p) there)

@@ -1,6 +1,6 @@
 -- Rounds, and what comes behind every script's end.
 use Rattle.std.proofs.Common.{◌≡◌, ◌≢◌, ℕ, zero, suc, ◌+◌, ◌<◌, ◌≤◌, Bool, true, false, eqb, List, [], ◌∷◌, map, drop, length, get_or, Option, Some, None, refl, sym, ap, ◌∙◌, subst, length-drop, arith}
-use Rattle.std.specs.Prelude.{is_some, not, nat_lt, slice_get, if◌then◌else◌}
+use Rattle.std.specs.Prelude.{is_some, not, nat_lt, if◌then◌else◌}
 use Rattle.std.specs.List.{list_all, list_any, range_with_len}
 use Rattle.std.specs.Option.{option_map_or}
 use Rattle.std.proofs.lemmas.Bool.{eqb-true, eqb-false, ltb-true, ltb-false}
@@ -9,18 +9,20 @@ use Rattle.script_calls.specs.declared.call.Call.{Call}
 use Rattle.script_calls.specs.declared.call.Reply.{Reply}
 use Rattle.workload.specs.declared.turn.Turn.{Turn}
 use Rattle.workload.specs.declared.turn.Turn.TheVariants as items
-use Rattle.workload.specs.Plan.{Plan, is_dormant, has_dormant}
+use Rattle.workload.specs.Plan.{Plan, is_dormant, has_dormant, is_valid}
 use Rattle.step_runner.specs.declared.step.Step.{Step}
 use Rattle.step_runner.specs.declared.step.Step.TheVariants as steps
 use Rattle.script_calls.specs.declared.outcome.Ending.{Ending}
 use Rattle.script_calls.specs.declared.outcome.Ending.TheVariants as endings
 use Rattle.step_runner.specs.LeftToDo.{left_to_do}
-use Rattle.step_runner.specs.State.{State, with_moment, IsStateOf}
+use Rattle.step_runner.specs.declared.state.Stand.{Stand}
+use Rattle.step_runner.specs.declared.state.Stand.TheVariants.{Waits, Live, Gone}
+use Rattle.step_runner.specs.State.{State, stand_of, with_moment, StandsSo, IsStateOf}
 use Rattle.step_runner.specs.TurnWithin.{turn_within}
-use Rattle.step_runner.specs.Turns.{begun_by, left_for, next_call, settled_with, turn_of, and_then, items_of, round, has_ended}
+use Rattle.step_runner.specs.Turns.{begun_by, next_call, settled_with, turn_of, and_then, items_of, round, has_ended}
 use Rattle.step_runner.specs.Computed.{behind_round, rounds_of, all_rounds}
-use Rattle.step_runner.proofs.NextCalls.{live_left, none_with}
-use Rattle.step_runner.proofs.ScriptRuns.{none_first, none_left, no_test}
+use Rattle.step_runner.proofs.NextCalls.{live_there, none_next, not_live}
+use Rattle.step_runner.proofs.ScriptRuns.{none_left, no_test}
 use Rattle.step_runner.proofs.TurnLemmas.{both, both_true, true_false, valid_scripts}
 use Rattle.step_runner.proofs.RunLemmas.{GoesOn, UsesUp, turns_of, ItemsUse, items_valid, workers_use}
 
@@ -57,14 +59,15 @@ not_some : {X : Type 0} (o : Option X) → not (is_some o) ≡ true → o ≡ No
 not_some None e = refl
 not_some (Some x) e = absurd cc
 
+-- one that isn't there stands before none
+nobody_next : (plan : Plan) (s : State) (k : ℕ) → IsStateOf plan s → plan.workers ≤ k → next_call plan k s ≡ None
+nobody_next plan s k of past = not_live plan k s (λ (live : stand_of k s ≡ Live). omega (arith, live_there s.stands k live, of.count, past))
+
 -- and back
 pub ended_next : (plan : Plan) (s : State) → IsStateOf plan s → has_ended plan s ≡ true → (k : ℕ) → next_call plan k s ≡ None
 ended_next plan s of ended k = elim (nat_lt k plan.workers) as (λ b. nat_lt k plan.workers ≡ b → next_call plan k s ≡ None) [
   | true ↦ λ e. not_some (next_call plan k s) (each_from (is_at_end plan s) 0 plan.workers ended k (omega arith) (omega (arith, ltb-true k plan.workers e)))
-  | false ↦ λ e.
-      let past : length plan.scripts ≤ k = omega (arith, valid_scripts plan of.valid, ltb-false k plan.workers e) in
-      let none = ap (λ (script : List Call). left_of script (get_or s.replies k [])) (past_end plan.scripts k past) ∙ none_left (get_or s.replies k []) in
-      ap (λ (l : List Call). slice_get l 0) (none_with plan k (get_or s.replies k []) none)
+  | false ↦ λ e. nobody_next plan s k of (omega (arith, ltb-false k plan.workers e))
 ] refl
 
 -- where a worker stands before a call, not every script has ended
@@ -76,7 +79,7 @@ not_ended plan s worker of some = elim (has_ended plan s) as (λ b. has_ended pl
 
 -- a worker whose script has ended makes no event
 pub no_turn : (plan : Plan) (worker : ℕ) (s : State) → next_call plan worker s ≡ None → turn_of plan worker s ≡ (s, steps.Still)
-no_turn plan worker s none = ap (λ o. option_map_or (λ call. settled_with worker (turn_within call worker s.moment (begun_by worker s) s.objects) s) o (s, steps.Still)) none
+no_turn plan worker s none = ap (λ o. option_map_or (λ call. settled_with plan worker call (turn_within call worker s.moment (begun_by worker s) s.objects) s) o (s, steps.Still)) none
 
 -- nothing follows the end, but that the clock may be set
 pub nothing_follows : (plan : Plan) (s : State) → ((k : ℕ) → next_call plan k s ≡ None) → (list : List Turn) → (moment : ℕ) × (items_of plan list s ≡ (with_moment moment s, steps.Still))
@@ -159,13 +162,37 @@ going_before plan s t step of is some = elim (has_ended plan s) as (λ b. has_en
   | false ↦ λ e. refl
 ] refl
 
--- nothing is left for any worker where every script has ended
-pub nothing_left : (plan : Plan) (s : State) → IsStateOf plan s → has_ended plan s ≡ true → (k : ℕ) → left_for plan k s ≡ []
-nothing_left plan s of ended k = none_first (left_for plan k s) (ended_next plan s of ended k)
+-- nothing is left of a worker's script
+abbrev LeavesNone : Plan → ℕ → List (Reply (List ℕ)) → Type 0
+LeavesNone plan k given = left_of (get_or plan.scripts k []) given ≡ []
 
--- and nothing of the script of one that doesn't wait to be started
+none_there : (plan : Plan) (k : ℕ) (given : List (Reply (List ℕ))) → is_valid plan ≡ true → plan.workers ≤ k → LeavesNone plan k given
+none_there plan k given valid past = ap (λ (script : List Call). left_of script given) (past_end plan.scripts k (omega (arith, valid_scripts plan valid))) ∙ none_left given
+
+each_ended : (plan : Plan) (s : State) → IsStateOf plan s → has_ended plan s ≡ true → (k : ℕ) → (stand_of k s ≢ Waits) → LeavesNone plan k (get_or s.replies k [])
+each_ended plan s of ended k started = elim (nat_lt k plan.workers) as (λ b. nat_lt k plan.workers ≡ b → LeavesNone plan k (get_or s.replies k [])) [
+  | true ↦ λ e. by_stand (stand_of k s) refl (of.each k (ltb-true k plan.workers e))
+  | false ↦ λ e. none_there plan k (get_or s.replies k []) of.valid (omega (arith, ltb-false k plan.workers e))
+] refl
+  where
+    by_stand : (stand : Stand) → stand_of k s ≡ stand → StandsSo plan k (get_or s.replies k []) stand → LeavesNone plan k (get_or s.replies k [])
+    by_stand Waits is so = absurd (started is)
+    by_stand Live is so = none_next plan k s is (ended_next plan s of ended k)
+    by_stand Gone is so = so.1
+
+-- nothing is left of the script of one that doesn't wait to be started
 pub live_ended : (plan : Plan) (s : State) → IsStateOf plan s → has_ended plan s ≡ true → (k : ℕ) → is_dormant plan k ≡ false → left_of (get_or plan.scripts k []) (get_or s.replies k []) ≡ []
-live_ended plan s of ended k live = sym (live_left plan k (get_or s.replies k []) live) ∙ nothing_left plan s of ended k
+live_ended plan s of ended k live = elim (nat_lt k plan.workers) as (λ b. nat_lt k plan.workers ≡ b → LeavesNone plan k (get_or s.replies k [])) [
+  | true ↦ λ e. each_ended plan s of ended k (λ (waits : stand_of k s ≡ Waits). true_false (sym (subst (StandsSo plan k (get_or s.replies k [])) waits (of.each k (ltb-true k plan.workers e))).0 ∙ live))
+  | false ↦ λ e. none_there plan k (get_or s.replies k []) of.valid (omega (arith, ltb-false k plan.workers e))
+] refl
+
+-- nor of one that has replies
+pub begun_ended : (plan : Plan) (s : State) → IsStateOf plan s → has_ended plan s ≡ true → (k : ℕ) → get_or s.replies k [] ≢ [] → left_of (get_or plan.scripts k []) (get_or s.replies k []) ≡ []
+begun_ended plan s of ended k some = elim (nat_lt k plan.workers) as (λ b. nat_lt k plan.workers ≡ b → LeavesNone plan k (get_or s.replies k [])) [
+  | true ↦ λ e. each_ended plan s of ended k (λ (waits : stand_of k s ≡ Waits). some (subst (StandsSo plan k (get_or s.replies k [])) waits (of.each k (ltb-true k plan.workers e))).1)
+  | false ↦ λ e. none_there plan k (get_or s.replies k []) of.valid (omega (arith, ltb-false k plan.workers e))
+] refl
 
 -- where none waits to be started, this one doesn't
 all_live : (dormant : List Bool) (k : ℕ) → list_any (λ waits. waits) dormant ≡ false → get_or dormant k false ≡ false

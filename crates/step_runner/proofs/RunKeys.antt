@@ -1,5 +1,5 @@
 -- The keys of a run's maps are those of its calls, and a reply shows no more pairs than there are different keys.
-use Rattle.std.proofs.Common.{◌≡◌, ℕ, zero, suc, ◌≤◌, Bool, true, false, ◌||◌, List, [], ◌∷◌, ◌++◌, get_or, set, replicate, Option, Some, None, refl, ap, ◌∙◌}
+use Rattle.std.proofs.Common.{◌≡◌, ℕ, zero, suc, ◌≤◌, inl, inr, Bool, true, false, cond, ◌||◌, List, [], ◌∷◌, ◌++◌, get_or, set, replicate, Option, Some, None, refl, sym, ap, ◌∙◌}
 use Rattle.std.specs.Prelude.{slice_get}
 use Rattle.std.specs.List.{list_all, list_any, flat_map}
 use Rattle.std.specs.Str.{bytes_eq}
@@ -26,11 +26,12 @@ use Rattle.step_runner.specs.declared.step.Step.TheVariants as steps
 use Rattle.script_calls.specs.declared.outcome.Ending.{Ending}
 use Rattle.script_calls.specs.declared.outcome.Ending.TheVariants as endings
 use Rattle.workload.specs.Puts.{puts_at}
-use Rattle.step_runner.specs.State.{State, start}
+use Rattle.step_runner.specs.declared.state.Stand.TheVariants.{Gone}
+use Rattle.step_runner.specs.State.{State, start, with_stand}
 use Rattle.step_runner.specs.Ends.{numbered}
-use Rattle.step_runner.specs.Turns.{begun_by, next_call, settled, settled_with, after_items}
+use Rattle.step_runner.specs.Turns.{answered, begun_by, is_behind, next_call, settled, settled_with, after_items}
 use Rattle.step_runner.specs.Computed.{whole_run, outcome_of, turns}
-use Rattle.step_runner.proofs.NextCalls.{next_first}
+use Rattle.step_runner.proofs.NextCalls.{next_is}
 use Rattle.step_runner.proofs.ScriptRuns.{in_script}
 use Rattle.step_runner.proofs.StartLemmas.{each_start}
 use Rattle.step_runner.proofs.TurnLemmas.{both, both_true, moved}
@@ -68,9 +69,12 @@ of_scripts p (script ∷ scripts) zero e = any_first p (flat_map keys_of script)
 of_scripts p (script ∷ scripts) (suc worker) e = any_rest p (flat_map keys_of script) (all_keys scripts) (of_scripts p scripts worker e)
 
 next_among : (plan : Plan) (worker : ℕ) (s : State) (call : Call) → next_call plan worker s ≡ Some call → AreAmong (all_keys plan.scripts) (keys_of call)
-next_among plan worker s call is q e =
-    let at = in_script (get_or plan.scripts worker []) (get_or s.replies worker []) call (next_first plan worker s call is) in
-    of_scripts (bytes_eq q) plan.scripts worker (of_script (bytes_eq q) (get_or plan.scripts worker []) at.0 call at.1 e)
+next_among plan worker s call is q e = elim (next_is plan worker s call is) [
+  | inl script ↦
+      (let at = in_script (get_or plan.scripts worker []) (get_or s.replies worker []) call script.first in
+      of_scripts (bytes_eq q) plan.scripts worker (of_script (bytes_eq q) (get_or plan.scripts worker []) at.0 call at.1 e))
+  | inr closing ↦ (let no : false ≡ true = sym (ap (λ (c : Call). list_any (bytes_eq q) (keys_of c)) closing.is) ∙ e in absurd cc)
+]
 
 -- ---- what every state keeps
 
@@ -96,19 +100,24 @@ replies_set p (xs ∷ lists) (suc worker) x e last =
 
 -- ---- any turn
 
-settled_keys : (names : List (List ℕ)) (most worker : ℕ) (answer : Answer) (s : State) → ShowsTo most answer → HasKeys names most s → HasKeys names most (settled worker answer s).0
-settled_keys names most worker answers.Still s few has = has
-settled_keys names most worker answers.Unfinished s few has = has
-settled_keys names most worker (answers.Completed reply) s few has = record { maps = has.maps; few = replies_set (has_pairs_to most) s.replies worker reply has.few few }
-settled_keys names most worker (answers.Misused misuse) s few has = has
+completed_keys : (names : List (List ℕ)) (most worker : ℕ) (call : Call) (reply : Reply (List ℕ)) (s : State) (behind : Bool) → has_pairs_to most reply ≡ true → HasKeys names most s
+    → HasKeys names most (cond behind (with_stand worker Gone s) (answered worker call reply s))
+completed_keys names most worker call reply s true few has = record { maps = has.maps; few = has.few }
+completed_keys names most worker call reply s false few has = record { maps = has.maps; few = replies_set (has_pairs_to most) s.replies worker reply has.few few }
+
+settled_keys : (names : List (List ℕ)) (most : ℕ) (plan : Plan) (worker : ℕ) (call : Call) (answer : Answer) (s : State) → ShowsTo most answer → HasKeys names most s → HasKeys names most (settled plan worker call answer s).0
+settled_keys names most plan worker call answers.Still s few has = has
+settled_keys names most plan worker call answers.Unfinished s few has = has
+settled_keys names most plan worker call (answers.Completed reply) s few has = completed_keys names most worker call reply s (is_behind plan worker s) few has
+settled_keys names most plan worker call (answers.Misused misuse) s few has = has
 
 turn_keys : Keys → (plan : Plan) (most worker : ℕ) (s : State) (o : Option Call) → next_call plan worker s ≡ o → distinct_count (all_keys plan.scripts) ≤ most
-    → HasKeys (all_keys plan.scripts) most s → HasKeys (all_keys plan.scripts) most (option_map_or (λ call. settled_with worker (turn_within call worker s.moment (begun_by worker s) s.objects) s) o (s, steps.Still)).0
+    → HasKeys (all_keys plan.scripts) most s → HasKeys (all_keys plan.scripts) most (option_map_or (λ call. settled_with plan worker call (turn_within call worker s.moment (begun_by worker s) s.objects) s) o (s, steps.Still)).0
 turn_keys keys plan most worker s None is room has = has
 turn_keys keys plan most worker s (Some call) is room has =
     let x = turn_within call worker s.moment (begun_by worker s) s.objects in
     let keep = keys.goes_on (all_keys plan.scripts) most worker s.moment (begun_by worker s) call s.objects (next_among plan worker s call is) room has.maps in
-    settled_keys (all_keys plan.scripts) most worker x.1 (moved worker x.0.0 x.0.1 s) keep.1 (record { maps = keep.0; few = has.few })
+    settled_keys (all_keys plan.scripts) most plan worker call x.1 (moved worker x.0.0 x.0.1 s) keep.1 (record { maps = keep.0; few = has.few })
 
 pub keys_kept : Keys → (plan : Plan) (most : ℕ) → distinct_count (all_keys plan.scripts) ≤ most → Kept plan (HasKeys (all_keys plan.scripts) most)
 keys_kept keys plan most room = record {

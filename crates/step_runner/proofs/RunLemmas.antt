@@ -163,7 +163,7 @@ pub run_keeps : (plan : Plan) (P : State → Type 0) → Kept plan P → P (star
 run_keeps plan P kept has = schedule_keeps plan P kept (items_of plan plan.schedule (start plan)) (items_keep plan P kept plan.schedule (start plan) has)
 
 pub moment_valid : (plan : Plan) (moment : ℕ) (s : State) → IsStateOf plan s → IsStateOf plan (with_moment moment s)
-moment_valid plan moment s of = record { valid = of.valid; objects = of.objects; machines = of.machines; workers = of.workers; within = of.within; waits = of.waits; few = of.few; made = of.made }
+moment_valid plan moment s of = record { valid = of.valid; objects = of.objects; machines = of.machines; workers = of.workers; within = of.within; waits = of.waits; few = of.few; made = of.made; count = of.count; each = of.each }
 
 pub item_valid : (plan : Plan) → GoesOn plan → (item : Turn) (s : State) → IsStateOf plan s → IsStateOf plan (item_of plan item s).0
 item_valid plan goes_on item s of = item_keeps plan (IsStateOf plan) (record { turn = goes_on; moment = moment_valid plan }) item s of

@@ -70,7 +70,8 @@ module _ (laws : Leads) (plan : Plan) (k : ℕ) where
     ended = λ none. subst (λ (o : Option Call). Comes s (option_map_or (λ call. items_within call worker s.moment (begun_by worker s) s.objects) o []) s) (sym none) (stays s);
     still = λ call objects waits takes. at_objects call objects waits answers.Still takes;
     unfinished = λ call objects waits takes. at_objects call objects waits answers.Unfinished takes;
-    completed = λ call objects waits reply takes. at_objects call objects waits (answers.Completed reply) takes;
+    completed = λ call objects waits reply takes is. at_objects call objects waits (answers.Completed reply) takes;
+    closed = λ call objects waits reply takes is. at_objects call objects waits (answers.Completed reply) takes;
     misused = λ call objects waits misuse takes. at_objects call objects waits (answers.Misused misuse) takes;
   })
     where

@@ -36,7 +36,8 @@ turn_stays ranges plan worker s of are = turn_cases (λ step. AllInRange step.0.
   ended = λ is. are;
   still = λ call objects waits takes. takes_stays ranges plan worker s call objects waits answers.Still of are takes;
   unfinished = λ call objects waits takes. takes_stays ranges plan worker s call objects waits answers.Unfinished of are takes;
-  completed = λ call objects waits reply takes. takes_stays ranges plan worker s call objects waits (answers.Completed reply) of are takes;
+  completed = λ call objects waits reply takes is. takes_stays ranges plan worker s call objects waits (answers.Completed reply) of are takes;
+  closed = λ call objects waits reply takes is. takes_stays ranges plan worker s call objects waits (answers.Completed reply) of are takes;
   misused = λ call objects waits misuse takes. takes_stays ranges plan worker s call objects waits (answers.Misused misuse) of are takes;
 })
 

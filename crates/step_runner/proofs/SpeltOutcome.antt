@@ -1,22 +1,20 @@
 -- The lists of a run fall into lines of its outcome.
 use Rattle.std.proofs.Common.{◌≡◌, ℕ, ◌+◌, ◌≤◌, Bool, List, [], ◌∷◌, ◌++◌, map, length, get_or, refl, sym, ap, ◌∙◌, subst, arith, Option, Some}
-use Rattle.std.specs.Prelude.{cond, slice_get}
+use Rattle.std.specs.Prelude.{slice_get}
 use Rattle.std.specs.List.{range_with_len}
 use Rattle.std.proofs.lemmas.List.{length-map}
 use Rattle.std.proofs.lemmas.List.FromFn.{length-range_with_len}
-use Rattle.script_calls.specs.declared.call.Reply.{Reply}
 use Rattle.sync_types.specs.declared.misuse.Misuse.{Misuse}
 use Rattle.script_calls.specs.declared.outcome.Outcome.{Outcome}
 use Rattle.script_calls.specs.declared.outcome.Outcome.TheVariants as outcomes
 use Rattle.script_calls.specs.declared.outcome.Report.{Report}
 use Rattle.script_calls.specs.Outcome.{left_by}
-use Rattle.script_calls.specs.Runs.{left_of, RunsAlong}
-use Rattle.script_calls.specs.declared.call.Call.{Call}
+use Rattle.script_calls.specs.Runs.{RunsAlong}
 use Rattle.workload.specs.declared.turn.Turn.{Turn}
 use Rattle.workload.specs.Draft.{all_keys, distinct_count}
-use Rattle.workload.specs.Plan.{Plan, is_dormant}
+use Rattle.workload.specs.Plan.{Plan}
 use Rattle.run_record.specs.Explains.{AreLines}
-use Rattle.run_record.specs.Lines.{Line, calls_made, items_of, replies_of, IsLineOf}
+use Rattle.run_record.specs.Lines.{Line, LineEnd, calls_made, items_of, replies_of, IsLineOf}
 use Rattle.run_record.specs.Record.{Record}
 use Rattle.step_runner.specs.Items.{Item}
 use Rattle.step_runner.specs.Recorded.{recorded_reply}
@@ -24,15 +22,16 @@ use Rattle.step_runner.specs.declared.step.Step.{Step}
 use Rattle.step_runner.specs.Ends.{numbered}
 use Rattle.step_runner.specs.Outcomes.{rounds, StepsTo}
 use Rattle.step_runner.specs.RunItems.{all_made}
-use Rattle.step_runner.specs.Spelt.{list_of, lists_of, made_for, misuse_of, ending_by, stays_by, is_over, endings_of, EndAs, Falls}
+use Rattle.step_runner.specs.Spelt.{list_of, lists_of, made_for, misuse_of, is_over, endings_of, outcome_endings, EndAs, Falls}
 use Rattle.step_runner.specs.State.{State, start, IsStateOf}
-use Rattle.step_runner.specs.Turns.{items_of as after_all, after_items}
+use Rattle.step_runner.specs.Turns.{items_of as after_all, after_items, next_call}
 use Rattle.step_runner.proofs.FormLemmas.{TurnStands, standing_kept, start_stands}
 use Rattle.step_runner.proofs.RunKeys.{Keys, keys_kept, start_keys}
 use Rattle.step_runner.proofs.RunLemmas.{GoesOn, Kept}
-use Rattle.step_runner.proofs.Numbered.{NamesAside, get_mapped, left_numbered}
+use Rattle.step_runner.proofs.Numbered.{get_mapped}
 use Rattle.step_runner.proofs.SpeltLines.{list-range, range-get}
-use Rattle.step_runner.proofs.SpeltRun.{Spells, Run, items_fall, nothing, begun}
+use Rattle.step_runner.proofs.SpeltRun.{Run, items_fall, nothing, begun}
+use Rattle.step_runner.proofs.SpeltSoFar.{Spells}
 use Rattle.step_runner.proofs.TurnLemmas.{TurnsUse, valid_scripts}
 
 -- what all laws of turns say
@@ -55,10 +54,12 @@ run_kept laws plan goes =
     }
 
 -- at every moment
-pub run_falls : SpeltLaws → (plan : Plan) (over : Bool) → GoesOn plan → IsStateOf plan (start plan) → (list : List Turn) (worker : ℕ) → Falls plan over worker (all_made plan list (start plan)) (λ number. made_for plan worker number list (start plan)) (get_or (after_items plan list (start plan)).replies worker []) (misuse_of plan worker list (start plan))
+pub run_falls : SpeltLaws → (plan : Plan) (over : Bool) → GoesOn plan → IsStateOf plan (start plan) → (list : List Turn) (worker : ℕ)
+    → Falls plan over worker (all_made plan list (start plan)) (λ number. made_for plan worker number list (start plan)) (get_or (after_items plan list (start plan)).replies worker [])
+    (next_call plan worker (after_items plan list (start plan))) (misuse_of plan worker list (start plan))
 run_falls laws plan over goes of list worker =
     let run : Run plan (start plan) = record { standing = start_stands laws.stands plan of; keys = start_keys laws.keys plan (distinct_count (all_keys plan.scripts)) } in
-    items_fall laws.spells laws.stands laws.uses plan over goes (run_kept laws plan goes) list nothing (start plan) run (begun laws.spells laws.stands plan of run) worker
+    items_fall laws.spells laws.stands laws.uses plan over goes (run_kept laws plan goes) list nothing (start plan) run (begun laws.spells laws.stands plan of) worker
 
 -- ---- all workers
 
@@ -70,8 +71,8 @@ same_map : {X Y : Type 0} (f g : X → Y) → ((x : X) → f x ≡ g x) → (xs 
 same_map f g same [] = refl
 same_map f g same (x ∷ xs) = λ i. same x i ∷ same_map f g same xs i
 
-module _ (names : NamesAside) (plan : Plan) (made : List Item) (s : State) (of : IsStateOf plan s) (parts : ℕ → ℕ → List Item) (met : ℕ → Option Misuse) (outcome : Outcome)
-    (falls : (worker : ℕ) → Falls plan (is_over outcome) worker made (parts worker) (get_or s.replies worker []) (met worker)) (replies : (left_by outcome).replies ≡ numbered plan s.replies) where
+module _ (plan : Plan) (made : List Item) (s : State) (of : IsStateOf plan s) (parts : ℕ → ℕ → List Item) (met : ℕ → Option Misuse) (outcome : Outcome)
+    (falls : (worker : ℕ) → Falls plan (is_over outcome) worker made (parts worker) (get_or s.replies worker []) (next_call plan worker s) (met worker)) (replies : (left_by outcome).replies ≡ numbered plan s.replies) where
   abbrev line_of : ℕ → Line
   line_of worker = (falls worker).line
 
@@ -93,40 +94,35 @@ module _ (names : NamesAside) (plan : Plan) (made : List Item) (s : State) (of :
   each_line : (P : ℕ → Line → Type 0) → ((worker : ℕ) → P worker (line_of worker)) → (worker : ℕ) (line : Line) → slice_get lines worker ≡ Some line → P worker line
   each_line P is worker line at = subst (P worker) (ap line_of (sym (from_zero worker)) ∙ range-get line_of 0 plan.workers worker line at) (is worker)
 
-  -- it ends by the replies that the outcome shows
-  line_ends : (worker : ℕ) → (line_of worker).ending ≡ endings_of plan outcome met worker
-  line_ends worker =
-      let script = get_or plan.scripts worker [] in
-      let same : left_of script (get_or (left_by outcome).replies worker []) ≡ left_of script (get_or s.replies worker []) =
-      ap (λ (all : List (List (Reply ℕ))). left_of script (get_or all worker [])) replies ∙ left_numbered names plan worker s.replies in
-      (falls worker).ends ∙ ap (λ (l : List Call). cond (is_dormant plan worker) (stays_by (is_over outcome)) (ending_by (slice_get l 0) (met worker))) (sym same)
+  abbrev endings : ℕ → LineEnd
+  endings = endings_of plan outcome made s met
 
-  pub are_lines : (r : Record) → r.lists ≡ lists_of plan made (endings_of plan outcome met) → (lines : List Line) × AreLines plan r outcome lines × EndAs plan outcome met lines
+  pub are_lines : (r : Record) → r.lists ≡ lists_of plan made endings → (lines : List Line) × AreLines plan r outcome lines × EndAs endings lines
   are_lines r lists = (
     lines,
     record {
       count = length-map workers line_of ∙ length-range_with_len 0 plan.workers ∙ sym (valid_scripts plan of.valid);
       runs = each_line (λ worker line. RunsAlong (get_or plan.scripts worker []) (calls_made line) line.rest) (λ worker. (falls worker).runs);
       lists = two_maps line_of items_of workers
-          ∙ same_map (λ worker. items_of (line_of worker)) (λ worker. list_of plan made worker (endings_of plan outcome met worker)) (λ worker. (falls worker).items ∙ ap (list_of plan made worker) (line_ends worker)) workers ∙ sym lists;
+          ∙ same_map (λ worker. items_of (line_of worker)) (λ worker. list_of plan made worker (endings worker)) (λ worker. (falls worker).items ∙ ap (list_of plan made worker) (falls worker).ends) workers ∙ sym lists;
       replies = of_lines replies_of (numbered plan s.replies) (length-map s.replies (map (recorded_reply plan)) ∙ of.workers) (λ worker. (falls worker).replies ∙ sym (get_mapped (map (recorded_reply plan)) s.replies worker refl)) ∙ sym replies;
       each = each_line (IsLineOf plan) (λ worker. (falls worker).is);
     },
-    each_line (λ worker line. (line.ending ≡ endings_of plan outcome met worker) × (line.halts ≡ [])) (λ worker. (line_ends worker, (falls worker).halts)),
+    each_line (λ worker line. (line.ending ≡ endings worker) × (line.halts ≡ [])) (λ worker. ((falls worker).ends, (falls worker).halts)),
   )
 
 -- ---- at the end
 
 abbrev Lined : Plan → Outcome → ℕ → Type 0
 Lined plan outcome count = (r : Record)
-    → r.lists ≡ lists_of plan (all_made plan (plan.schedule ++ rounds count plan.workers) (start plan)) (endings_of plan outcome (λ worker. misuse_of plan worker (plan.schedule ++ rounds count plan.workers) (start plan)))
-    → (lines : List Line) × AreLines plan r outcome lines × EndAs plan outcome (λ worker. misuse_of plan worker (plan.schedule ++ rounds count plan.workers) (start plan)) lines
+    → r.lists ≡ lists_of plan (all_made plan (plan.schedule ++ rounds count plan.workers) (start plan)) (outcome_endings plan outcome (plan.schedule ++ rounds count plan.workers))
+    → (lines : List Line) × AreLines plan r outcome lines × EndAs (outcome_endings plan outcome (plan.schedule ++ rounds count plan.workers)) lines
 
 module _ (laws : SpeltLaws) (plan : Plan) (goes : GoesOn plan) (of : IsStateOf plan (start plan)) (kept : (list : List Turn) → IsStateOf plan (after_items plan list (start plan))) where
   lined : (outcome : Outcome) (count : ℕ) (s : State) (step : Step) → after_all plan (plan.schedule ++ rounds count plan.workers) (start plan) ≡ (s, step) → (left_by outcome).replies ≡ numbered plan s.replies → Lined plan outcome count
   lined outcome count s step is replies r lists =
       let turns = plan.schedule ++ rounds count plan.workers in
-      are_lines laws.spells.runs.names plan (all_made plan turns (start plan)) (after_items plan turns (start plan)) (kept turns) (λ worker number. made_for plan worker number turns (start plan)) (λ worker. misuse_of plan worker turns (start plan)) outcome
+      are_lines plan (all_made plan turns (start plan)) (after_items plan turns (start plan)) (kept turns) (λ worker number. made_for plan worker number turns (start plan)) (λ worker. misuse_of plan worker turns (start plan)) outcome
       (run_falls laws plan (is_over outcome) goes of turns) (replies ∙ ap (λ (x : State × Step). numbered plan x.0.replies) (sym is)) r lists
 
   pub outcome_lined : (outcome : Outcome) → StepsTo plan outcome → (count : ℕ) × Lined plan outcome count

@@ -1,15 +1,16 @@
--- What the items of a turn spell of its call, whether the call is a `waitfor` or one that makes one turn at its objects.
+-- What the items of a turn spell of its call, whether the call is a `waitfor`, a `go` or one that makes one turn at its objects.
 use Rattle.std.proofs.Common.{◌≡◌, ◌≢◌, ℕ, zero, suc, ◌+◌, ◌-◌, Bool, List, [], ◌++◌, map, length, filter, Option, None, refl, sym, ap, ◌∙◌, subst}
-use Rattle.std.specs.Prelude.{◌==◌}
+use Rattle.std.specs.Prelude.{◌==◌, pos}
 use Rattle.std.proofs.lemmas.List.Elements.{filter-append}
 use Rattle.script_calls.specs.declared.call.Call.{Call}
-use Rattle.script_calls.specs.declared.call.ComposedCall.TheVariants.{WaitFor}
+use Rattle.script_calls.specs.declared.call.ComposedCall.TheVariants.{WaitFor, Go}
 use Rattle.script_calls.specs.declared.call.Operation.{Operation}
 use Rattle.script_calls.specs.declared.call.Operation.TheVariants as operations
 use Rattle.script_calls.specs.declared.call.Reply.{Reply}
+use Rattle.sync_types.specs.declared.wait_call.WaitGroupCall.TheVariants as group_calls
 use Rattle.protocols.specs.Spelling.{CallAnswer}
 use Rattle.run_record.specs.Calls.{call_on, call_at, SpellsCall}
-use Rattle.run_record.specs.Objects.{atomic_number}
+use Rattle.run_record.specs.Objects.{atomic_number, starts_number}
 use Rattle.run_record.specs.Parts.{Part, and_then}
 use Rattle.run_record.specs.Record.{object_number, shared_in}
 use Rattle.run_record.specs.Tests.{compared, waits_for}
@@ -32,10 +33,12 @@ use Rattle.step_runner.specs.Stands.{IsOutBut}
 use Rattle.step_runner.specs.StandsWithin.{IsReadyWithin, waits_within, IsWithinCall, StandsAfter, left_within}
 use Rattle.step_runner.specs.Tells.{Tells}
 use Rattle.step_runner.specs.TurnAtObjects.{turn_at}
-use Rattle.step_runner.specs.TurnWithin.{wait_on, load_of, turn_within, items_within, wait_for_items}
+use Rattle.step_runner.specs.TurnWithin.{wait_on, load_of, add_one, turn_within, items_within, wait_for_items}
 use Rattle.step_runner.specs.Within.{IsIdle, IsWithin, StandsBehind}
 use Rattle.step_runner.proofs.Entered.{line_there}
-use Rattle.step_runner.proofs.GoesOn.{CanBe}
+use Rattle.step_runner.proofs.GoesOn.{CanBe, go_can}
+use Rattle.step_runner.proofs.GoSpelt.{left_go, own_go}
+use Rattle.step_runner.proofs.GoTurns.{group_there, start_own, start_no_others}
 use Rattle.step_runner.proofs.WaitBegins.{wait_there, wait_kept, waited_then, left_unbegun, left_begun}
 use Rattle.step_runner.proofs.WaitCan.{waits_can, waited_can, read_can}
 use Rattle.step_runner.proofs.WaitSpelt.{TurnLaws, own_within}
@@ -48,11 +51,13 @@ call_of place operation = record { object = place; operation = operation }
 
 abbrev IsPlain : Operation → Type 0
 IsPlain (operations.Composed (WaitFor atomic value tries)) = ⊥
+IsPlain (operations.Composed (Go started)) = ⊥
 IsPlain operation = Unit {0}
 
 stands_after : (worker place begun : ℕ) (operation : Operation) (a : Answer) (objects : List ObjectState) → IsPlain operation → let call = call_of place operation in
     StandsBehind worker call a objects → StandsAfter worker call a begun objects
 stands_after worker place begun (operations.Composed (WaitFor atomic value tries)) a objects plain stands = absurd plain
+stands_after worker place begun (operations.Composed (Go started)) a objects plain stands = absurd plain
 stands_after worker place begun operation answers.Still objects plain stands = stands
 stands_after worker place begun operation answers.Unfinished objects plain stands = stands
 stands_after worker place begun operation (answers.Completed reply) objects plain stands = stands
@@ -69,6 +74,8 @@ module _ (laws : TurnLaws) (plan : Plan) (worker before moment begun place : ℕ
       IsReadyWithin plan.workers worker call objects → EachAt (λ k. HasObjectKeysIn (all_keys plan.scripts)) objects → IsOutBut (waits_within (map kind_of objects) call begun) worker objects → IsWithinCall worker call begun objects → OwnSpelt call
   own_spelt (operations.Composed (WaitFor atomic value tries)) ready keys out within =
       own_within laws plan worker moment place atomic tries value before (before + length (shared_in (recorded plan before (wait_for_items worker moment place atomic value tries begun objects)))) begun objects ready keys out within
+  own_spelt (operations.Composed (Go started)) ready keys out within =
+      own_go plan worker place started laws before (before + length (shared_in (recorded plan before (items_within (call_of place (operations.Composed (Go started))) worker moment begun objects)))) moment begun objects ready keys out within
   own_spelt operation ready keys out within =
       let call = call_of place operation in
       let told = laws.own plan worker before moment call objects ready keys out within in
@@ -90,6 +97,7 @@ ready_on : (laws : OtherLaws) (workers worker other moment place : ℕ) (operati
     IsReadyWithin workers worker own objects → IsReady workers other call objects → IsReadyWithin workers worker own (turn_at call other moment objects).0
 ready_on laws workers worker other moment place (operations.Composed (WaitFor atomic value tries)) call objects ready by =
     (laws.ready workers other moment worker call (wait_on place) objects by ready.0, laws.ready workers other moment worker call (load_of atomic) objects by ready.1)
+ready_on laws workers worker other moment place (operations.Composed (Go started)) call objects ready by = laws.ready workers other moment worker call (add_one place) objects by ready
 ready_on laws workers worker other moment place operation call objects ready by = laws.ready workers other moment worker call (call_of place operation) objects by ready
 
 waited_as : (old new : Part (Reply ℕ)) (next : Part Bool) → ((items : List Made) (answer : CallAnswer (Reply ℕ)) → new items answer → old items answer) → (items : List Made) (answer : CallAnswer (Reply ℕ)) → waited_then new next items answer → waited_then old next items answer
@@ -125,6 +133,13 @@ module _ (laws : OtherLaws) (plan : Plan) (worker other before moment : ℕ) (ap
             (waited_as (left_at plan worker before (wait_on place) objects) (left_at plan worker before (wait_on place) new) rest kept.1 items answer
             (subst (λ (P : Part (Reply ℕ)). P items answer) (left_begun plan plan.workers worker before place w.0 new n atomic tries value begun) left)),
       )
+  one_kept place (operations.Composed (Go started)) begun call objects ready by =
+      let new = (turn_at call other moment objects).0 in
+      let w = group_there plan.workers worker place (group_calls.Add (pos 1)) objects ready in
+      let n = group_there plan.workers worker place (group_calls.Add (pos 1)) new (laws.ready plan.workers other moment worker call (add_one place) objects by ready) in (
+        (laws.others plan worker other before moment (add_one place) call objects ready by apart).0,
+        λ items answer left. subst (λ (P : Part (Reply ℕ)). P items answer) (left_go plan worker place started before new n begun ∙ sym (left_go plan worker place started before objects w begun)) left,
+      )
   one_kept place operation begun call objects ready by = laws.others plan worker other before moment (call_of place operation) call objects ready by apart
 
   -- behind any turn
@@ -139,6 +154,7 @@ module _ (laws : OtherLaws) (plan : Plan) (worker other before moment : ℕ) (ap
           (laws.ready plan.workers other moment other (wait_on place) (wait_on place) new is.1.0 is.1.0, (λ within. kept.0 (is.1.1.0 within), λ items answer left. is.1.1.1 items answer (kept.1 items answer left))),
         ))
         later objects (ready, (by.0, (λ within. within, λ items answer left. left)))).1.1
+    others_kept (operations.Composed (Go started)) by = one_kept own.object own.operation begun (add_one place) objects ready by
     others_kept operation by = one_kept own.object own.operation begun (call_of place operation) objects ready by
 
 -- who is idle stays so
@@ -147,6 +163,7 @@ pub idle_kept : (laws : OtherLaws) (workers worker other moment begun place : �
 idle_kept laws workers worker other moment begun place (operations.Composed (WaitFor atomic value tries)) objects apart by idle =
     (turns_keep other moment place atomic value tries (λ new. IsReady workers other (wait_on place) new × EachAt (λ k. IsIdle worker) new)
     (λ new is. (laws.ready workers other moment other (wait_on place) (wait_on place) new is.0 is.0, laws.idle workers worker other moment (wait_on place) new is.0 apart is.1)) begun objects (by.0, idle)).1
+idle_kept laws workers worker other moment begun place (operations.Composed (Go started)) objects apart by idle = laws.idle workers worker other moment (add_one place) objects by apart idle
 idle_kept laws workers worker other moment begun place operation objects apart by idle = laws.idle workers worker other moment (call_of place operation) objects by apart idle
 
 -- ---- the next call
@@ -170,6 +187,16 @@ enters_whole law plan worker before place (operations.Composed (WaitFor atomic v
           (left_unbegun plan plan.workers worker before place w.0 objects w.1 atomic tries value ∙ ap (λ (k : ObjectKind). call_on plan worker before place k operation) line.2
           ∙ ap (λ (l : Option ObjectLine). call_at plan worker before place l operation) (sym line.1)) left,
     )
+enters_whole law plan worker before place (operations.Composed (Go started)) objects ready same idle out =
+    let w = group_there plan.workers worker place (group_calls.Add (pos 1)) objects ready in
+    let operation = operations.Composed (Go started) in
+    let line = line_there plan objects place (states.WaitGroup w.g w.first) same w.there in (
+      (law plan worker before (add_one place) objects ready same idle out).0,
+      λ items answer left.
+          subst (λ (P : Part (Reply ℕ)). P items answer)
+          (left_go plan worker place started before objects w 0 ∙ ap (λ (k : ObjectKind). call_on plan worker before place k operation) line.2
+          ∙ ap (λ (l : Option ObjectLine). call_at plan worker before place l operation) (sym line.1)) left,
+    )
 enters_whole law plan worker before place operation objects ready same idle out = law plan worker before (call_of place operation) objects ready same idle out
 
 abbrev pub GoesOnAt : Type 0
@@ -189,6 +216,9 @@ goes_on law plan worker before place (operations.Composed (WaitFor atomic value 
     let first = left_at plan worker before (wait_on place) objects in
     subst (λ (P : Part (Reply ℕ)). CanBe P) (sym (left_begun plan plan.workers worker before place w.0 objects w.1 atomic tries value begun))
     (read_can compared (and_then first (λ waited. rest)) (waited_can first rest (law plan worker before (wait_on place) objects ready.0) (waits_can plan (object_number place) (object_number w.0) a value (tries - suc begun))))
+goes_on law plan worker before place (operations.Composed (Go started)) begun objects ready =
+    let w = group_there plan.workers worker place (group_calls.Add (pos 1)) objects ready in
+    subst (λ (P : Part (Reply ℕ)). CanBe P) (sym (left_go plan worker place started before objects w begun)) (go_can (object_number place) (starts_number plan) started)
 goes_on law plan worker before place operation begun objects ready = law plan worker before (call_of place operation) objects ready
 
 -- ---- whose items they are
@@ -204,6 +234,9 @@ pub own_items : AreOwn → (worker moment begun place : ℕ) (operation : Operat
 own_items law worker moment begun place (operations.Composed (WaitFor atomic value tries)) objects =
     all_items worker moment place atomic value tries (λ made. filter (λ (item : Item). item.caller == worker) made ≡ made) refl
     (λ one two is are. filter-append (λ (item : Item). item.caller == worker) one two ∙ (λ i. is i ++ are i)) (law worker moment) begun objects
+own_items law worker moment begun place (operations.Composed (Go started)) objects =
+    let add = add_one place in
+    start_own worker (length objects) started (items_at add worker moment objects) (turn_at add worker moment objects).1 (law worker moment add objects)
 own_items law worker moment begun place operation objects = law worker moment (call_of place operation) objects
 
 pub no_others : AreNoOthers → (worker other moment begun place : ℕ) (operation : Operation) (objects : List ObjectState) → worker ≢ other
@@ -211,4 +244,7 @@ pub no_others : AreNoOthers → (worker other moment begun place : ℕ) (operati
 no_others law worker other moment begun place (operations.Composed (WaitFor atomic value tries)) objects apart =
     all_items worker moment place atomic value tries (λ made. filter (λ (item : Item). item.caller == other) made ≡ []) refl
     (λ one two is are. filter-append (λ (item : Item). item.caller == other) one two ∙ (λ i. is i ++ are i)) (λ call objects. law worker other moment call objects apart) begun objects
+no_others law worker other moment begun place (operations.Composed (Go started)) objects apart =
+    let add = add_one place in
+    start_no_others worker (length objects) started (items_at add worker moment objects) (turn_at add worker moment objects).1 other apart (law worker other moment add objects apart)
 no_others law worker other moment begun place operation objects apart = law worker other moment (call_of place operation) objects apart

@@ -1,15 +1,17 @@
 -- The state in which a run begins.
-use Rattle.std.proofs.Common.{◌≡◌, ℕ, zero, suc, ◌+◌, ◌≤◌, true, List, [], ◌∷◌, map, length, get_or, replicate, subst, refl, sym, arith}
-use Rattle.std.proofs.lemmas.List.{length-replicate}
+use Rattle.std.proofs.Common.{◌≡◌, ℕ, zero, suc, ◌+◌, ◌<◌, ◌≤◌, Bool, true, false, List, [], ◌∷◌, map, length, get_or, replicate, subst, refl, sym, ◌∙◌, arith}
+use Rattle.std.proofs.lemmas.List.{length-map, length-replicate}
 use Rattle.script_calls.specs.Runs.{made_of}
 use Rattle.script_calls.specs.declared.call.Reply.{Reply}
 use Rattle.workload.specs.declared.object.ObjectKind.{ObjectKind}
 use Rattle.workload.specs.declared.object.ObjectLine.{ObjectLine}
-use Rattle.workload.specs.Plan.{Plan, is_valid}
+use Rattle.workload.specs.Plan.{Plan, is_dormant, is_valid}
 use Rattle.step_runner.specs.declared.turns.object_state.ObjectState.{ObjectState}
 use Rattle.step_runner.specs.Objects.{new_object, kind_of, IsMachineOf, EachAt}
 use Rattle.workload.specs.Puts.{puts_at}
-use Rattle.step_runner.specs.State.{start, new_objects, IsStateOf}
+use Rattle.step_runner.specs.declared.state.Stand.TheVariants.{Gone}
+use Rattle.step_runner.specs.State.{first_stand, start, stand_of, new_objects, StandsSo, IsStateOf}
+use Rattle.step_runner.proofs.TurnLemmas.{valid_dormant}
 
 -- what is so of each new object is so of all
 each_new : (P : ℕ → ObjectState → Type 0) (plan : Plan) → ((place : ℕ) (kind : ObjectKind) → P place (new_object plan.workers (puts_at place plan.scripts) kind))
@@ -46,6 +48,19 @@ none_begun zero k = refl
 none_begun (suc n) zero = refl
 none_begun (suc n) (suc k) = none_begun n k
 
+-- whoever waits to be started has no replies, and any other is live
+stands_from : (dormant : List Bool) (k : ℕ) → k < length dormant → get_or (map first_stand dormant) k Gone ≡ first_stand (get_or dormant k false)
+stands_from [] k below = absurd (omega (arith, below))
+stands_from (waits ∷ dormant) zero below = refl
+stands_from (waits ∷ dormant) (suc k) below = stands_from dormant k (omega (arith, below))
+
+pub first_stands : (plan : Plan) (k : ℕ) → is_valid plan ≡ true → k < plan.workers → stand_of k (start plan) ≡ first_stand (is_dormant plan k)
+first_stands plan k valid below = stands_from plan.dormant k (omega (arith, below, valid_dormant plan valid))
+
+stands_so : (plan : Plan) (k : ℕ) (given : List (Reply (List ℕ))) (waits : Bool) → is_dormant plan k ≡ waits → given ≡ [] → StandsSo plan k given (first_stand waits)
+stands_so plan k given true waits none = (waits, none)
+stands_so plan k given false waits none = tt
+
 pub start_is : Begins → (plan : Plan) → is_valid plan ≡ true → IsStateOf plan (start plan)
 start_is begins plan valid = record {
   valid = valid;
@@ -56,4 +71,6 @@ start_is begins plan valid = record {
   waits = length-replicate plan.workers 0;
   few = λ k. omega (arith, none_begun plan.workers k);
   made = λ k. subst (λ (replies : List (Reply (List ℕ))). length (made_of (get_or plan.scripts k []) replies) ≡ length replies) (sym (none_replied plan.workers k)) refl;
+  count = length-map plan.dormant first_stand ∙ valid_dormant plan valid;
+  each = λ k below. subst (StandsSo plan k (get_or (start plan).replies k [])) (sym (first_stands plan k valid below)) (stands_so plan k (get_or (start plan).replies k []) (is_dormant plan k) refl (none_replied plan.workers k));
 }

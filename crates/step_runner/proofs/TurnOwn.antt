@@ -10,7 +10,7 @@ use Rattle.sync_types.specs.declared.atomic_object.AtomicCall.TheVariants.{Load,
 use Rattle.sync_types.specs.declared.atomic_object.AtomicReply.TheVariants.{Held}
 use Rattle.sync_types.specs.declared.atomic_object.Number.{Number}
 use Rattle.sync_types.specs.declared.atomic_object.Number.TheVariants.{Int64}
-use Rattle.script_calls.specs.declared.call.ComposedCall.TheVariants.{IfEqual, WaitFor}
+use Rattle.script_calls.specs.declared.call.ComposedCall.TheVariants.{IfEqual, WaitFor, Go}
 use Rattle.script_calls.specs.declared.call.Operation.{Operation}
 use Rattle.script_calls.specs.declared.call.Operation.TheVariants as operations
 use Rattle.script_calls.specs.declared.call.Reply.TheVariants as replies
@@ -119,6 +119,11 @@ once_refers o has alone = cc
 pub wait_for_alone : (o : ObjectState) (atomic tries : ℕ) (value : Number) → has_call (kind_of o) (operations.Composed (WaitFor atomic value tries)) ≡ true → ⊥
 wait_for_alone (states.Atomic number) atomic tries value has = cc
 wait_for_alone o atomic tries value has = cc
+
+-- nor a `go`
+pub go_alone : (o : ObjectState) (started : ℕ) → has_call (kind_of o) (operations.Composed (Go started)) ≡ true → ⊥
+go_alone (states.Atomic number) started has = cc
+go_alone o started has = cc
 
 -- where the worker stands behind its turn at two objects
 abbrev pub BehindBoth : Operation → ℕ → Answer → ObjectState → ObjectState → Type 0
@@ -236,6 +241,7 @@ module _ (laws : Laws) (plan : Plan) (worker before place moment : ℕ) where
   turn_own (operations.Cond call) o has alone below is keys out stands = absurd (cond_refers o call has alone)
   turn_own operations.Once o has alone below is keys out stands = absurd (once_refers o has alone)
   turn_own (operations.Composed (WaitFor atomic number tries)) o has alone below is keys out stands = absurd (wait_for_alone o atomic tries number has)
+  turn_own (operations.Composed (Go started)) o has alone below is keys out stands = absurd (go_alone o started has)
   turn_own operation o has alone below is keys out stands = absurd cc
 
   -- ---- at two objects

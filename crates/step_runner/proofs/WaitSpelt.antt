@@ -93,13 +93,14 @@ module _ (plan : Plan) where
   in_front old after new earlier made (answers.Completed reply) on is told = on made (Done (Ok (recorded_reply plan reply))) told
   in_front old after new earlier made (answers.Misused misuse) on is told = on made (Done (Err misuse)) told
 
-  module _ (old new : Part (Reply ℕ)) (next : Part Bool) where
-    goes_on : (made later : List Made) (answer : CallAnswer Bool) → Tells plan old new made answers.Unfinished → and_then new (λ waited. next) later answer → and_then old (λ waited. next) (made ++ later) answer
-    goes_on made later answer tells (earlier, rest, mid, is, spelt, behind) =
-        (made ++ earlier, rest, mid, ap (λ (l : List Made). made ++ l) is ∙ sym (append_assoc made earlier rest), tells earlier mid spelt, behind)
+  -- what comes behind a part comes behind what its first items leave
+  pub goes_on : {P : Type 0} (old new : Part (Reply ℕ)) (next : Reply ℕ → Part P) (made later : List Made) (answer : CallAnswer P) → Tells plan old new made answers.Unfinished → and_then new next later answer → and_then old next (made ++ later) answer
+  goes_on old new next made later answer tells (earlier, rest, mid, is, spelt, behind) =
+      (made ++ earlier, rest, mid, ap (λ (l : List Made). made ++ l) is ∙ sym (append_assoc made earlier rest), tells earlier mid spelt, behind)
 
+  module _ (old new : Part (Reply ℕ)) (next : Part Bool) where
     wait_goes_on : (made later : List Made) (answer : CallAnswer (Reply ℕ)) → Tells plan old new made answers.Unfinished → waited_then new next later answer → waited_then old next (made ++ later) answer
-    wait_goes_on made later answer tells (given, spelt, same) = (given, goes_on made later given tells spelt, same)
+    wait_goes_on made later answer tells (given, spelt, same) = (given, goes_on old new (λ waited. next) made later given tells spelt, same)
 
     -- what the items of a wait's turn are of the wait, they are of the call, as long as the wait hasn't returned
     wait_tells : (made : List Made) (a : Answer) → HasNotReturned a → Tells plan old new made a → Tells plan (waited_then old next) (waited_then new next) made a

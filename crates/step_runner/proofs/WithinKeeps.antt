@@ -4,9 +4,10 @@ use Rattle.std.specs.Prelude.{if◌then◌else◌}
 use Rattle.std.proofs.lemmas.Bool.{false≢true}
 use Rattle.sync_types.specs.declared.atomic_object.Number.{Number}
 use Rattle.script_calls.specs.declared.call.Call.{Call}
-use Rattle.script_calls.specs.declared.call.ComposedCall.TheVariants.{WaitFor}
+use Rattle.script_calls.specs.declared.call.ComposedCall.TheVariants.{WaitFor, Go}
 use Rattle.script_calls.specs.declared.call.Operation.{Operation}
 use Rattle.script_calls.specs.declared.call.Operation.TheVariants as operations
+use Rattle.script_calls.specs.declared.call.Reply.TheVariants as replies
 use Rattle.sync_types.specs.declared.wait_call.CondCall.TheVariants as cond_calls
 use Rattle.workload.specs.Draft.{keys_of, distinct_count}
 use Rattle.workload.specs.Puts.{is_put}
@@ -25,7 +26,7 @@ use Rattle.step_runner.specs.ReplyForm.{HasForm}
 use Rattle.step_runner.specs.Stands.{IsOutBut, waits_at, waits_behind}
 use Rattle.step_runner.specs.StandsWithin.{ReadyBy, IsReadyWithin, waits_by, waits_within}
 use Rattle.step_runner.specs.TurnAtObjects.{turn_at}
-use Rattle.step_runner.specs.TurnWithin.{wait_on, Taken, begin_wait, wait_for_turn, turn_by_operation, turn_within}
+use Rattle.step_runner.specs.TurnWithin.{wait_on, add_one, Taken, begin_wait, wait_for_turn, turn_by_operation, turn_within}
 use Rattle.step_runner.proofs.TurnsWithin.{Steps, takes, begun_objects, turns_keep}
 use Rattle.step_runner.proofs.WithinLemmas.{Any, Both, Stays, both_stay, Kinds, begun_answer, begun_waits}
 
@@ -64,6 +65,7 @@ module _ (law : KeysLaw) (names : List (List ℕ)) (most worker moment : ℕ) (r
   by_keys : (operation : Operation) (call : Call) (begun : ℕ) (objects : List ObjectState) → AreAmong names (keys_of call) → Named objects
       → Named (turn_by_operation call worker moment begun objects operation).0.0 × ShowsTo most (turn_by_operation call worker moment begun objects operation).1
   by_keys (operations.Composed (WaitFor atomic value tries)) call begun objects among named = takes worker moment call.object atomic value tries Any Shown Shown (key_steps call.object atomic value tries) begun objects tt named
+  by_keys (operations.Composed (Go started)) call begun objects among named = law names most worker moment (add_one call.object) objects none_among room named
   by_keys operation call begun objects among named = law names most worker moment call objects among room named
 
 pub within_keys : KeysLaw → (names : List (List ℕ)) (most worker moment begun : ℕ) (call : Call) (objects : List ObjectState) → AreAmong names (keys_of call) → distinct_count names ≤ most → EachAt (λ place. HasObjectKeysIn names) objects
@@ -94,11 +96,17 @@ module _ (law : RoomLaw) (worker moment : ℕ) (left : ℕ → ℕ) where
   abbrev Room : List ObjectState → Type 0
   Room objects = EachAt (λ place. HasRoomFor (left place)) objects
 
+  -- a call that is no put leaves all room
+  other_room : (call : Call) → ((k : ℕ) → put_of k call ≡ 0) → (objects : List ObjectState) → Room objects → Room (turn_at call worker moment objects).0
+  other_room call none objects room place object at =
+      let step = turn_at call worker moment objects in
+      subst (λ (n : ℕ). HasRoomFor n object) (left_same step.1 (put_of place call) (left place) (none place)) (law worker moment left call objects (omega (arith, none call.object)) room place object at)
+
   wait_room : (cond : ℕ) (objects : List ObjectState) → Room objects → Room (turn_at (wait_on cond) worker moment objects).0
-  wait_room cond objects room place object at =
-      let none : (k : ℕ) → put_of k (wait_on cond) ≡ 0 = λ k. no_put k cond (operations.Cond cond_calls.Wait) refl in
-      let step = turn_at (wait_on cond) worker moment objects in
-      subst (λ (n : ℕ). HasRoomFor n object) (left_same step.1 (put_of place (wait_on cond)) (left place) (none place)) (law worker moment left (wait_on cond) objects (omega (arith, none cond)) room place object at)
+  wait_room cond = other_room (wait_on cond) (λ k. no_put k cond (operations.Cond cond_calls.Wait) refl)
+
+  add_room : (group : ℕ) (objects : List ObjectState) → Room objects → Room (turn_at (add_one group) worker moment objects).0
+  add_room group = other_room (add_one group) (λ k. no_put k group (add_one group).operation refl)
 
   by_room : (operation : Operation) (object begun : ℕ) (objects : List ObjectState) → let call : Call = record { object = object; operation = operation } in put_of object call ≤ left object → Room objects
       → EachAt (λ place. HasRoomFor (left_behind (turn_by_operation call worker moment begun objects operation).1 (put_of place call) (left place))) (turn_by_operation call worker moment begun objects operation).0.0
@@ -106,6 +114,8 @@ module _ (law : RoomLaw) (worker moment : ℕ) (left : ℕ → ℕ) where
       let taken = wait_for_turn worker moment object atomic value tries begun objects in
       subst (λ (n : ℕ). HasRoomFor n o) (sym (left_same taken.1 _ (left place) (no_put place object (operations.Composed (WaitFor atomic value tries)) refl)))
       (turns_keep worker moment object atomic value tries Room (wait_room object) begun objects room place o at)
+  by_room (operations.Composed (Go started)) object begun objects few room place o at =
+      subst (λ (n : ℕ). HasRoomFor n o) (sym (left_same (turn_at (add_one object) worker moment objects).1 _ (left place) (no_put place object (operations.Composed (Go started)) refl))) (add_room object objects room place o at)
   by_room operation object begun objects few room place o at = law worker moment left (record { object = object; operation = operation }) objects few room place o at
 
 pub within_room : RoomLaw → (worker moment begun : ℕ) (left : ℕ → ℕ) (call : Call) (objects : List ObjectState) → put_of call.object call ≤ left call.object → EachAt (λ place. HasRoomFor (left place)) objects
@@ -129,6 +139,12 @@ completed_out (answers.Completed reply) at worker objects completed out = out
 completed_out (answers.Misused misuse) at worker objects completed out = absurd completed
 
 module _ (law : OwnLaw) (stays : Stays) (all : Kinds) (workers worker moment : ℕ) (kinds : List ObjectKind) (call : Call) where
+  at_out : (own : Call) (objects : List ObjectState) → IsReady workers worker own objects → map kind_of objects ≡ kinds → IsOutBut (waits_at kinds own) worker objects
+      → IsOutBut (waits_behind (turn_at own worker moment objects).1 (waits_at kinds own)) worker (turn_at own worker moment objects).0
+  at_out own objects ready of =
+      let step = turn_at own worker moment objects in
+      subst (λ (ks : List ObjectKind). IsOutBut (waits_at ks own) worker objects → IsOutBut (waits_behind step.1 (waits_at ks own)) worker step.0) of (law workers worker moment own objects ready)
+
   module _ (atomic : ℕ) (value : Number) (tries : ℕ) where
     abbrev Waits : ℕ → Option ℕ
     Waits begun = waits_by kinds call (operations.Composed (WaitFor atomic value tries)) begun
@@ -155,10 +171,7 @@ module _ (law : OwnLaw) (stays : Stays) (all : Kinds) (workers worker moment : �
         by_answer (objects, answers.Misused misuse) out = out
 
     wait_out : (objects : List ObjectState) → BothOf objects → IsOutBut At worker objects → IsOutBut (waits_behind (turn_at (wait_on call.object) worker moment objects).1 At) worker (turn_at (wait_on call.object) worker moment objects).0
-    wait_out objects both =
-        let step = turn_at (wait_on call.object) worker moment objects in
-        subst (λ (ks : List ObjectKind). IsOutBut (waits_at ks (wait_on call.object)) worker objects → IsOutBut (waits_behind step.1 (waits_at ks (wait_on call.object))) worker step.0) both.1
-        (law workers worker moment (wait_on call.object) objects both.0.0)
+    wait_out objects both = at_out (wait_on call.object) objects both.0.0 both.1
 
     out_steps : Steps worker moment call.object atomic value tries BothOf LookOut TurnOut
     out_steps = record {
@@ -177,9 +190,8 @@ module _ (law : OwnLaw) (stays : Stays) (all : Kinds) (workers worker moment : �
       (turn_by_operation call worker moment begun objects operation).0.0
   by_out (operations.Composed (WaitFor atomic value tries)) begun objects ready of out =
       takes worker moment call.object atomic value tries (BothOf atomic value tries) (LookOut atomic value tries) (TurnOut atomic value tries) (out_steps atomic value tries) begun objects (ready, of) out
-  by_out operation begun objects ready of out =
-      let step = turn_at call worker moment objects in
-      subst (λ (ks : List ObjectKind). IsOutBut (waits_at ks call) worker objects → IsOutBut (waits_behind step.1 (waits_at ks call)) worker step.0) of (law workers worker moment call objects ready) out
+  by_out (operations.Composed (Go started)) begun objects ready of out = at_out (add_one call.object) objects ready of out
+  by_out operation begun objects ready of out = at_out call objects ready of out
 
 pub within_out : OwnLaw → Stays → Kinds → (workers worker moment begun : ℕ) (call : Call) (objects : List ObjectState) → IsReadyWithin workers worker call objects → IsOutBut (waits_within (map kind_of objects) call begun) worker objects
     → IsOutBut (waits_behind (turn_within call worker moment begun objects).1 (waits_within (map kind_of objects) call (turn_within call worker moment begun objects).0.1)) worker (turn_within call worker moment begun objects).0.0
@@ -207,6 +219,14 @@ module _ (worker moment cond atomic : ℕ) (value : Number) (tries : ℕ) where
     returned = λ begun objects later taken before completed looks. looks;
   }
 
+-- a `go` has the reply of its `add`
+go_form : (group started : ℕ) (a : Answer) → HasForm (add_one group).operation a → HasForm (operations.Composed (Go started)) a
+go_form group started answers.Still form = tt
+go_form group started answers.Unfinished form = tt
+go_form group started (answers.Completed replies.Returned) form = refl
+go_form group started (answers.Completed reply) form = absurd (false≢true form)
+go_form group started (answers.Misused misuse) form = tt
+
 abbrev pub FormLaw : Type 0
 FormLaw = (workers worker moment : ℕ) (call : Call) (objects : List ObjectState) → IsReady workers worker call objects → IsOutBut (waits_at (map kind_of objects) call) worker objects
     → HasForm call.operation (turn_at call worker moment objects).1
@@ -215,6 +235,8 @@ by_form : FormLaw → (operation : Operation) (workers worker moment object begu
     → IsOutBut (waits_by (map kind_of objects) call operation begun) worker objects → HasForm operation (turn_by_operation call worker moment begun objects operation).1
 by_form law (operations.Composed (WaitFor atomic value tries)) workers worker moment object begun objects ready out =
     takes worker moment object atomic value tries Any (Formed worker moment object atomic value tries) (Formed worker moment object atomic value tries) (form_steps worker moment object atomic value tries) begun objects tt
+by_form law (operations.Composed (Go started)) workers worker moment object begun objects ready out =
+    go_form object started (turn_at (add_one object) worker moment objects).1 (law workers worker moment (add_one object) objects ready out)
 by_form law operation workers worker moment object begun objects ready out = law workers worker moment (record { object = object; operation = operation }) objects ready out
 
 pub within_form : FormLaw → (workers worker moment begun : ℕ) (call : Call) (objects : List ObjectState) → IsReadyWithin workers worker call objects → IsOutBut (waits_within (map kind_of objects) call begun) worker objects
@@ -229,6 +251,7 @@ CompletesLaw = (workers worker moment : ℕ) (call : Call) (objects : List Objec
 by_completes : CompletesLaw → (operation : Operation) (workers worker moment object begun : ℕ) (objects : List ObjectState) → let call : Call = record { object = object; operation = operation } in takes_one_turn operation ≡ true
     → ReadyBy workers worker call objects operation → IsCompleted (turn_by_operation call worker moment begun objects operation).1
 by_completes law (operations.Composed (WaitFor atomic value tries)) workers worker moment object begun objects one ready = absurd (false≢true one)
+by_completes law (operations.Composed (Go started)) workers worker moment object begun objects one ready = absurd (false≢true one)
 by_completes law operation workers worker moment object begun objects one ready = law workers worker moment (record { object = object; operation = operation }) objects one ready
 
 pub within_completes : CompletesLaw → (workers worker moment begun : ℕ) (call : Call) (objects : List ObjectState) → takes_one_turn call.operation ≡ true → IsReadyWithin workers worker call objects → IsCompleted (turn_within call worker moment begun objects).1

@@ -1,11 +1,11 @@
 -- How many turns are left behind a turn before a call or within it, and whom it tells to go on.
-use Rattle.std.proofs.Common.{◌≡◌, ◌≢◌, ℕ, zero, suc, ◌+◌, ◌-◌, ◌*◌, ◌<◌, ◌≤◌, Bool, true, false, ◌||◌, List, ◌++◌, map, refl, sym, ap, ◌∙◌, subst, arith}
+use Rattle.std.proofs.Common.{◌≡◌, ◌≢◌, ℕ, zero, suc, ◌+◌, ◌-◌, ◌*◌, ◌<◌, ◌≤◌, Bool, true, false, ◌||◌, List, ◌++◌, length, map, refl, sym, ap, ◌∙◌, subst, arith}
 use Rattle.std.proofs.lemmas.Bool.{false≢true}
 use Rattle.std.proofs.lemmas.List.{append-nil}
 use Rattle.std.proofs.lemmas.List.Folds.{list_any-append}
 use Rattle.sync_types.specs.declared.atomic_object.Number.{Number}
 use Rattle.script_calls.specs.declared.call.Call.{Call}
-use Rattle.script_calls.specs.declared.call.ComposedCall.TheVariants.{WaitFor}
+use Rattle.script_calls.specs.declared.call.ComposedCall.TheVariants.{WaitFor, Go}
 use Rattle.script_calls.specs.declared.call.Operation.{Operation}
 use Rattle.script_calls.specs.declared.call.Operation.TheVariants as operations
 use Rattle.workload.specs.Draft.{tries_of}
@@ -18,8 +18,9 @@ use Rattle.step_runner.specs.Objects.{kind_of}
 use Rattle.step_runner.specs.Ready.{IsReady}
 use Rattle.step_runner.specs.StandsWithin.{ReadyBy, IsReadyWithin, most_turns, turns_by_operation, turns_within}
 use Rattle.step_runner.specs.TurnAtObjects.{turn_at}
-use Rattle.step_runner.specs.TurnWithin.{wait_on, Taken, begin_wait, turn_by_operation, turn_within, items_by_operation, items_within}
+use Rattle.step_runner.specs.TurnWithin.{wait_on, add_one, Taken, begin_wait, turn_by_operation, turn_within, items_by_operation, items_within}
 use Rattle.step_runner.specs.TurnsLeft.{turns_left, TakesBy, is_told, TellsOwn}
+use Rattle.step_runner.proofs.GoTurns.{start_back}
 use Rattle.step_runner.proofs.TurnsWithin.{Steps, takes, Leading, led}
 use Rattle.step_runner.proofs.WithinLemmas.{Both, Stays, both_stay, Kinds, among, load_back, begun_waits}
 
@@ -31,6 +32,7 @@ MostLaw = (worker : ℕ) (call : Call) (objects : List ObjectState) → turns_le
 by_most : MostLaw → (operation : Operation) (worker begun : ℕ) (call : Call) (objects : List ObjectState) → begun ≤ tries_of operation → turns_by_operation (map kind_of objects) call worker objects operation begun ≤ most_turns operation
 by_most law (operations.Composed (WaitFor atomic value tries)) worker zero call objects few = omega arith
 by_most law (operations.Composed (WaitFor atomic value tries)) worker (suc begun) call objects few = omega (arith, few, law worker (wait_on call.object) objects)
+by_most law (operations.Composed (Go started)) worker begun call objects few = law worker (add_one call.object) objects
 by_most law operation worker begun call objects few = law worker call objects
 
 pub within_most : MostLaw → (worker begun : ℕ) (call : Call) (objects : List ObjectState) → begun ≤ tries_of call.operation → turns_within (map kind_of objects) call worker objects begun ≤ most_turns call.operation
@@ -44,6 +46,7 @@ by_left : (operation : Operation) (kinds : List ObjectKind) (worker begun : ℕ)
     → turns_by_operation kinds own worker new operation begun ≤ turns_by_operation kinds own worker old operation begun
 by_left (operations.Composed (WaitFor atomic value tries)) kinds worker zero own old new fewer = omega arith
 by_left (operations.Composed (WaitFor atomic value tries)) kinds worker (suc begun) own old new fewer = omega (arith, fewer (wait_on own.object))
+by_left (operations.Composed (Go started)) kinds worker begun own old new fewer = fewer (add_one own.object)
 by_left operation kinds worker begun own old new fewer = fewer own
 
 pub others_within : OthersLaw → Stays → Kinds → (workers worker other moment begun later : ℕ) (own call : Call) (objects : List ObjectState) → IsReadyWithin workers other call objects → worker ≢ other
@@ -53,7 +56,8 @@ others_within law stays all workers worker other moment begun later own call obj
     by_left own.operation kinds worker begun own objects (turn_within call other moment later objects).0.0
     (among stays all workers other moment kinds (λ old made new. (any : Call) → turns_left kinds any worker new ≤ turns_left kinds any worker old) (λ objects any. omega arith)
     (λ first middle last made later one two any. omega (arith, one any, two any))
-    (λ call old r of any. subst (λ (ks : List ObjectKind). turns_left ks any worker (turn_at call other moment old).0 ≤ turns_left ks any worker old) of (law workers worker other moment any call old r apart)) call later objects ready refl)
+    (λ call old r of any. subst (λ (ks : List ObjectKind). turns_left ks any worker (turn_at call other moment old).0 ≤ turns_left ks any worker old) of (law workers worker other moment any call old r apart))
+    (λ started objects any. omega arith) call later objects ready refl)
 
 abbrev pub OwnTakes : Type 0
 OwnTakes = (workers worker moment : ℕ) (call : Call) (objects : List ObjectState) → IsReady workers worker call objects
@@ -84,6 +88,12 @@ module _ (law : OwnTakes) (most : MostLaw) (stays : Stays) (all : Kinds) (worker
   at_most_four : (own : Call) (objects : List ObjectState) → map kind_of objects ≡ kinds → turns_left kinds own worker objects ≤ 4
   at_most_four own objects of = subst (λ (ks : List ObjectKind). turns_left ks own worker objects ≤ 4) of (most worker own objects)
 
+  at_takes : (own : Call) (objects : List ObjectState) → IsReady workers worker own objects → map kind_of objects ≡ kinds
+      → let step = turn_at own worker moment objects in TakesBy (goes_back (items_at own worker moment objects)) (turns_left kinds own worker objects) (turns_left kinds own worker step.0) step.1
+  at_takes own objects ready of =
+      let step = turn_at own worker moment objects in
+      subst (λ (ks : List ObjectKind). TakesBy (goes_back (items_at own worker moment objects)) (turns_left ks own worker objects) (turns_left ks own worker step.0) step.1) of (law workers worker moment own objects ready)
+
   module _ (atomic : ℕ) (value : Number) (tries : ℕ) where
     abbrev Left : ℕ → List ObjectState → ℕ
     Left begun objects = turns_by_operation kinds call worker objects (operations.Composed (WaitFor atomic value tries)) begun
@@ -112,14 +122,6 @@ module _ (law : OwnTakes) (most : MostLaw) (stays : Stays) (all : Kinds) (worker
         by_answer (objects, answers.Completed reply) four = less (turns_left kinds (wait_on call.object) worker objects) four
         by_answer (objects, answers.Misused misuse) four = tt
 
-    wait_takes : (objects : List ObjectState) → BothAmong objects
-        → let step = turn_at (wait_on call.object) worker moment objects in
-        TakesBy (goes_back (items_at (wait_on call.object) worker moment objects)) (turns_left kinds (wait_on call.object) worker objects) (turns_left kinds (wait_on call.object) worker step.0) step.1
-    wait_takes objects both =
-        let step = turn_at (wait_on call.object) worker moment objects in
-        subst (λ (ks : List ObjectKind). TakesBy (goes_back (items_at (wait_on call.object) worker moment objects)) (turns_left ks (wait_on call.object) worker objects) (turns_left ks (wait_on call.object) worker step.0) step.1) both.1
-        (law workers worker moment (wait_on call.object) objects both.0.0)
-
     wait_among : (objects : List ObjectState) → BothAmong objects → BothAmong (turn_at (wait_on call.object) worker moment objects).0
     wait_among objects both = (both_stay stays workers worker moment call.object atomic objects both.0, all workers worker moment (wait_on call.object) objects both.0.0 ∙ both.1)
 
@@ -136,7 +138,7 @@ module _ (law : OwnTakes) (most : MostLaw) (stays : Stays) (all : Kinds) (worker
           let made = items_at (wait_on call.object) worker moment objects in
           let wait = wait_on call.object in
           subst (λ (l : List Item). TakesBy (goes_back l) (Left (suc begun) objects) (Left (suc begun) step.0) step.1) (sym (append-nil made))
-          (takes_beside (goes_back made) (4 * (tries - suc begun)) (turns_left kinds wait worker objects) (turns_left kinds wait worker step.0) step.1 (wait_takes objects both));
+          (takes_beside (goes_back made) (4 * (tries - suc begun)) (turns_left kinds wait worker objects) (turns_left kinds wait worker step.0) step.1 (at_takes wait objects both.0.0 both.1));
       returned = λ begun objects later taken both completed leaves.
           look_takes (goes_back (items_at (wait_on call.object) worker moment objects ++ later)) (4 * (tries - suc begun)) (Left (suc begun) objects) (Left taken.0.1 taken.0.0) taken.1 (omega arith) leaves;
     }
@@ -146,9 +148,11 @@ module _ (law : OwnTakes) (most : MostLaw) (stays : Stays) (all : Kinds) (worker
       TakesBy (goes_back (items_by_operation call worker moment begun objects operation)) (turns_by_operation kinds call worker objects operation begun) (turns_by_operation kinds call worker taken.0.0 operation taken.0.1) taken.1
   by_takes (operations.Composed (WaitFor atomic value tries)) begun objects ready of =
       takes worker moment call.object atomic value tries (BothAmong atomic value tries) (LookTakes atomic value tries) (TurnTakes atomic value tries) (take_steps atomic value tries) begun objects (ready, of)
-  by_takes operation begun objects ready of =
-      let step = turn_at call worker moment objects in
-      subst (λ (ks : List ObjectKind). TakesBy (goes_back (items_at call worker moment objects)) (turns_left ks call worker objects) (turns_left ks call worker step.0) step.1) of (law workers worker moment call objects ready)
+  by_takes (operations.Composed (Go started)) begun objects ready of =
+      let add = add_one call.object in
+      let step = turn_at add worker moment objects in
+      subst (λ (b : Bool). TakesBy b (turns_left kinds add worker objects) (turns_left kinds add worker step.0) step.1) (sym (start_back worker (length objects) started (items_at add worker moment objects) step.1)) (at_takes add objects ready of)
+  by_takes operation begun objects ready of = at_takes call objects ready of
 
 pub within_takes : OwnTakes → MostLaw → Stays → Kinds → (workers worker moment begun : ℕ) (call : Call) (objects : List ObjectState) → IsReadyWithin workers worker call objects
     → TakesBy (goes_back (items_within call worker moment begun objects)) (turns_within (map kind_of objects) call worker objects begun)
@@ -195,6 +199,10 @@ module _ (law : ToldLaw) (stays : Stays) (all : Kinds) (workers worker moment : 
       → Told objects (items_by_operation call worker moment begun objects operation) (turn_by_operation call worker moment begun objects operation).0.0
   by_told (operations.Composed (WaitFor atomic value tries)) begun objects ready of =
       led worker moment call.object atomic value tries (λ objects. Both workers worker call.object atomic objects × (map kind_of objects ≡ kinds)) Told (told_leading atomic value tries) begun objects (ready, of)
+  by_told (operations.Composed (Go started)) begun objects ready of =
+      let add = add_one call.object in
+      let step = turn_at add worker moment objects in
+      subst (λ (b : Bool). TellsOwn b (is_told kinds call worker objects) (is_told kinds call worker step.0)) (sym (start_back worker (length objects) started (items_at add worker moment objects) step.1)) (own_told add objects ready of)
   by_told operation begun objects ready of = own_told call objects ready of
 
 pub within_told : ToldLaw → Stays → Kinds → (workers worker moment begun : ℕ) (call : Call) (objects : List ObjectState) → IsReadyWithin workers worker call objects
@@ -218,4 +226,4 @@ within_unlocks law stays all workers worker other moment begun own call objects 
     among stays all workers other moment kinds (λ old made new. told old ≡ false → told new ≡ true → unlocks made ≡ true) (λ objects untold told. absurd (false≢true (sym untold ∙ told)))
     (λ first middle last made later one two untold is. list_any-append (λ item. is_unlock item.deed) made later ∙ unlocked_by (unlocks made) (unlocks later) (told first) (told middle) (told last) one two untold is)
     (λ call old r of. subst (λ (ks : List ObjectKind). is_told ks own worker old ≡ false → is_told ks own worker (turn_at call other moment old).0 ≡ true → unlocks (items_at call other moment old) ≡ true) of
-    (law workers worker other moment own call old r apart)) call begun objects ready refl
+    (law workers worker other moment own call old r apart)) (λ started objects untold told. absurd (false≢true (sym untold ∙ told))) call begun objects ready refl

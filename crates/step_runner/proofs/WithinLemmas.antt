@@ -1,12 +1,12 @@
 -- A turn before a call or within it by the turns at objects that it is made of, where what each leaves ready is known: what so leads on from turn to turn, and what so is kept.
-use Rattle.std.proofs.Common.{◌≡◌, ℕ, suc, ◌+◌, true, false, ◌==◌, List, [], ◌++◌, map, set, Option, Some, None, refl, sym, ap, ◌∙◌, subst, arith}
+use Rattle.std.proofs.Common.{◌≡◌, ℕ, suc, true, false, ◌==◌, List, [], ◌∷◌, ◌++◌, length, map, set, Option, Some, None, refl, sym, ap, ◌∙◌, subst, arith}
 use Rattle.std.specs.Prelude.{slice_get}
 use Rattle.std.proofs.lemmas.List.Elements.{filter-append}
 use Rattle.sync_types.specs.declared.atomic_object.AtomicCall.TheVariants.{Load}
 use Rattle.sync_types.specs.declared.atomic_object.Number.{Number}
 use Rattle.sync_types.specs.declared.misuse.Misuse.{Misuse}
 use Rattle.script_calls.specs.declared.call.Call.{Call}
-use Rattle.script_calls.specs.declared.call.ComposedCall.TheVariants.{WaitFor}
+use Rattle.script_calls.specs.declared.call.ComposedCall.TheVariants.{WaitFor, Go}
 use Rattle.script_calls.specs.declared.call.Operation.{Operation}
 use Rattle.script_calls.specs.declared.call.Operation.TheVariants as operations
 use Rattle.workload.specs.Plan.{has_call, reference_of}
@@ -22,8 +22,9 @@ use Rattle.step_runner.specs.Objects.{kind_of}
 use Rattle.step_runner.specs.Ready.{IsReady}
 use Rattle.step_runner.specs.StandsWithin.{ReadyBy, IsReadyWithin}
 use Rattle.step_runner.specs.TurnAtObjects.{turn_on, turn_at}
-use Rattle.step_runner.specs.TurnWithin.{wait_on, load_of, begin_wait, turn_by_operation, turn_within, items_by_operation, items_within}
+use Rattle.step_runner.specs.TurnWithin.{wait_on, load_of, add_one, begin_wait, start_item, start_items, turn_by_operation, turn_within, items_by_operation, items_within}
 use Rattle.step_runner.proofs.AtObjects.{at_ready}
+use Rattle.step_runner.proofs.GoTurns.{length_kept, start_comes}
 use Rattle.step_runner.proofs.ItemLogs.{ComesAt, comes_nowhere, comes_on, at_comes}
 use Rattle.step_runner.proofs.PlacedLemmas.{at_answered}
 use Rattle.step_runner.proofs.TurnsWithin.{Leading, led}
@@ -70,7 +71,8 @@ both_stay stays workers worker moment cond atomic objects both = (
 module _ (stays : Stays) (workers worker moment : ℕ) (Leads : List ObjectState → List Item → List ObjectState → Type 0)
     (nowhere : (objects : List ObjectState) → Leads objects [] objects)
     (on : (first middle last : List ObjectState) (made later : List Item) → Leads first made middle → Leads middle later last → Leads first (made ++ later) last)
-    (turn : (call : Call) (objects : List ObjectState) → IsReady workers worker call objects → Leads objects (items_at call worker moment objects) (turn_at call worker moment objects).0) where
+    (turn : (call : Call) (objects : List ObjectState) → IsReady workers worker call objects → Leads objects (items_at call worker moment objects) (turn_at call worker moment objects).0)
+    (start : (started : ℕ) (objects : List ObjectState) → Leads objects (start_item worker (length objects) started ∷ []) objects) where
   leading : (cond atomic : ℕ) (value : Number) (tries : ℕ) → Leading worker moment cond atomic value tries (Both workers worker cond atomic) Leads
   leading cond atomic value tries = record {
     nowhere = nowhere;
@@ -80,9 +82,21 @@ module _ (stays : Stays) (workers worker moment : ℕ) (Leads : List ObjectState
     load = λ objects both. subst (λ (l : List ObjectState). Leads objects (items_at (load_of atomic) worker moment objects) l) (load_same workers worker moment atomic objects both.1) (turn (load_of atomic) objects both.1);
   }
 
+  -- behind the `add` of a `go` a worker is started, or nothing is made
+  starting : (started count : ℕ) (a : Answer) (objects : List ObjectState) → length objects ≡ count → Leads objects (start_items a (start_item worker count started)) objects
+  starting started count answers.Still objects same = nowhere objects
+  starting started count answers.Unfinished objects same = nowhere objects
+  starting started count (answers.Completed reply) objects same = subst (λ (n : ℕ). Leads objects (start_item worker n started ∷ []) objects) same (start started objects)
+  starting started count (answers.Misused misuse) objects same = nowhere objects
+
   by_leads : (operation : Operation) (call : Call) (begun : ℕ) (objects : List ObjectState) → ReadyBy workers worker call objects operation
       → Leads objects (items_by_operation call worker moment begun objects operation) (turn_by_operation call worker moment begun objects operation).0.0
   by_leads (operations.Composed (WaitFor atomic value tries)) call begun objects ready = led worker moment call.object atomic value tries (Both workers worker call.object atomic) Leads (leading call.object atomic value tries) begun objects ready
+  by_leads (operations.Composed (Go started)) call begun objects ready =
+      let add = add_one call.object in
+      let step = turn_at add worker moment objects in
+      on objects step.0 step.0 (items_at add worker moment objects) (start_items step.1 (start_item worker (length objects) started)) (turn add objects ready)
+      (starting started (length objects) step.1 step.0 (length_kept add worker moment objects))
   by_leads operation call begun objects ready = turn call objects ready
 
   -- what leads on from turn to turn of calls that are ready, leads on in a turn within a call
@@ -93,7 +107,7 @@ module _ (stays : Stays) (workers worker moment : ℕ) (Leads : List ObjectState
 pub keeps : Stays → (workers worker moment : ℕ) (P : List ObjectState → Type 0) → ((call : Call) (objects : List ObjectState) → IsReady workers worker call objects → P objects → P (turn_at call worker moment objects).0)
     → (call : Call) (begun : ℕ) (objects : List ObjectState) → IsReadyWithin workers worker call objects → P objects → P (turn_within call worker moment begun objects).0.0
 keeps stays workers worker moment P turn call begun objects ready =
-    leads stays workers worker moment (λ old made new. P old → P new) (λ objects is. is) (λ first middle last made later one two is. two (one is)) turn call begun objects ready
+    leads stays workers worker moment (λ old made new. P old → P new) (λ objects is. is) (λ first middle last made later one two is. two (one is)) turn (λ started objects is. is) call begun objects ready
 
 -- ---- kinds
 
@@ -102,19 +116,20 @@ Kinds = (workers worker moment : ℕ) (call : Call) (objects : List ObjectState)
 
 pub kinds_kept : Stays → Kinds → (workers worker moment begun : ℕ) (call : Call) (objects : List ObjectState) → IsReadyWithin workers worker call objects → map kind_of (turn_within call worker moment begun objects).0.0 ≡ map kind_of objects
 kinds_kept stays kinds workers worker moment begun call objects ready =
-    leads stays workers worker moment (λ old made new. map kind_of new ≡ map kind_of old) (λ objects. refl) (λ first middle last made later one two. two ∙ one) (λ call objects r. kinds workers worker moment call objects r) call begun objects ready
+    leads stays workers worker moment (λ old made new. map kind_of new ≡ map kind_of old) (λ objects. refl) (λ first middle last made later one two. two ∙ one) (λ call objects r. kinds workers worker moment call objects r) (λ started objects. refl) call begun objects ready
 
 -- what leads on among objects of these kinds
 module _ (stays : Stays) (all : Kinds) (workers worker moment : ℕ) (kinds : List ObjectKind) (Leads : List ObjectState → List Item → List ObjectState → Type 0)
     (nowhere : (objects : List ObjectState) → Leads objects [] objects)
     (on : (first middle last : List ObjectState) (made later : List Item) → Leads first made middle → Leads middle later last → Leads first (made ++ later) last)
-    (turn : (call : Call) (objects : List ObjectState) → IsReady workers worker call objects → map kind_of objects ≡ kinds → Leads objects (items_at call worker moment objects) (turn_at call worker moment objects).0) where
+    (turn : (call : Call) (objects : List ObjectState) → IsReady workers worker call objects → map kind_of objects ≡ kinds → Leads objects (items_at call worker moment objects) (turn_at call worker moment objects).0)
+    (start : (started : ℕ) (objects : List ObjectState) → Leads objects (start_item worker (length objects) started ∷ []) objects) where
   pub among : (call : Call) (begun : ℕ) (objects : List ObjectState) → IsReadyWithin workers worker call objects → map kind_of objects ≡ kinds
       → Leads objects (items_within call worker moment begun objects) (turn_within call worker moment begun objects).0.0
   among call begun objects ready of =
       (leads stays workers worker moment (λ old made new. map kind_of old ≡ kinds → (map kind_of new ≡ kinds) × Leads old made new) (λ objects of. (of, nowhere objects))
       (λ first middle last made later one two of. let led = one of in let last_led = two led.0 in (last_led.0, on first middle last made later led.1 last_led.1))
-      (λ call objects r of. (all workers worker moment call objects r ∙ of, turn call objects r of)) call begun objects ready of).1
+      (λ call objects r of. (all workers worker moment call objects r ∙ of, turn call objects r of)) (λ started objects of. (of, start started objects)) call begun objects ready of).1
 
 -- ---- what comes by the items
 
@@ -136,7 +151,7 @@ within_comes stays workers worker moment begun call objects ready =
     leads stays workers worker moment (λ old made new. (place : ℕ) → ComesAt (slice_get old place) (on_object place made) (slice_get new place)) (λ objects place. same_at (slice_get objects place))
     (λ first middle last made later one two place. subst (λ (l : List Item). ComesAt (slice_get first place) l (slice_get last place)) (sym (filter-append (λ item. item.object == place) made later))
     (both_at (slice_get first place) (slice_get middle place) (slice_get last place) (on_object place made) (on_object place later) (one place) (two place)))
-    (λ call objects r. at_comes workers worker call moment objects r) call begun objects ready
+    (λ call objects r. at_comes workers worker call moment objects r) (λ started objects. start_comes worker started objects) call begun objects ready
 
 -- ---- turns that begin a wait
 

@@ -2,7 +2,7 @@
 use Rattle.std.proofs.Common.{◌≡◌, ℕ, zero, suc, ◌+◌, ◌<◌, ◌≤◌, List, sum_by, refl, ap, arith}
 use Rattle.sync_types.specs.declared.atomic_object.Number.{Number}
 use Rattle.script_calls.specs.declared.call.Call.{Call}
-use Rattle.script_calls.specs.declared.call.ComposedCall.TheVariants.{WaitFor}
+use Rattle.script_calls.specs.declared.call.ComposedCall.TheVariants.{WaitFor, Go}
 use Rattle.script_calls.specs.declared.call.Operation.{Operation}
 use Rattle.script_calls.specs.declared.call.Operation.TheVariants as operations
 use Rattle.workload.specs.Draft.{tries_of}
@@ -16,7 +16,7 @@ use Rattle.step_runner.specs.ObjectLeft.{object_left, UsesBy}
 use Rattle.step_runner.specs.Ready.{IsReady}
 use Rattle.step_runner.specs.StandsWithin.{ReadyBy, IsReadyWithin, UsesWithin}
 use Rattle.step_runner.specs.TurnAtObjects.{turn_at}
-use Rattle.step_runner.specs.TurnWithin.{wait_on, Taken, begin_wait, turn_by_operation, turn_within}
+use Rattle.step_runner.specs.TurnWithin.{wait_on, add_one, Taken, begin_wait, turn_by_operation, turn_within}
 use Rattle.step_runner.proofs.TurnsWithin.{Steps, takes}
 use Rattle.step_runner.proofs.WaitTurns.{Holds, returned_holds, holding_open}
 use Rattle.step_runner.proofs.WithinLemmas.{Any, Both, Stays, both_stay, begun_waits}
@@ -122,6 +122,10 @@ module _ (law : MutexStands) (stays : Stays) (uses : Uses) (workers worker momen
       ((turn_by_operation call worker moment begun objects operation).0.0 ≡ objects) (turn_by_operation call worker moment begun objects operation).1
   by_uses (operations.Composed (WaitFor atomic value tries)) call begun objects ready =
       takes worker moment call.object atomic value tries (Both workers worker call.object atomic) (LookUses call.object atomic value tries) (TurnUses call.object atomic value tries) (use_steps call.object atomic value tries) begun objects ready
+  by_uses (operations.Composed (Go started)) call begun objects ready =
+      let add = add_one call.object in
+      let step = turn_at add worker moment objects in
+      open_uses (step.0 ≡ objects) begun (sum_by object_left objects) (sum_by object_left step.0) step.1 (uses workers worker moment add objects ready)
   by_uses operation call begun objects ready =
       let step = turn_at call worker moment objects in
       open_uses (step.0 ≡ objects) begun (sum_by object_left objects) (sum_by object_left step.0) step.1 (uses workers worker moment call objects ready)

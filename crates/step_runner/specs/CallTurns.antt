@@ -13,8 +13,10 @@ use Rattle.step_runner.specs.declared.step.Step.{Step}
 use Rattle.step_runner.specs.declared.step.Step.TheVariants as steps
 use Rattle.step_runner.specs.RunItems.{made_by}
 use Rattle.step_runner.specs.StandsWithin.{most_turns}
-use Rattle.step_runner.specs.State.{State, with_moment}
-use Rattle.step_runner.specs.Turns.{left_for, next_call, turn_of}
+use Rattle.step_runner.specs.declared.state.Stand.{Stand}
+use Rattle.step_runner.specs.declared.state.Stand.TheVariants.{Waits, Live, Gone}
+use Rattle.step_runner.specs.State.{State, stand_of, with_moment}
+use Rattle.step_runner.specs.Turns.{closing_calls, left_for, next_call, turn_of}
 
 -- an event, or a misuse
 abbrev pub makes_event : Step → Bool
@@ -29,9 +31,16 @@ stands_before worker number s = length (get_or s.replies worker []) == number
 abbrev pub kinds_in : Plan → List ObjectKind
 kinds_in plan = map (λ object. object.kind) plan.objects
 
--- the calls that a worker has met: those that it completed, and the one before which it stands
+-- the call behind a worker's script, once it is made
+abbrev pub made_behind : Stand → List Call → List Call
+made_behind Waits closing = []
+made_behind Live closing = []
+made_behind Gone closing = closing
+
+-- the calls that a worker has met: those that it completed, the one behind its script too, and the one before which it stands
 abbrev pub calls_met : Plan → ℕ → State → List Call
-calls_met plan worker s = made_of (get_or plan.scripts worker []) (get_or s.replies worker []) ++ take 1 (left_for plan worker s)
+calls_met plan worker s =
+    made_of (get_or plan.scripts worker []) (get_or s.replies worker []) ++ (made_behind (stand_of worker s) (closing_calls plan worker) ++ take 1 (left_for plan worker s))
 
 -- how many turns its call of this number may take, counted from 0; none, where it hasn't met it
 abbrev pub most_turns_for : Plan → ℕ → ℕ → State → ℕ

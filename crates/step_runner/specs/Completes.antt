@@ -1,6 +1,6 @@
 -- Which calls are completed in their first turn.
 use Rattle.std.specs.Prelude.{Bool, true, false}
-use Rattle.script_calls.specs.declared.call.ComposedCall.TheVariants.{IfEqual, WaitFor}
+use Rattle.script_calls.specs.declared.call.ComposedCall.TheVariants.{IfEqual, WaitFor, Go}
 use Rattle.script_calls.specs.declared.call.Operation.{Operation}
 use Rattle.script_calls.specs.declared.call.Operation.TheVariants as operations
 use Rattle.step_runner.specs.declared.turns.answer.Answer.{Answer}
@@ -21,6 +21,7 @@ takes_one_turn operations.OnceValue = false
 takes_one_turn (operations.Pool call) = true
 takes_one_turn (operations.Composed (IfEqual value passes)) = true
 takes_one_turn (operations.Composed (WaitFor atomic value tries)) = false
+takes_one_turn (operations.Composed (Go worker)) = false
 
 -- the turn completes its call
 abbrev pub IsCompleted : Answer → Type 0

@@ -60,7 +60,7 @@ pub data Deed : Type 0 where
   placed : Operation → Reply (List ℕ) → Deed
   entered : ObjectEvent → ObjectReply → Deed
 
--- one item of a run: the worker that makes it, and the place of its object in order of declaration
+-- one item of a run: the worker that makes it, and the place of its object in order of declaration. Starts stands behind all objects
 pub record Item : Type 0 where
   pub object : ℕ
   pub caller : ℕ

@@ -1,4 +1,5 @@
 pub mod CallTurns
+pub mod Closing
 pub mod Computed
 pub mod Ends
 pub mod LeftToDo
@@ -9,6 +10,7 @@ pub mod RunItems
 pub mod Spelt
 pub mod State
 pub mod Turns
+pub mod Goes
 pub mod TurnWithin
 pub mod StandsWithin
 pub mod AtomicRange

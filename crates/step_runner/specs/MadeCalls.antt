@@ -1,4 +1,4 @@
--- Which calls turns complete.
+-- Which calls of the scripts turns complete.
 use Rattle.std.specs.Prelude.{ℕ, List, [], ◌∷◌, ◌++◌, map, length, get_or, nat_lt, ◌==◌, if◌then◌else◌}
 use Rattle.std.specs.List.{filter}
 use Rattle.std.specs.Option.{option_to_list}
@@ -11,7 +11,7 @@ use Rattle.step_runner.specs.declared.step.Step.TheVariants as steps
 use Rattle.step_runner.specs.State.{State, with_moment}
 use Rattle.step_runner.specs.Turns.{next_call, turn_of}
 
--- the call that a turn of a worker completes: the worker has one reply more then
+-- the call of its script that a turn of a worker completes: the worker has one reply more then
 abbrev pub completed_by : Plan → ℕ → State → List Call
 completed_by plan worker s =
     if nat_lt (length (get_or s.replies worker [])) (length (get_or (turn_of plan worker s).0.replies worker []))

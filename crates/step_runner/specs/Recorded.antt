@@ -17,7 +17,7 @@ use Rattle.pool_core.specs.declared.pool_event.PoolEvent.TheVariants.{Sweep}
 use Rattle.workload.specs.Keys.{keys_in, key_number}
 use Rattle.workload.specs.Plan.{Plan}
 use Rattle.run_record.specs.MapKind.{cursor_showing}
-use Rattle.run_record.specs.Objects.{map_number, atomic_number, first_part}
+use Rattle.run_record.specs.Objects.{map_number, atomic_number, first_part, starts_number}
 use Rattle.run_record.specs.PoolKind.{part_of}
 use Rattle.run_record.specs.Record.{object_number, shared_in}
 use Rattle.run_record.specs.declared.entered.ObjectEvent.{ObjectEvent}
@@ -52,8 +52,10 @@ module _ (plan : Plan) where
   recorded_pool_event place caller Sweep answer = map (λ part. made_on (first_part plan place + part) caller (events.Pool Sweep) answer) (range_with_len 0 plan.workers)
   recorded_pool_event place caller event answer = made_on (first_part plan place + part_of caller event) caller (events.Pool event) answer ∷ []
 
+  -- an event on Starts has the number of Starts, which stands behind all objects
   abbrev pub recorded_event : ℕ → ℕ → ObjectEvent → ObjectReply → List Made
   recorded_event place caller (events.Pool event) answer = recorded_pool_event place caller event answer
+  recorded_event place caller (events.Starts event) answer = made_on (starts_number plan) caller (events.Starts event) answer ∷ []
   recorded_event place caller event answer = made_on (object_number place) caller event answer ∷ []
 
   abbrev pub recorded_deed : ℕ → ℕ → ℕ → Deed → List Made

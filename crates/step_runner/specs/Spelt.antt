@@ -6,8 +6,7 @@ use Rattle.script_calls.specs.declared.call.Reply.{Reply}
 use Rattle.sync_types.specs.declared.misuse.Misuse.{Misuse}
 use Rattle.script_calls.specs.declared.outcome.Outcome.{Outcome}
 use Rattle.script_calls.specs.declared.outcome.Outcome.TheVariants.{Done, Misused, Deadlocked}
-use Rattle.script_calls.specs.Outcome.{left_by}
-use Rattle.script_calls.specs.Runs.{left_of, RunsAlong}
+use Rattle.script_calls.specs.Runs.{RunsAlong}
 use Rattle.starts_core.specs.declared.starts.StartEvent.{StartEvent}
 use Rattle.starts_core.specs.declared.starts.StartEvent.TheVariants as starts
 use Rattle.starts_core.specs.declared.starts.StartReply.{StartReply}
@@ -26,9 +25,9 @@ use Rattle.step_runner.specs.Recorded.{recorded_reply, recorded, made_on}
 use Rattle.step_runner.specs.declared.step.Step.{Step}
 use Rattle.step_runner.specs.declared.step.Step.TheVariants as steps
 use Rattle.step_runner.specs.CallTurns.{stands_before}
-use Rattle.step_runner.specs.RunItems.{made_by, unless_ended}
-use Rattle.step_runner.specs.State.{State, with_moment}
-use Rattle.step_runner.specs.Turns.{turn_of}
+use Rattle.step_runner.specs.RunItems.{made_by, unless_ended, all_made}
+use Rattle.step_runner.specs.State.{State, start, with_moment}
+use Rattle.step_runner.specs.Turns.{next_call, turn_of, after_items}
 
 -- what one worker made, in its order
 abbrev pub by_worker : ℕ → List Item → List Item
@@ -38,17 +37,22 @@ by_worker worker made = filter (λ item. item.caller == worker) made
 abbrev pub made_on_starts : Plan → ℕ → StartEvent → StartReply → List Made
 made_on_starts plan worker event answer = made_on plan (starts_number plan) worker (events.Starts event) (answered.Starts answer) ∷ []
 
--- Where some workers wait to be started: at the end of the run each that was never started leaves
+-- whoever waits to be started, and is, goes with the first turn that makes an item
+abbrev pub going_items : Plan → ℕ → List Made
+going_items plan worker = cond (is_dormant plan worker) (made_on_starts plan worker starts.Leave told.Go) []
+
+-- before a worker's script: whoever comes to it goes, and at the end of the run each that was never started leaves
 abbrev pub opening_items : Plan → ℕ → LineEnd → List Made
 opening_items plan worker (stayed never) = made_on_starts plan worker starts.Leave told.Never
 opening_items plan worker (stayed (stopped misuse)) = []
 opening_items plan worker (stayed waits) = []
-opening_items plan worker whole = []
-opening_items plan worker (misused misuse) = []
-opening_items plan worker (halted misuse) = []
-opening_items plan worker unfinished = []
+opening_items plan worker whole = going_items plan worker
+opening_items plan worker (misused misuse) = going_items plan worker
+opening_items plan worker (halted misuse) = going_items plan worker
+opening_items plan worker unfinished = going_items plan worker
 
--- and each other worker ends with its last call, or before the first turn where it has none
+-- behind it, where some workers wait to be started: each that came to its script ends with its last call, or before the first turn where it has none. The `done` of one that was
+-- started is a turn of its own
 abbrev pub closing_items : Plan → ℕ → LineEnd → List Made
 closing_items plan worker whole = cond (has_dormant plan) (made_on_starts plan worker starts.End told.Done) []
 closing_items plan worker (misused misuse) = []
@@ -95,13 +99,21 @@ ending_by next (Some misuse) = misused misuse
 ending_by None None = whole
 ending_by (Some call) None = unfinished
 
--- of one that waits to be started, by whether the run has ended
+-- of one that didn't come to its script, by whether the run has ended
 abbrev pub stays_by : Bool → LineEnd
 stays_by over = stayed (cond over never waits)
 
--- of a worker with these replies
-abbrev pub ending_of : {K : Type 0} → Plan → Bool → ℕ → List (Reply K) → Option Misuse → LineEnd
-ending_of plan over worker given met = cond (is_dormant plan worker) (stays_by over) (ending_by (slice_get (left_of (get_or plan.scripts worker []) given) 0) met)
+abbrev pub has_made : List Item → Bool
+has_made [] = false
+has_made (item ∷ items) = true
+
+-- whether a worker came to its script: one that waits to be started comes to it with its first item
+abbrev pub came : Plan → List Item → ℕ → Bool
+came plan made worker = cond (is_dormant plan worker) (has_made (by_worker worker made)) true
+
+-- by whether it came, whether the run has ended, the call before which it stands, and the misuse that it met
+abbrev pub ending_of : (has_come over : Bool) → Option Call → Option Misuse → LineEnd
+ending_of has_come over next met = cond has_come (ending_by next met) (stays_by over)
 
 -- whether every worker that was live has ended
 abbrev pub is_over : Outcome → Bool
@@ -109,17 +121,22 @@ is_over (Done left) = true
 is_over (Misused left misuse) = false
 is_over (Deadlocked left) = false
 
--- how the lists of an outcome end, by the misuses that its workers met
-abbrev pub endings_of : Plan → Outcome → (ℕ → Option Misuse) → ℕ → LineEnd
-endings_of plan outcome met worker = ending_of plan (is_over outcome) worker (get_or (left_by outcome).replies worker []) (met worker)
+-- how the lists of an outcome end, by the items of its run, the state at its end, and the misuses that its workers met
+abbrev pub endings_of : Plan → Outcome → List Item → State → (ℕ → Option Misuse) → ℕ → LineEnd
+endings_of plan outcome made s met worker = ending_of (came plan made worker) (is_over outcome) (next_call plan worker s) (met worker)
 
--- each line of an outcome ends so, by the worker's replies and the misuse that it met, and halts nothing
-abbrev pub EndAs : Plan → Outcome → (ℕ → Option Misuse) → List Line → Type 0
-EndAs plan outcome met lines = (worker : ℕ) (line : Line) → slice_get lines worker ≡ Some line → (line.ending ≡ endings_of plan outcome met worker) × (line.halts ≡ [])
+-- those of an outcome to which these items of a schedule lead
+abbrev pub outcome_endings : Plan → Outcome → List Turn → ℕ → LineEnd
+outcome_endings plan outcome list worker =
+    endings_of plan outcome (all_made plan list (start plan)) (after_items plan list (start plan)) (λ by. misuse_of plan by list (start plan)) worker
 
--- a worker's items fall into the calls of a run of its script: those that were completed, each spelt by its items, with these replies, and behind them at most one more. The items of
--- each call are those that its own turns made. Where some workers wait to be started, what they make on Starts stands before and behind these
-pub record Falls (plan : Plan) (over : Bool) (worker : ℕ) (made : List Item) (made_for_call : ℕ → List Item) (given : List (Reply (List ℕ))) (met : Option Misuse) : Type 0 where
+-- each line ends so, and halts nothing
+abbrev pub EndAs : (ℕ → LineEnd) → List Line → Type 0
+EndAs ending lines = (worker : ℕ) (line : Line) → slice_get lines worker ≡ Some line → (line.ending ≡ ending worker) × (line.halts ≡ [])
+
+-- A worker's items fall into the calls of a run of its script: those that were completed, each spelt by its items, with these replies, and behind them at most one more: the next one, or
+-- the `done` behind the script. The items of each call are those that its own turns made. Where some workers wait to be started, what they make on Starts stands before and behind these
+pub record Falls (plan : Plan) (over : Bool) (worker : ℕ) (made : List Item) (made_for_call : ℕ → List Item) (given : List (Reply (List ℕ))) (next : Option Call) (met : Option Misuse) : Type 0 where
   pub line : Line
   pub runs : RunsAlong (get_or plan.scripts worker []) (calls_made line) line.rest
   pub items : items_of line ≡ list_of plan made worker line.ending
@@ -128,5 +145,5 @@ pub record Falls (plan : Plan) (over : Bool) (worker : ℕ) (made : List Item) (
   pub turns : (number : ℕ) (one : SpeltCall) → slice_get line.spelt number ≡ Some one → one.items ≡ recorded plan (count_before number line.spelt) (made_for_call number)
   pub before : line.first ≡ opening_items plan worker line.ending
   pub behind : line.last ≡ recorded plan (length (shared_in (flat_map (λ one. one.items) line.spelt))) (made_for_call (length line.spelt)) ++ closing_items plan worker line.ending
-  pub ends : line.ending ≡ ending_of plan over worker given met
+  pub ends : line.ending ≡ ending_of (came plan made worker) over next met
   pub halts : line.halts ≡ []  -- a misuse ends the run at once

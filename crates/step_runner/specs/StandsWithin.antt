@@ -1,8 +1,8 @@
 -- Where a worker stands before a call or within it, of whose waits it has begun so many: what is ready for its turns, at which mutex it waits, where it stands at the
--- objects, what is left of the call to be spelt, and how many turns. Of a call that isn't a `waitfor` all of it is as at the call's objects.
+-- objects, what is left of the call to be spelt, and how many turns. A `go` is made in the turn of its `add`. Of any other call all of it is as at the call's objects.
 use Rattle.std.specs.Prelude.{◌≡◌, ℕ, zero, suc, ◌+◌, ◌-◌, ◌*◌, ◌<◌, List, slice_get, Option, Some, None}
 use Rattle.script_calls.specs.declared.call.Call.{Call}
-use Rattle.script_calls.specs.declared.call.ComposedCall.TheVariants.{WaitFor}
+use Rattle.script_calls.specs.declared.call.ComposedCall.TheVariants.{WaitFor, Go}
 use Rattle.script_calls.specs.declared.call.Operation.{Operation}
 use Rattle.script_calls.specs.declared.call.Operation.TheVariants as operations
 use Rattle.script_calls.specs.declared.call.Reply.{Reply}
@@ -22,16 +22,17 @@ use Rattle.step_runner.specs.Left.{left_at}
 use Rattle.step_runner.specs.Objects.{kind_of, EachAt}
 use Rattle.step_runner.specs.Ready.{IsReady}
 use Rattle.step_runner.specs.Stands.{waits_at}
-use Rattle.step_runner.specs.TurnWithin.{wait_on, load_of}
+use Rattle.step_runner.specs.TurnWithin.{wait_on, load_of, add_one}
 use Rattle.step_runner.specs.TurnsLeft.{turns_left}
 use Rattle.step_runner.specs.Within.{IsIdle, IsWithin}
 
 -- ---- when it may take a turn
 
 module _ (workers worker : ℕ) (call : Call) (objects : List ObjectState) where
-  -- a `waitfor` is a call of a cond, and its atomic is there
+  -- a `waitfor` is a call of a cond, and its atomic is there; a `go` is one of a wait group
   abbrev pub ReadyBy : Operation → Type 0
   ReadyBy (operations.Composed (WaitFor atomic value tries)) = IsReady workers worker (wait_on call.object) objects × IsReady workers worker (load_of atomic) objects
+  ReadyBy (operations.Composed (Go started)) = IsReady workers worker (add_one call.object) objects
   ReadyBy operation = IsReady workers worker call objects
 
   abbrev pub IsReadyWithin : Type 0
@@ -44,6 +45,7 @@ module _ (kinds : List ObjectKind) (call : Call) where
   abbrev pub waits_by : Operation → ℕ → Option ℕ
   waits_by (operations.Composed (WaitFor atomic value tries)) zero = None
   waits_by (operations.Composed (WaitFor atomic value tries)) (suc begun) = waits_at kinds (wait_on call.object)
+  waits_by (operations.Composed (Go started)) begun = waits_at kinds (add_one call.object)
   waits_by operation begun = waits_at kinds call
 
   abbrev pub waits_within : ℕ → Option ℕ
@@ -55,6 +57,7 @@ module _ (worker : ℕ) (call : Call) where
   abbrev pub StandsBy : Operation → ℕ → List ObjectState → Type 0
   StandsBy (operations.Composed (WaitFor atomic value tries)) zero objects = EachAt (λ place. IsIdle worker) objects
   StandsBy (operations.Composed (WaitFor atomic value tries)) (suc begun) objects = IsWithin worker (wait_on call.object) objects
+  StandsBy (operations.Composed (Go started)) begun objects = IsWithin worker (add_one call.object) objects
   StandsBy operation begun objects = IsWithin worker call objects
 
   abbrev pub IsWithinCall : ℕ → List ObjectState → Type 0
@@ -89,6 +92,7 @@ module _ (plan : Plan) (worker before : ℕ) (call : Call) (objects : List Objec
   abbrev pub left_by_operation : Operation → ℕ → Part (Reply ℕ)
   left_by_operation (operations.Composed (WaitFor atomic value tries)) zero = whole_at (slice_get objects call.object)
   left_by_operation (operations.Composed (WaitFor atomic value tries)) (suc begun) = left_behind_wait atomic value (tries - suc begun) (slice_get objects call.object)
+  left_by_operation (operations.Composed (Go started)) begun = whole_at (slice_get objects call.object)
   left_by_operation operation begun = left_at plan worker before call objects
 
   abbrev pub left_within : ℕ → Part (Reply ℕ)
@@ -105,6 +109,7 @@ module _ (kinds : List ObjectKind) (call : Call) (worker : ℕ) (objects : List 
   abbrev pub turns_by_operation : Operation → ℕ → ℕ
   turns_by_operation (operations.Composed (WaitFor atomic value tries)) zero = 4 * tries + 1
   turns_by_operation (operations.Composed (WaitFor atomic value tries)) (suc begun) = 4 * (tries - suc begun) + turns_left kinds (wait_on call.object) worker objects
+  turns_by_operation (operations.Composed (Go started)) begun = turns_left kinds (add_one call.object) worker objects
   turns_by_operation operation begun = turns_left kinds call worker objects
 
   abbrev pub turns_within : ℕ → ℕ

@@ -1,14 +1,16 @@
 -- The turn of a worker that stands before a call or within it. A `waitfor` is made of loads of its atomic and of the turns of `wait`s on its cond: how many waits
--- were begun tells whether the worker stands before it, and how many more it may make. Every other call's turn is the one at its objects.
-use Rattle.std.specs.Prelude.{ℕ, zero, suc, ◌+◌, Bool, true, false, nat_le, List, [], ◌++◌, slice_get}
+-- were begun tells whether the worker stands before it, and how many more it may make. A `go` is the `add` of 1 to its group, and then a start. Every other call's turn is the one at its objects.
+use Rattle.std.specs.Prelude.{ℕ, zero, suc, pos, ◌+◌, Bool, true, false, nat_le, List, [], ◌∷◌, ◌++◌, length, slice_get}
 use Rattle.std.specs.Option.{option_map_or}
 use Rattle.sync_types.specs.SequentialAtomic.{is_same}
 use Rattle.sync_types.specs.declared.atomic_object.AtomicCall.TheVariants.{Load}
 use Rattle.sync_types.specs.declared.atomic_object.AtomicReply.TheVariants.{Compared}
 use Rattle.sync_types.specs.declared.atomic_object.Number.{Number}
 use Rattle.sync_types.specs.declared.wait_call.CondCall.TheVariants as cond_calls
+use Rattle.sync_types.specs.declared.wait_call.WaitGroupCall.{WaitGroupCall}
+use Rattle.sync_types.specs.declared.wait_call.WaitGroupCall.TheVariants as group_calls
 use Rattle.script_calls.specs.declared.call.Call.{Call}
-use Rattle.script_calls.specs.declared.call.ComposedCall.TheVariants.{WaitFor}
+use Rattle.script_calls.specs.declared.call.ComposedCall.TheVariants.{WaitFor, Go}
 use Rattle.script_calls.specs.declared.call.Operation.{Operation}
 use Rattle.script_calls.specs.declared.call.Operation.TheVariants as operations
 use Rattle.script_calls.specs.declared.call.Reply.TheVariants as replies
@@ -16,7 +18,11 @@ use Rattle.step_runner.specs.declared.turns.answer.Answer.{Answer}
 use Rattle.step_runner.specs.declared.turns.answer.Answer.TheVariants as answers
 use Rattle.step_runner.specs.declared.turns.object_state.ObjectState.{ObjectState}
 use Rattle.step_runner.specs.declared.turns.object_state.ObjectState.TheVariants as states
-use Rattle.step_runner.specs.Items.{Item, items_at}
+use Rattle.starts_core.specs.declared.starts.StartEvent.TheVariants as starts
+use Rattle.starts_core.specs.declared.starts.StartReply.TheVariants as told
+use Rattle.run_record.specs.declared.entered.ObjectEvent.TheVariants as events
+use Rattle.run_record.specs.declared.entered.ObjectReply.TheVariants as answered
+use Rattle.step_runner.specs.Items.{Item, entered, items_at}
 use Rattle.step_runner.specs.TurnAtObjects.{turn_at}
 
 -- the call that waits once on the cond at a place, and the one that loads the atomic at a place
@@ -25,6 +31,16 @@ wait_on cond = record { object = cond; operation = operations.Cond cond_calls.Wa
 
 abbrev pub load_of : ℕ → Call
 load_of atomic = record { object = atomic; operation = operations.Atomic Load }
+
+-- a call of the wait group at a place: the one that adds 1, and the one that is done
+abbrev pub on_group : ℕ → WaitGroupCall → Call
+on_group group call = record { object = group; operation = operations.WaitGroup call }
+
+abbrev pub add_one : ℕ → Call
+add_one group = on_group group (group_calls.Add (pos 1))
+
+abbrev pub done_on : ℕ → Call
+done_on group = on_group group group_calls.Done
 
 -- whether an object is an atomic that holds the number
 abbrev pub holds : Number → ObjectState → Bool
@@ -93,17 +109,35 @@ module _ (worker moment cond atomic : ℕ) (value : Number) (tries : ℕ) where
   wait_for_items zero objects = look_items zero objects
   wait_for_items (suc begun) objects = items_at (wait_on cond) worker moment objects ++ behind_wait_items (suc begun) (turn_at (wait_on cond) worker moment objects)
 
+-- with as many waits begun as before
+abbrev pub none_begins : ℕ → List ObjectState × Answer → Taken
+none_begins begun step = ((step.0, begun), step.1)
+
+-- a worker is started: an event on Starts, which stands behind so many objects
+abbrev pub start_item : (worker count started : ℕ) → Item
+start_item worker count started = record { object = count; caller = worker; deed = entered (events.Starts (starts.Start started)) (answered.Starts told.Done) }
+
+-- nobody is started where the `add` is a misuse
+abbrev pub start_items : Answer → Item → List Item
+start_items answers.Still start = []
+start_items answers.Unfinished start = []
+start_items (answers.Completed reply) start = start ∷ []
+start_items (answers.Misused misuse) start = []
+
 module _ (call : Call) (worker moment begun : ℕ) (objects : List ObjectState) where
   -- by the call's operation; every other call has begun no wait
   abbrev pub turn_by_operation : Operation → Taken
   turn_by_operation (operations.Composed (WaitFor atomic value tries)) = wait_for_turn worker moment call.object atomic value tries begun objects
-  turn_by_operation operation = let step = turn_at call worker moment objects in ((step.0, begun), step.1)
+  turn_by_operation (operations.Composed (Go started)) = none_begins begun (turn_at (add_one call.object) worker moment objects)
+  turn_by_operation operation = none_begins begun (turn_at call worker moment objects)
 
   abbrev pub turn_within : Taken
   turn_within = turn_by_operation call.operation
 
   abbrev pub items_by_operation : Operation → List Item
   items_by_operation (operations.Composed (WaitFor atomic value tries)) = wait_for_items worker moment call.object atomic value tries begun objects
+  items_by_operation (operations.Composed (Go started)) =
+      items_at (add_one call.object) worker moment objects ++ start_items (turn_at (add_one call.object) worker moment objects).1 (start_item worker (length objects) started)
   items_by_operation operation = items_at call worker moment objects
 
   -- what the turn makes

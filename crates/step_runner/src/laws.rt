@@ -1,5 +1,5 @@
 //! What every run by schedule keeps.
-ghost use Rattle.std.specs.Prelude.{◌≡◌, ◌↔◌, ◌<◌, ◌≤◌, ℕ, true, false, List, [], ◌++◌, Some, None, map, length, take, get_or, slice_get};
+ghost use Rattle.std.specs.Prelude.{◌≡◌, ◌≢◌, ◌↔◌, ◌<◌, ◌≤◌, ℕ, true, false, List, [], ◌++◌, Some, None, map, length, take, get_or, slice_get};
 ghost use Rattle.std.specs.List.{list_all, list_any};
 ghost use Rattle.std.specs.Str.{bytes_eq};
 ghost use Rattle.std.specs.Ordering.{nat_cmp};
@@ -32,19 +32,22 @@ ghost use Rattle.step_runner.specs.PlacedCalls.{is_placed};
 ghost use Rattle.step_runner.specs.Objects.{kind_of, IsMachineOf};
 ghost use Rattle.script_calls.specs.Outcome.{has_pairs_to};
 ghost use Rattle.script_calls.specs.Runs.{have_tests, left_of, made_of};
+ghost use Rattle.script_calls.specs.Starts.{starts};
 ghost use Rattle.step_runner.specs.declared.step.Step.TheVariants as steps;
 ghost use Rattle.script_calls.specs.declared.outcome.Report.{Report};
 ghost use Rattle.script_calls.specs.declared.outcome.Outcome.{Outcome};
 ghost use Rattle.script_calls.specs.declared.outcome.Outcome.TheVariants as outcomes;
 ghost use Rattle.step_runner.specs.CallTurns.{calls_met, most_turns_for, advances, requeues, wakes, count_turns};
+ghost use Rattle.step_runner.specs.Closing.{IsLastDone, closes};
 ghost use Rattle.step_runner.specs.Ends.{scheduled_ends};
 ghost use Rattle.step_runner.specs.LeftToDo.{left_to_do};
 ghost use Rattle.step_runner.specs.MadeCalls.{made_calls, calls_of};
 ghost use Rattle.step_runner.specs.Outcomes.{rounds, is_misused, StepsTo};
 ghost use Rattle.step_runner.specs.RunItems.{all_made, IsAnswered, IsTested, IsMet, LeadTo};
-ghost use Rattle.step_runner.specs.Spelt.{by_worker, lists_of, made_for, misuse_of, endings_of, EndAs, Falls};
-ghost use Rattle.step_runner.specs.State.{State, IsStateOf, start, with_moment};
-ghost use Rattle.step_runner.specs.Turns.{begun_by, next_call, turn_of, items_of, after_items, has_ended};
+ghost use Rattle.step_runner.specs.Spelt.{by_worker, lists_of, made_for, misuse_of, outcome_endings, EndAs, Falls};
+ghost use Rattle.step_runner.specs.declared.state.Stand.TheVariants as stands;
+ghost use Rattle.step_runner.specs.State.{State, IsStateOf, start, stand_of, with_moment};
+ghost use Rattle.step_runner.specs.Turns.{begun_by, script_left, next_call, turn_of, items_of, after_items, has_ended};
 ghost use Rattle.workload.specs.Forms.{all_have_forms, has_forms};
 ghost use Rattle.step_runner.specs.Computed.{rounds_of, all_rounds, turns};
 
@@ -110,6 +113,17 @@ pub fn a_call_takes_few_turns()
     scripts::runs_go_on::<Name>();
 }
 
+/// At every moment a worker that stands before a call though its script is at its end stands before the `done` on the group of its `go`. Its
+/// next turn makes that call whole: behind it the worker is gone, or the turn is a misuse. The call has no reply. So a worker takes at
+/// most one turn behind its script that makes an event.
+pub fn a_done_behind_a_script_is_one_turn()
+    ensures whole { (plan : Plan) (items : List Turn) (worker : ℕ) (call : Call) → is_valid plan ≡ true → next_call plan worker (after_items plan items (start plan)) ≡ Some call → script_left plan worker (after_items plan items (start plan)) ≡ []
+        → IsLastDone plan worker call (after_items plan items (start plan)) }
+    ensures once { (plan : Plan) (items : List Turn) (worker : ℕ) → is_valid plan ≡ true → count_turns plan (closes plan worker) items (start plan) ≤ 1 }
+{
+    validity();
+}
+
 /// Every run ends, in one of the three ways: one round more than is left to do is enough, and any more
 /// rounds come to the same.
 pub fn runs_come_to_rest()
@@ -120,14 +134,16 @@ pub fn runs_come_to_rest()
 }
 
 /// A run by schedule comes to one outcome, which `turns` computes. It is Done exactly where its schedule and some whole
-/// rounds bring every script to its end, and then nothing is left of any script behind its replies: where no call passes
-/// others over, each call has its reply. It is Misused exactly where one of their turns is a
-/// misuse, and Deadlocked exactly where a whole round behind them makes no event while a script has calls left.
+/// rounds bring every worker to its end that was live. Then nothing is left behind the replies of any script but of one whose
+/// worker waits to be started and has made no call: where no worker waits and no call passes others over, each call has its reply. It is
+/// Misused exactly where one of their turns is a misuse, and Deadlocked exactly where a whole round behind them makes no event
+/// while a worker stands before a call.
 pub fn each_run_has_one_outcome()
     ensures exact { (plan : Plan) (outcome : Outcome) → is_valid plan ≡ true → turns plan ≡ outcome ↔ StepsTo plan outcome }
     ensures one { (plan : Plan) (outcome other : Outcome) → is_valid plan ≡ true → StepsTo plan outcome → StepsTo plan other → outcome ≡ other }
     ensures some { (plan : Plan) → is_valid plan ≡ true → StepsTo plan (turns plan) }
     ensures complete { (plan : Plan) (report : Report) (worker : ℕ) → is_valid plan ≡ true → is_dormant plan worker ≡ false → StepsTo plan (outcomes.Done report) → left_of (get_or plan.scripts worker []) (get_or report.replies worker []) ≡ [] }
+    ensures begun { (plan : Plan) (report : Report) (worker : ℕ) → is_valid plan ≡ true → StepsTo plan (outcomes.Done report) → get_or report.replies worker [] ≢ [] → left_of (get_or plan.scripts worker []) (get_or report.replies worker []) ≡ [] }
     ensures straight { (plan : Plan) (report : Report) → is_valid plan ≡ true → have_tests plan.scripts ≡ false → has_dormant plan ≡ false → StepsTo plan (outcomes.Done report) → map length report.replies ≡ map length plan.scripts }
 {
     validity();
@@ -148,14 +164,24 @@ pub fn scripts_of_one_turn_calls_end()
     scripts::a_script_without_tests_is_its_own_run::<Name>();
 }
 
-/// A worker that waits to be started makes no call: it has no reply and makes no event, and a run doesn't wait for it. Where all wait,
-/// the run is Done at once.
+/// As long as a worker waits to be started it makes no call: it has no reply and makes no event, and a run doesn't wait for it. Where all
+/// wait, the run is Done at once. Any other worker is live from the beginning.
 pub fn who_waits_to_be_started_makes_no_call()
-    ensures replies { (plan : Plan) (items : List Turn) (worker : ℕ) → is_dormant plan worker ≡ true → get_or (after_items plan items (start plan)).replies worker [] ≡ [] }
-    ensures items { (plan : Plan) (items : List Turn) (worker : ℕ) → is_dormant plan worker ≡ true → by_worker worker (all_made plan items (start plan)) ≡ [] }
+    ensures replies { (plan : Plan) (items : List Turn) (worker : ℕ) → is_valid plan ≡ true → worker < plan.workers → stand_of worker (after_items plan items (start plan)) ≡ stands.Waits → get_or (after_items plan items (start plan)).replies worker [] ≡ [] }
+    ensures items { (plan : Plan) (items : List Turn) (worker : ℕ) → is_valid plan ≡ true → worker < plan.workers → stand_of worker (after_items plan items (start plan)) ≡ stands.Waits → by_worker worker (all_made plan items (start plan)) ≡ [] }
     ensures all { (plan : Plan) → is_valid plan ≡ true → list_all (λ waits. waits) plan.dormant ≡ true → has_ended plan (start plan) ≡ true }
+    ensures live { (plan : Plan) (items : List Turn) (worker : ℕ) → is_valid plan ≡ true → worker < plan.workers → is_dormant plan worker ≡ false → stand_of worker (after_items plan items (start plan)) ≡ stands.Live }
 {
+    validity();
     items_are_of_their_workers();
+}
+
+/// Whoever waits to be started and doesn't any more was started by a `go` that was completed before.
+pub fn whoever_comes_was_started()
+    ensures { (plan : Plan) (items : List Turn) (worker : ℕ) → is_valid plan ≡ true → worker < plan.workers → is_dormant plan worker ≡ true → stand_of worker (after_items plan items (start plan)) ≢ stands.Waits
+        → (by : ℕ) × (list_any (starts worker) (calls_of by (made_calls plan items (start plan))) ≡ true) }
+{
+    validity();
 }
 
 /// At no moment has a worker more replies than its script has calls.
@@ -244,13 +270,14 @@ pub fn a_waitfor_that_is_met_is_one_load()
 /// At every moment, behind any turns up to the first misuse, a worker's items fall into the calls of a run of its script, in order:
 /// each completed call is spelt by the items of its own turns, as a record's are, and its reply is read off them. Behind them stand the
 /// first items of at most one more call, or that call as a misuse: each list ends by the call before which its worker stands, and by the
-/// misuse that it met. It has no halt. Where some workers wait to be started, an `End` on Starts stands behind each script that has ended,
-/// and a worker that was never started makes its `Leave` alone, once the run has ended. So the lists of any record that has the run's
-/// items, and these, are lines of the outcome.
+/// misuse that it met. It has no halt. Where some workers wait to be started, whoever is started goes with the first turn that makes
+/// something, and makes a `done` on its group behind its script, which may be a misuse as a call may; an `End` on Starts stands behind
+/// each script that has ended, and behind that `done`; and a worker that was never started makes its `Leave` alone, once the run has
+/// ended. So the lists of any record that has the run's items, and these, are lines of the outcome.
 pub fn the_items_of_each_call_spell_it()
-    ensures always { (plan : Plan) (items : List Turn) (worker : ℕ) → is_valid plan ≡ true → Falls plan (has_ended plan (after_items plan items (start plan))) worker (all_made plan items (start plan)) (λ number. made_for plan worker number items (start plan)) (get_or (after_items plan items (start plan)).replies worker []) (misuse_of plan worker items (start plan)) }
+    ensures always { (plan : Plan) (items : List Turn) (worker : ℕ) → is_valid plan ≡ true → Falls plan (has_ended plan (after_items plan items (start plan))) worker (all_made plan items (start plan)) (λ number. made_for plan worker number items (start plan)) (get_or (after_items plan items (start plan)).replies worker []) (next_call plan worker (after_items plan items (start plan))) (misuse_of plan worker items (start plan)) }
     ensures outcomes { (plan : Plan) (outcome : Outcome) → is_valid plan ≡ true → StepsTo plan outcome
-        → (count : ℕ) × ((r : Record) → r.lists ≡ lists_of plan (all_made plan (plan.schedule ++ rounds count plan.workers) (start plan)) (endings_of plan outcome (λ worker. misuse_of plan worker (plan.schedule ++ rounds count plan.workers) (start plan))) → (lines : List Line) × AreLines plan r outcome lines × EndAs plan outcome (λ worker. misuse_of plan worker (plan.schedule ++ rounds count plan.workers) (start plan)) lines) }
+        → (count : ℕ) × ((r : Record) → r.lists ≡ lists_of plan (all_made plan (plan.schedule ++ rounds count plan.workers) (start plan)) (outcome_endings plan outcome (plan.schedule ++ rounds count plan.workers)) → (lines : List Line) × AreLines plan r outcome lines × EndAs (outcome_endings plan outcome (plan.schedule ++ rounds count plan.workers)) lines) }
 {
     validity();
     something_is_used_up();
@@ -320,7 +347,7 @@ pub fn no_put_is_dropped()
     scripts::runs_go_on::<Name>();
 }
 
-/// Once every script has ended, nothing that is left of the schedule makes an event or has an effect, but
+/// Once every worker has ended that was live, nothing that is left of the schedule makes an event or has an effect, but
 /// that the clock may be set.
 pub fn nothing_follows_the_end()
     ensures { (plan : Plan) (state : State) (items : List Turn) → IsStateOf plan state → has_ended plan state ≡ true

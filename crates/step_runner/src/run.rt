@@ -14,7 +14,7 @@ use crate::laws;
 use crate::numbering::number_all;
 use crate::state::State;
 use crate::step::Step;
-use crate::turn::{next_call, take_turn};
+use crate::turn::{has_next, take_turn};
 use crate::turns::laws::maps_keep_to_the_keys_of_calls;
 use crate::turns::laws::within::keys_are_kept;
 use script_calls::{Ending, Outcome, Report};
@@ -77,20 +77,20 @@ fn take_round(alloc: Global, workload: &Workload, state: &mut State) -> Result<S
     Ok(so_far)
 }
 
-/// Whether every script has ended, but those of workers that wait to be started.
+/// Whether every worker has ended that was live: none stands before a call.
 fn has_ended(workload: &Workload, state: &State) -> bool
     requires { IsKeptFor workload.now state.now }
     ensures { result ≡ has_ended workload.now state.now.state }
 {
     for worker in 0..workload.workers() {
-        if next_call(workload, worker, state).is_some() {
+        if has_next(workload, worker, state) {
             return false;
         }
     }
     true
 }
 
-/// Takes rounds until every such script has ended, a turn is a misuse, or a whole round makes no event.
+/// Takes rounds until every worker has ended that was live, a turn is a misuse, or a whole round makes no event.
 fn take_rounds(alloc: Global, workload: &Workload, state: &mut State) -> Result<Ending, AllocError>
     requires { IsKeptFor workload.now state.old }
     ensures { IfOk result (λ ending. all_rounds workload.now state.old.state ≡ (state.new.state, ending)) }
@@ -153,7 +153,7 @@ fn outcome(
 ///
 /// The schedule's items are taken in order: a worker's number gives that worker one turn, and a moment
 /// sets the clock, which stands at 0 before. After the schedule come rounds, in which each worker from 0
-/// up takes one turn. The run ends once every script has ended, at the first turn that is a misuse, or
+/// up takes one turn. The run ends once every worker has ended that was live, at the first turn that is a misuse, or
 /// behind a round in which nobody made an event. Only want of memory is an `Err`. No reply shows more
 /// pairs than a workload may have keys, and each has the form of its call's replies.
 pub fn stepped(alloc: Global, workload: &Workload) -> Result<Outcome, AllocError>

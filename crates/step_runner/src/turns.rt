@@ -18,4 +18,4 @@ pub use answer::Answer;
 pub use object_state::ObjectState;
 pub use stages::Taker;
 pub use turn::take_turn_at;
-pub use within::take_turn_within;
+pub use within::{take_done_turn, take_turn_within};

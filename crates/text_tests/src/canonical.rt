@@ -2,7 +2,7 @@
 use std::test::Fail;
 use workload_text::{parse, print};
 
-const CANONICAL_TEXTS: [(&[u8], &[u8]); 10] = [
+const CANONICAL_TEXTS: [(&[u8], &[u8]); 11] = [
     (
         b"workers 1\nmap t\nint32 a\nint64 b\nuint32 c\nuint64 d\nbool e\nworker 0\nstore a -2147483648\nadd b -1\nand c 7\nor d 18446744073709551615\ncas e false true\nswap e true\nload a\n",
         b"workers 1\nmap t\nint32 a\nint64 b\nuint32 c\nuint64 d\nbool e\nworker 0\nstore a -2147483648\nadd b -1\nand c 7\nor d 18446744073709551615\ncas e false true\nswap e true\nload a\n",
@@ -35,6 +35,10 @@ const CANONICAL_TEXTS: [(&[u8], &[u8]); 10] = [
     (
         b"workers 2\ndormant 1\ndormant 0\n",
         b"workers 2\ndormant 0\ndormant 1\nworker 0\nworker 1\n",
+    ),
+    (
+        b"workers 3\nwaitgroup g 1\nworker 1\ndormant 2\n go  g 2\nworker 0\ndormant 1\ngo g 1\ndone g\n",
+        b"workers 3\nwaitgroup g 1\ndormant 1\ndormant 2\nworker 0\ngo g 1\ndone g\nworker 1\ngo g 2\nworker 2\n",
     ),
     (
         b"workers 2\nschedule 0 1 0 1\nschedule 0 @5 0 1 1\n",

@@ -35,4 +35,4 @@ pub use parts::{
 };
 pub use pass::AnyPass;
 pub use rows::{deal_row, put_row};
-pub use starting::{tell_end, wait_start};
+pub use starting::{start, tell_end, wait_start};

@@ -1,7 +1,6 @@
 -- All jobs of a run, before the start and behind it.
-use Rattle.std.proofs.Common.{◌≡◌, ℕ, zero, suc, ◌+◌, ◌^◌, ◌<◌, true, ◌&&◌, ◌==◌, List, [], ◌∷◌, length, get_or, map, Option, Some, slice_get, refl, sym, ap, ◌∙◌, subst, arith}
-use Rattle.std.specs.List.{list_all, range_with_len, AllZip}
-use Rattle.std.proofs.lemmas.Bool.{and_parts, eqb-true}
+use Rattle.std.proofs.Common.{◌≡◌, ℕ, zero, suc, ◌+◌, ◌^◌, ◌<◌, List, [], ◌∷◌, length, get_or, map, Option, Some, slice_get, refl, sym, ap, ◌∙◌, subst, arith}
+use Rattle.std.specs.List.{range_with_len, AllZip}
 use Rattle.std.proofs.lemmas.List.{length-map}
 use Rattle.std.proofs.lemmas.Option.{none-some, same_Some, slice_get_within, get_or_from_slice_get}
 use Rattle.script_calls.specs.declared.call.Reply.{Reply}
@@ -11,7 +10,7 @@ use Rattle.sync_model.specs.Front.{Front}
 use Rattle.sync_model.specs.Note.{Holding}
 use Rattle.sync_model.specs.Shared.{AreAllCallers}
 use Rattle.workload.specs.Keys.{keys_in}
-use Rattle.workload.specs.Plan.{Plan, is_on, is_turn, refers, is_valid}
+use Rattle.workload.specs.Plan.{Plan}
 use Rattle.thread_objects.specs.declared.object.AnyObject.{AnyObject}
 use Rattle.thread_objects.specs.declared.pass.AnyPass.{AnyPass}
 use Rattle.thread_runner.specs.AllGone.{HaveGone}
@@ -20,10 +19,6 @@ use Rattle.thread_runner.specs.EndsPlans.{HaveMadeNone, HaveSpare}
 use Rattle.thread_runner.specs.Jobs.{HasRoom, IsReady, HasGone}
 use Rattle.thread_runner.proofs.Dealt.{mapped_found}
 use Rattle.thread_runner.proofs.Ended.{held_number}
-
--- a workload that was read has a script for each worker
-pub one_script_each : (plan : Plan) → is_valid plan ≡ true → length plan.scripts ≡ plan.workers
-one_script_each plan valid = eqb-true (length plan.scripts) plan.workers (and_parts (length plan.scripts == plan.workers) (list_all (list_all (λ call. is_on plan.objects (slice_get plan.objects call.object) call)) plan.scripts && (list_all (is_turn plan.workers) plan.schedule && (list_all (λ object. refers plan.objects object.kind) plan.objects && (length plan.dormant == plan.workers)))) valid).0
 
 -- the item of a list that a mapped list's item comes from
 mapped_from : {A B : Type 0} (f : A → B) (xs : List A) (k : ℕ) (y : B) → slice_get (map f xs) k ≡ Some y → (x : A) × (slice_get xs k ≡ Some x) × (f x ≡ y)

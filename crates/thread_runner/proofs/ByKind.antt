@@ -9,7 +9,7 @@ use Rattle.sync_types.specs.declared.atomic_object.AtomicKind.{AtomicKind}
 use Rattle.sync_types.specs.declared.atomic_object.Number.{Number}
 use Rattle.script_calls.specs.declared.call.Call.{Call}
 use Rattle.script_calls.specs.declared.call.ComposedCall.{ComposedCall}
-use Rattle.script_calls.specs.declared.call.ComposedCall.TheVariants.{IfEqual, WaitFor}
+use Rattle.script_calls.specs.declared.call.ComposedCall.TheVariants.{IfEqual, WaitFor, Go}
 use Rattle.script_calls.specs.declared.call.Operation.{Operation}
 use Rattle.script_calls.specs.declared.call.Operation.TheVariants as operations
 use Rattle.script_calls.specs.declared.call.Reply.{Reply}
@@ -18,23 +18,26 @@ use Rattle.sync_types.specs.declared.pool_call.PoolCall.{PoolCall}
 use Rattle.protocols.specs.Spelling.{CallAnswer}
 use Rattle.workload.specs.declared.object.ObjectKind.{ObjectKind}
 use Rattle.workload.specs.declared.object.ObjectKind.TheVariants as kinds
-use Rattle.workload.specs.Plan.{Plan, has_among, has_call, is_on, may_hold}
+use Rattle.workload.specs.Plan.{Plan, has_among, has_call, has_dormant, is_on, may_hold, starts_dormant}
 use Rattle.workload.specs.declared.object.ObjectLine.{ObjectLine}
 use Rattle.workload.specs.Keys.{keys_in}
 use Rattle.run_record.specs.AtomicKind.{atomic_call}
 use Rattle.run_record.specs.MapKind.{map_call, range_call}
-use Rattle.run_record.specs.Objects.{map_number, atomic_number, first_part}
+use Rattle.run_record.specs.Objects.{map_number, atomic_number, first_part, starts_number}
 use Rattle.run_record.specs.PoolKind.{pool_call}
 use Rattle.run_record.specs.Record.{object_number}
+use Rattle.run_record.specs.StartsKind.{go_call}
 use Rattle.run_record.specs.Tests.{if_equal_call, wait_for_call}
 use Rattle.run_record.specs.Calls.{call_on, call_at, SpellsCall}
 use Rattle.thread_objects.specs.Alone.{IsAlone}
 use Rattle.thread_objects.specs.Catalog.{IsAt}
 use Rattle.thread_objects.specs.Working.{Desk, Works}
+use Rattle.thread_runner.proofs.WholeLines.{some_dormant}
 
 -- a call that is on one object alone is one that this object has, whatever others there are
 pub alone_has : (objects : List ObjectLine) (kind : ObjectKind) (operation : Operation) → IsAlone operation → has_among objects kind operation ≡ true → has_call kind operation ≡ true
 alone_has objects (kinds.Cond mutex) (operations.Composed call) alone has = absurd alone
+alone_has objects (kinds.WaitGroup start) (operations.Composed call) alone has = absurd alone
 alone_has objects kind operation alone has = has
 
 -- an atomic that may hold a number
@@ -71,6 +74,11 @@ module _ (plan : Plan) where
   wait_for_kind (kinds.Cond mutex) atomic value tries has = let is = atomic_line value (slice_get plan.objects atomic) has in ((mutex, refl), (is.0, (is.1, is.2, is.3)))
   wait_for_kind kind atomic value tries has = absurd (false≢true has)
 
+  -- one that has a `go` is a wait group
+  pub go_kind : (kind : ObjectKind) (started : ℕ) → has_among plan.objects kind (operations.Composed (Go started)) ≡ true → (start : ℕ) × (kind ≡ kinds.WaitGroup start)
+  go_kind (kinds.WaitGroup start) started has = (start, refl)
+  go_kind kind started has = absurd (false≢true has)
+
   module _ (kind : ObjectKind) (call : ComposedCall) (has : has_among plan.objects kind (operations.Composed call) ≡ true) where
     -- the object has the call, under its own name
     has_composed : (own : ComposedCall) → call ≡ own → has_among plan.objects kind (operations.Composed own) ≡ true
@@ -84,6 +92,13 @@ module _ (plan : Plan) where
 
     pub awaits_at : (atomic : ℕ) (value : Number) (tries : ℕ) → call ≡ WaitFor atomic value tries → ((mutex : ℕ) × (kind ≡ kinds.Cond mutex)) × ((type : AtomicKind) × IsAt plan atomic (kinds.Atomic type))
     awaits_at atomic value tries is = wait_for_kind kind atomic value tries (has_composed (WaitFor atomic value tries) is)
+
+    pub group_here : (started : ℕ) → call ≡ Go started → (start : ℕ) × (kind ≡ kinds.WaitGroup start)
+    group_here started is = go_kind kind started (has_composed (Go started) is)
+
+  -- where a call starts a worker, some wait to be started
+  pub some_wait : (call : ComposedCall) (started : ℕ) → call ≡ Go started → starts_dormant plan.dormant (operations.Composed call) ≡ true → has_dormant plan ≡ true
+  some_wait call started is dormant = some_dormant plan.dormant started (ap (λ (c : ComposedCall). starts_dormant plan.dormant (operations.Composed c)) (sym is) ∙ dormant)
 
 module _ (plan : Plan) (worker before place : ℕ) (old new : Desk) (answer : CallAnswer (Reply ℕ)) where
   abbrev MadeOn : ObjectKind → Operation → Type 0
@@ -114,6 +129,11 @@ module _ (plan : Plan) (worker before place : ℕ) (old new : Desk) (answer : Ca
       → Works (wait_for_call (object_number place) (object_number mutex) (atomic_number plan.objects atomic) value tries) old answer new → MadeOn kind (operations.Composed call)
   wait_for_made kind call atomic value tries is mutex at works =
       subst (λ (c : ComposedCall). MadeOn kind (operations.Composed c)) (sym is) (subst (λ (k : ObjectKind). MadeOn k (operations.Composed (WaitFor atomic value tries))) (sym at) works)
+
+  pub go_made : (kind : ObjectKind) (call : ComposedCall) (started : ℕ) → call ≡ Go started → (start : ℕ) → kind ≡ kinds.WaitGroup start
+      → Works (go_call (object_number place) (starts_number plan) started) old answer new → MadeOn kind (operations.Composed call)
+  go_made kind call started is start at works =
+      subst (λ (c : ComposedCall). MadeOn kind (operations.Composed c)) (sym is) (subst (λ (k : ObjectKind). MadeOn k (operations.Composed (Go started))) (sym at) works)
 
   module _ (kind : ObjectKind) (operation : Operation) (has : has_among plan.objects kind operation ≡ true) where
     -- the object has the operation, under its own name

@@ -21,6 +21,7 @@ pub mod Sites
 pub mod HaltLemmas
 pub mod PoolLooks
 pub mod Slots
+pub mod StartedUnder
 pub mod Tries
 pub mod WholeLines
 pub mod Working

@@ -21,7 +21,7 @@ use Rattle.workload.specs.declared.object.ObjectLine.{ObjectLine}
 use Rattle.workload.specs.CallWords.{map_values}
 use Rattle.workload.specs.Draft.{all_keys, is_call, is_map_call, is_value, keys_of, operation_keys}
 use Rattle.workload.specs.Keys.{number_in, key_number}
-use Rattle.workload.specs.Plan.{Plan, is_on, is_turn, refers, is_valid}
+use Rattle.workload.specs.Plan.{Plan, is_on, is_turn, refers, is_valid, starts_dormant}
 use Rattle.workload.specs.Readable.{IsReadable}
 use Rattle.thread_runner.specs.Sites.{IsScripted}
 
@@ -51,6 +51,33 @@ module _ {A : Type 0} where
   script_at (script ∷ scripts) zero i x at = (script, refl, at)
   script_at (script ∷ scripts) (suc worker) i x at = script_at scripts worker i x at
 
+-- what is asked of a plan behind the objects of its calls, and behind what its objects refer to
+abbrev of_dormant : Plan → Bool
+of_dormant plan = (length plan.dormant == plan.workers) && list_all (list_all (λ (c : Call). starts_dormant plan.dormant c.operation)) plan.scripts
+
+abbrev behind_calls : Plan → Bool
+behind_calls plan = list_all (is_turn plan.workers) plan.schedule && (list_all (λ (o : ObjectLine). refers plan.objects o.kind) plan.objects && of_dormant plan)
+
+-- a workload that was read has a script for each worker
+pub one_script_each : (plan : Plan) → is_valid plan ≡ true → length plan.scripts ≡ plan.workers
+one_script_each plan valid =
+    let on = list_all (list_all (λ (c : Call). is_on plan.objects (slice_get plan.objects c.object) c)) plan.scripts in
+    eqb-true (length plan.scripts) plan.workers (and_parts (length plan.scripts == plan.workers) (on && behind_calls plan) valid).0
+
+-- each call is on an object that has it
+pub calls_are_on : (plan : Plan) → is_valid plan ≡ true → list_all (list_all (λ (c : Call). is_on plan.objects (slice_get plan.objects c.object) c)) plan.scripts ≡ true
+calls_are_on plan valid =
+    let on = list_all (list_all (λ (c : Call). is_on plan.objects (slice_get plan.objects c.object) c)) plan.scripts in
+    (and_parts on (behind_calls plan) (and_parts (length plan.scripts == plan.workers) (on && behind_calls plan) valid).1).0
+
+refer_and_wait : (plan : Plan) → is_valid plan ≡ true → (list_all (λ (o : ObjectLine). refers plan.objects o.kind) plan.objects ≡ true) × (of_dormant plan ≡ true)
+refer_and_wait plan valid =
+    let on = list_all (list_all (λ (c : Call). is_on plan.objects (slice_get plan.objects c.object) c)) plan.scripts in
+    let turns = list_all (is_turn plan.workers) plan.schedule in
+    let refer = list_all (λ (o : ObjectLine). refers plan.objects o.kind) plan.objects in
+    let behind = (and_parts on (behind_calls plan) (and_parts (length plan.scripts == plan.workers) (on && behind_calls plan) valid).1).1 in
+    and_parts refer (of_dormant plan) (and_parts turns (refer && of_dormant plan) behind).1
+
 module _ (plan : Plan) (worker : ℕ) (call : Call) (scripted : IsScripted plan worker call) where
   abbrev found : (script : List Call) × (slice_get plan.scripts worker ≡ Some script) × (slice_get script scripted.0 ≡ Some call)
   found = script_at plan.scripts worker scripted.0 call scripted.1
@@ -60,17 +87,17 @@ module _ (plan : Plan) (worker : ℕ) (call : Call) (scripted : IsScripted plan 
   of_each p all = all_at p found.0 scripted.0 call (all_at (list_all p) plan.scripts worker found.0 all found.1) found.2
 
   pub on_object : is_valid plan ≡ true → is_on plan.objects (slice_get plan.objects call.object) call ≡ true
-  on_object valid =
-      let on = list_all (list_all (λ (c : Call). is_on plan.objects (slice_get plan.objects c.object) c)) plan.scripts in
-      let rest = list_all (is_turn plan.workers) plan.schedule && (list_all (λ (o : ObjectLine). refers plan.objects o.kind) plan.objects && (length plan.dormant == plan.workers)) in
-      of_each (λ c. is_on plan.objects (slice_get plan.objects c.object) c) (and_parts on rest (and_parts (length plan.scripts == plan.workers) (on && rest) valid).1).0
+  on_object valid = of_each (λ c. is_on plan.objects (slice_get plan.objects c.object) c) (calls_are_on plan valid)
+
+  -- the worker that it starts, if it starts one, waits to be started
+  pub starts_one : is_valid plan ≡ true → starts_dormant plan.dormant call.operation ≡ true
+  starts_one valid =
+      let each = list_all (list_all (λ (c : Call). starts_dormant plan.dormant c.operation)) plan.scripts in
+      of_each (λ c. starts_dormant plan.dormant c.operation) (and_parts (length plan.dormant == plan.workers) each (refer_and_wait plan valid).1).1
 
   -- it is a worker of the run
   pub worker_within : is_valid plan ≡ true → worker < plan.workers
-  worker_within valid =
-      let on = list_all (list_all (λ (c : Call). is_on plan.objects (slice_get plan.objects c.object) c)) plan.scripts in
-      let rest = list_all (is_turn plan.workers) plan.schedule && (list_all (λ (o : ObjectLine). refers plan.objects o.kind) plan.objects && (length plan.dormant == plan.workers)) in
-      omega (arith, slice_get_within plan.scripts worker found.0 found.1, eqb-true (length plan.scripts) plan.workers (and_parts (length plan.scripts == plan.workers) (on && rest) valid).0)
+  worker_within valid = omega (arith, slice_get_within plan.scripts worker found.0 found.1, one_script_each plan valid)
 
   pub in_range : IsReadable plan → is_call call ≡ true
   in_range readable = of_each is_call readable.calls
@@ -80,14 +107,7 @@ module _ (plan : Plan) (worker : ℕ) (call : Call) (scripted : IsScripted plan 
 
 -- an object to which another one refers
 pub refers_at : (plan : Plan) (place : ℕ) (line : ObjectLine) → is_valid plan ≡ true → slice_get plan.objects place ≡ Some line → refers plan.objects line.kind ≡ true
-refers_at plan place line valid at =
-    let count = length plan.scripts == plan.workers in
-    let on = list_all (list_all (λ (c : Call). is_on plan.objects (slice_get plan.objects c.object) c)) plan.scripts in
-    let turns = list_all (is_turn plan.workers) plan.schedule in
-    let refer = list_all (λ (o : ObjectLine). refers plan.objects o.kind) plan.objects in
-    let dormant = length plan.dormant == plan.workers in
-    let all = and_parts turns (refer && dormant) (and_parts on (turns && (refer && dormant)) (and_parts count (on && (turns && (refer && dormant))) valid).1).1 in
-    all_at (λ (o : ObjectLine). refers plan.objects o.kind) plan.objects place line (and_parts refer dormant all.1).0 at
+refers_at plan place line valid at = all_at (λ (o : ObjectLine). refers plan.objects o.kind) plan.objects place line (refer_and_wait plan valid).0 at
 
 -- one of the names has a place among them
 position_of : (p : List ℕ → Bool) (from : ℕ) (names : List (List ℕ)) → list_any p names ≡ true → (n : ℕ) × (position_from p from names ≡ Some n)

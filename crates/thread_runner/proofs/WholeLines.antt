@@ -7,23 +7,29 @@ use Rattle.std.proofs.lemmas.List.{append-nil, append_assoc}
 use Rattle.std.proofs.lemmas.Option.{same_Some}
 use Rattle.script_calls.specs.declared.call.Call.{Call}
 use Rattle.script_calls.specs.declared.call.Reply.{Reply}
+use Rattle.script_calls.specs.declared.call.Reply.TheVariants as replies
 use Rattle.script_calls.specs.Runs.{RunsAlong}
+use Rattle.script_calls.specs.Starts.{group_of}
 use Rattle.sync_model.specs.declared.answer.Answer.TheVariants.{Done, Halted}
 use Rattle.sync_types.specs.declared.misuse.Misuse.{Misuse}
+use Rattle.sync_types.specs.declared.wait_call.WaitGroupCall.TheVariants as group_calls
+use Rattle.protocols.specs.declared.wait_group.GroupStage.TheVariants as stages
 use Rattle.protocols.specs.Spelling.{CallAnswer}
 use Rattle.workload.specs.Plan.{Plan, is_dormant, has_dormant}
 use Rattle.run_record.specs.declared.made.Made.{Made}
 use Rattle.run_record.specs.Lines.{Line, SpeltCall, whole, misused, halted, stayed, never, stopped, EndsBy}
 use Rattle.run_record.specs.Objects.{starts_number}
-use Rattle.run_record.specs.Parts.{returns}
+use Rattle.run_record.specs.Parts.{Part, and_then, returns, with_outcome}
 use Rattle.run_record.specs.Plain.{EndsPlainly}
-use Rattle.run_record.specs.StartsKind.{opening, closing, wait_start_part, end_part}
+use Rattle.run_record.specs.Record.{object_number}
+use Rattle.run_record.specs.StartsKind.{opening, closing, done_part, done_under, wait_start_part, end_part}
+use Rattle.run_record.specs.WaitGroupKind.{wait_group_call, wait_group_part}
 use Rattle.thread_objects.specs.Laws.{Stays, Joins}
 use Rattle.thread_objects.specs.Working.{Desk, Moves, Works}
 use Rattle.thread_runner.specs.DidLines.{DidLine, MadeCalls, WentThrough, ending_by}
 use Rattle.thread_runner.specs.Halting.{HaltsAll}
 use Rattle.thread_runner.specs.Replies.{has_come, is_through, misuse_in}
-use Rattle.thread_runner.proofs.Working.{rests}
+use Rattle.thread_runner.proofs.Working.{reads, rests}
 
 -- where one worker waits to be started, some do
 pub some_dormant : (dormant : List Bool) (worker : ℕ) → get_or dormant worker false ≡ true → list_any (λ waits. waits) dormant ≡ true
@@ -31,6 +37,12 @@ some_dormant [] worker is = absurd (false≢true is)
 some_dormant (true ∷ dormant) worker is = refl
 some_dormant (false ∷ dormant) zero is = absurd (false≢true is)
 some_dormant (false ∷ dormant) (suc worker) is = some_dormant dormant worker is
+
+-- of a call that tells nothing, it is told that it was made, however that is read
+told_twice : (answer : CallAnswer (Unit {0})) → answer ≡ with_outcome (λ (reply : Reply ℕ). tt) (with_outcome (λ (done : Unit {0}). replies.Returned) answer)
+told_twice (Done (Ok tt)) = refl
+told_twice (Done (Err misuse)) = refl
+told_twice (Halted misuse) = refl
 
 module _ (plan : Plan) (worker : ℕ) where
   -- what a worker makes before its script: where it waits to be started, it asks, and else it makes nothing
@@ -47,12 +59,34 @@ module _ (plan : Plan) (worker : ℕ) where
   told_to_come old new (Done (Err misuse)) come works = absurd (false≢true come)
   told_to_come old new (Halted misuse) come works = absurd (false≢true come)
 
-  -- and behind it: where some workers wait, it tells that it has ended, and else it makes nothing
-  pub tells_last : (old new : Desk) (answer : CallAnswer (Unit {0})) → has_dormant plan ≡ true → Works (end_part (starts_number plan)) old answer new → Works (closing plan worker) old answer new
-  tells_last old new answer is works = subst (λ (b : Bool). Works (cond b (end_part (starts_number plan)) (returns tt)) old answer new) (sym is) works
+  -- and behind it: where some workers wait, what it does with its group, and then that it has ended; else it makes nothing
+  abbrev pub ends_behind : Part (Unit {0})
+  ends_behind = and_then (done_part plan worker) (λ done. end_part (starts_number plan))
+
+  pub closes_by : (old new : Desk) (answer : CallAnswer (Unit {0})) → has_dormant plan ≡ true → Works ends_behind old answer new → Works (closing plan worker) old answer new
+  closes_by old new answer is works = subst (λ (b : Bool). Works (cond b ends_behind (returns tt)) old answer new) (sym is) works
 
   pub ends_at_once : Stays → (desk : Desk) → has_dormant plan ≡ false → Works (closing plan worker) desk (Done (Ok tt)) desk
-  ends_at_once stays desk is = subst (λ (b : Bool). Works (cond b (end_part (starts_number plan)) (returns tt)) desk (Done (Ok tt)) desk) (sym is) (rests stays (returns tt) desk (Done (Ok tt)) (refl, refl))
+  ends_at_once stays desk is = subst (λ (b : Bool). Works (cond b ends_behind (returns tt)) desk (Done (Ok tt)) desk) (sym is) (rests stays (returns tt) desk (Done (Ok tt)) (refl, refl))
+
+  -- a worker that wasn't started by another does nothing with a group, and neither does one that no call starts
+  pub without_group : Stays → (desk : Desk) → is_dormant plan worker ≡ false → Works (done_part plan worker) desk (Done (Ok tt)) desk
+  without_group stays desk is = subst (λ (b : Bool). Works (cond b (done_under (group_of worker plan.scripts)) (returns tt)) desk (Done (Ok tt)) desk) (sym is) (rests stays (returns tt) desk (Done (Ok tt)) (refl, refl))
+
+  under : (old new : Desk) (answer : CallAnswer (Unit {0})) (group : Option ℕ) → is_dormant plan worker ≡ true → group ≡ group_of worker plan.scripts → Works (done_under group) old answer new → Works (done_part plan worker) old answer new
+  under old new answer group is same works =
+      subst (λ (b : Bool). Works (cond b (done_under (group_of worker plan.scripts)) (returns tt)) old answer new) (sym is) (subst (λ (o : Option ℕ). Works (done_under o) old answer new) same works)
+
+  pub under_none : Stays → (desk : Desk) (group : Option ℕ) → is_dormant plan worker ≡ true → group ≡ group_of worker plan.scripts → group ≡ None → Works (done_part plan worker) desk (Done (Ok tt)) desk
+  under_none stays desk group is same none = under desk desk (Done (Ok tt)) None is (sym none ∙ same) (rests stays (returns tt) desk (Done (Ok tt)) (refl, refl))
+
+  -- any other makes the `done`
+  pub under_group : (old new : Desk) (answer : CallAnswer (Unit {0})) (group : Option ℕ) (place : ℕ) → is_dormant plan worker ≡ true → group ≡ group_of worker plan.scripts → group ≡ Some place
+      → Works (wait_group_part (object_number place) stages.Done) old answer new → Works (done_part plan worker) old answer new
+  under_group old new answer group place is same some works =
+      under old new answer (Some place) is (sym some ∙ same)
+      (reads (λ done. tt) (wait_group_call (object_number place) group_calls.Done) old new (with_outcome (λ done. replies.Returned) answer) answer (told_twice answer)
+      (reads (λ done. replies.Returned) (wait_group_part (object_number place) stages.Done) old new answer (with_outcome (λ done. replies.Returned) answer) refl works))
 
   -- what closes a script stands at its end
   closed_by : (answer : CallAnswer (Unit {0})) (before : ℕ) (items : List Made) → closing plan worker items answer → EndsBy plan worker before (ending_by answer) [] items

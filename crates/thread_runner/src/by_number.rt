@@ -1,12 +1,14 @@
 //! Calls by the place of their object.
 ghost use Rattle.std.specs.Prelude.{◌≡◌, ℕ, ◌+◌, ◌<◌, true, length, IfSome, IfNone};
 ghost use Rattle.sync_model.specs.Shared.{IsCallerAt, items_of};
+ghost use Rattle.protocols.specs.declared.wait_group.GroupStage.TheVariants as stages;
 ghost use Rattle.workload.specs.declared.object.ObjectWord.TheVariants as words;
 ghost use Rattle.workload.specs.Plan.{refers};
 ghost use Rattle.ruled_object.specs.Growth.{KeepsNote};
 ghost use Rattle.run_record.specs.Calls.{call_on};
 ghost use Rattle.run_record.specs.CondKind.{wait_part};
 ghost use Rattle.run_record.specs.Record.{object_number};
+ghost use Rattle.run_record.specs.WaitGroupKind.{wait_group_part};
 ghost use Rattle.thread_objects.specs.Calling.{HasCalled};
 ghost use Rattle.thread_objects.specs.Catalog.{HasAtomics};
 ghost use Rattle.thread_objects.specs.GivenUp.{GaveUp};
@@ -16,11 +18,14 @@ ghost use Rattle.thread_objects.specs.Desks.{AreSeats, IsObjectAt};
 ghost use Rattle.thread_objects.specs.Kinds.{HasWord, IsOfKind};
 ghost use Rattle.thread_objects.specs.Passes.{owns_of};
 
+use crate::desk::group_at;
 use crate::wait::wait;
+use protocols::GroupStage;
 use script_calls::Operation;
 use std::sync::Wait;
-use sync_model::{Caller, Note, Shared};
+use sync_model::{Answer, Caller, Note, Shared};
 use sync_outside::Clock;
+use sync_types::Misuse;
 use thread_objects::{AnyObject, AnyPass, CallAnswer, Catalog, Worker, call_any};
 use workload::ObjectKind;
 
@@ -79,4 +84,26 @@ pub(crate) fn wait_at<N: Note, C: Clock, R: Wait>(
 {
     let _count = objects.len();
     wait(rt, worker, objects, passes, note, place + 1, mutex + 1)
+}
+
+/// Makes a `done` on the wait group at a place. It waits for nobody.
+pub(crate) fn done_at<N: Note, C: Clock, R: Wait>(
+    rt: &R,
+    worker: &Worker<N, C>,
+    objects: &[AnyObject<N>],
+    passes: &mut [AnyPass<N>],
+    note: &mut N,
+    place: usize,
+) -> Answer<Result<(), Misuse>>
+    requires group { IsObjectAt (HasWord words.WaitGroup) objects.now (object_number place) }
+    requires room { place + 1 < length objects.now }
+    requires seats { AreSeats N.at worker.now.at.home.now worker.now.workers worker.now.number objects.now passes.old }
+    requires note { N.at worker.now.at.home.now note.old }
+    ensures seats { AreSeats N.at worker.now.at.home.now worker.now.workers worker.now.number objects.now passes.new }
+    ensures note { KeepsNote N.at N.own N.front note.old note.new }
+    ensures works { Works (wait_group_part (object_number place) stages.Done) (desk_with N.own N.front (owns_of passes.old) note.old) result (desk_with N.own N.front (owns_of passes.new) note.new) }
+{
+    let _count = objects.len();
+    let done = GroupStage::Done;
+    group_at(rt, worker, objects, passes, note, place + 1, done)
 }

@@ -1,10 +1,11 @@
-//! Calls that are made of other calls: `ifeq` tests an atomic, and `waitfor` waits on a cond until a test of an atomic is met.
+//! Calls that are made of other calls: `ifeq` tests an atomic, `waitfor` waits on a cond until a test of an atomic is met, and `go`
+//! starts a worker under a wait group.
 ghost use Rattle.std.specs.Prelude.{◌≡◌, ℕ, true, List};
 ghost use Rattle.sync_types.specs.declared.atomic_object.AtomicKind.{AtomicKind};
 ghost use Rattle.script_calls.specs.declared.call.Operation.TheVariants.{Composed};
 ghost use Rattle.sync_model.specs.Shared.{IsCallerAt};
 ghost use Rattle.workload.specs.declared.object.ObjectKind.TheVariants.{Atomic};
-ghost use Rattle.workload.specs.Plan.{has_among, refers};
+ghost use Rattle.workload.specs.Plan.{has_among, refers, starts_dormant};
 ghost use Rattle.run_record.specs.Calls.{call_on};
 ghost use Rattle.run_record.specs.Objects.{atomic_number};
 ghost use Rattle.run_record.specs.Record.{ObjectEntry};
@@ -16,9 +17,11 @@ ghost use Rattle.thread_objects.specs.Passes.{owns_of};
 ghost use Rattle.thread_objects.specs.Working.{Works, desk_with};
 ghost use Rattle.thread_runner.specs.Sites.{IsSite};
 
+mod starting;
 mod testing;
 mod waiting;
 
+use crate::composed::starting::go_at;
 use crate::composed::testing::{compared, test_at};
 use crate::composed::waiting::wait_for_at;
 use crate::site::Site;
@@ -66,6 +69,7 @@ pub(crate) fn composed_at<S: Shared, C: Clock, R: Wait>(
     requires place { IsAt site.now.catalog.workload.now place kind }
     requires call { has_among site.now.catalog.workload.now.objects kind (Composed call) ≡ true }
     requires reference { refers site.now.catalog.workload.now.objects kind ≡ true }
+    requires dormant { starts_dormant site.now.catalog.workload.now.dormant (Composed call) ≡ true }
     requires caller { IsCallerAt S.Mark.at S.Mark.own worker.now.at.home.now caller.old }
     requires seats { AreSeats S.Mark.at worker.now.at.home.now worker.now.workers worker.now.number site.now.objects.now passes.old }
     ensures seats { AreSeats S.Mark.at worker.now.at.home.now worker.now.workers worker.now.number site.now.objects.now passes.new }
@@ -96,5 +100,9 @@ pub(crate) fn composed_at<S: Shared, C: Clock, R: Wait>(
             ),
             _ => unreachable!(),
         },
+        ComposedCall::Go { worker: started } => {
+            let _count = site.objects.len();
+            go_at(rt, site, worker, caller, passes, place, started)
+        }
     }
 }

@@ -8,7 +8,7 @@ ghost use Rattle.sync_model.specs.Shared.{IsCallerAt, items_of};
 ghost use Rattle.workload.specs.declared.object.ObjectKind.TheVariants.{Pool};
 ghost use Rattle.workload.specs.Draft.{all_keys, is_operation, operation_keys};
 ghost use Rattle.workload.specs.Keys.{keys_in};
-ghost use Rattle.workload.specs.Plan.{has_among, refers};
+ghost use Rattle.workload.specs.Plan.{has_among, refers, starts_dormant};
 ghost use Rattle.run_record.specs.Calls.{SpellsCall, call_on};
 ghost use Rattle.run_record.specs.Limits.{IsCallOf};
 ghost use Rattle.run_record.specs.Objects.{first_part, object_count};
@@ -95,6 +95,7 @@ fn call_at<S: Shared, C: Clock, R: Wait>(
     requires place { IsAt site.now.catalog.workload.now place kind }
     requires call { has_among site.now.catalog.workload.now.objects kind operation.now ≡ true }
     requires reference { refers site.now.catalog.workload.now.objects kind ≡ true }
+    requires dormant { starts_dormant site.now.catalog.workload.now.dormant operation.now ≡ true }
     requires ranged { is_operation operation.now ≡ true }
     requires keys { (name : List ℕ) → list_any (bytes_eq name) (operation_keys operation.now) ≡ true → list_any (bytes_eq name) (all_keys site.now.catalog.workload.now.scripts) ≡ true }
     requires caller { IsCallerAt S.Mark.at S.Mark.own worker.now.at.home.now caller.old }

@@ -23,6 +23,7 @@ mod run;
 mod run_maps;
 mod script;
 mod site;
+mod starts;
 mod trie_maps;
 mod wait;
 mod whole_run;

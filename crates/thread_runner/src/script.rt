@@ -145,9 +145,9 @@ fn go_through<S: Shared, C: Clock, G: Gate, R: Wait>(
 }
 
 /// Makes the calls of a worker's script in order, but those that a reply passes over, with the gate before and behind each. Where some
-/// workers wait to be started, one that does comes to its script once it was started, and each that comes to its end says so. A misuse
-/// halts Stop, and then every object, and ends the worker, as a halt does that it meets. A call that answers nothing ends it too:
-/// none does, as is known once all workers have ended.
+/// workers wait to be started, one that does comes to its script once it was started, and makes the `done` on the group of its `go`
+/// behind it; and each that comes to its end says so. A misuse halts Stop, and then every object, and ends the worker, as a halt does
+/// that it meets. A call that answers nothing ends it too: none does, as is known once all workers have ended.
 pub(crate) fn run_script<S: Shared, C: Clock, G: Gate, R: Wait>(
     rt: &R,
     site: &Site<S>,

@@ -4,10 +4,10 @@ use Rattle.std.specs.Prelude.{nat_le, count_by}
 use Rattle.std.specs.List.{list_all}
 use Rattle.std.specs.Option.{option_to_list}
 use Rattle.std.specs.Fmt.{decimal}
-use Rattle.std.proofs.lemmas.Bool.{leb-true}
+use Rattle.std.proofs.lemmas.Bool.{leb-true, ltb-true}
 use Rattle.sync_types.specs.Name.{is_name}
 use Rattle.script_calls.specs.declared.call.ComposedCall.{ComposedCall}
-use Rattle.script_calls.specs.declared.call.ComposedCall.TheVariants.{IfEqual, WaitFor}
+use Rattle.script_calls.specs.declared.call.ComposedCall.TheVariants.{IfEqual, WaitFor, Go}
 use Rattle.script_calls.specs.declared.call.Operation.{Operation}
 use Rattle.script_calls.specs.declared.call.Operation.TheVariants as operations
 use Rattle.sync_types.specs.declared.map_object.MapCall.{MapCall}
@@ -30,23 +30,26 @@ use Rattle.sync_types.specs.declared.lock_call.RwMutexCall.TheVariants as rw_mut
 use Rattle.sync_types.specs.SequentialMap.{map_key}
 use Rattle.sync_types.specs.SequentialAtomic.{has_bits, is_of, is_atomic_call}
 use Rattle.sync_types.specs.declared.value.TheConstants.{MAX_VALUE}
+use Rattle.workload.specs.declared.limits.TheConstants.{MAX_WORKERS}
 use Rattle.workload.specs.declared.object.ObjectKind.{ObjectKind}
 use Rattle.workload.specs.declared.object.ObjectKind.TheVariants as kinds
 use Rattle.workload.specs.declared.object.ObjectWord.{ObjectWord}
 use Rattle.workload.specs.declared.object.ObjectWord.TheVariants as object_words
 use Rattle.workload.specs.declared.keyword.Operand.{Operand}
+use Rattle.workload.specs.declared.keyword.Operand.TheVariants as operands
 use Rattle.workload.specs.declared.keyword.Verb.{Verb}
 use Rattle.workload.specs.declared.keyword.Verb.TheVariants as verbs
 use Rattle.workload.specs.declared.reason.Reason.TheVariants.{WrongKind}
 use Rattle.workload.specs.Plan.{word_of, has_call, has_among}
 use Rattle.workload.specs.NumberWords.{number_word, number_of, is_number_to, is_tries}
 use Rattle.workload.specs.CallWords.{map_verb, map_operands, atomic_verb, atomic_operands, mutex_verb, rw_mutex_verb, cond_verb, group_verb, group_operands, pool_verb, pool_operands, composed_verb, composed_operands, verb_of, operands_of}
-use Rattle.workload.specs.Draft.{Draft, operation_keys, tries_of, names_second, is_operation, is_map_call, is_group_call, is_pool_call, is_composed_call, is_value, is_range_operation}
+use Rattle.workload.specs.Draft.{Draft, operation_keys, tries_of, may_start, names_second, is_operation, is_map_call, is_group_call, is_pool_call, is_composed_call, is_value, is_range_operation}
 use Rattle.workload.specs.Checks.{map_form, atomic_form, bits_form, mutex_form, rw_mutex_form, cond_form, group_form, pool_form, form_of, first_failing, form_words, wait_for_words, call_form, ranges_in}
 use Rattle.workload.proofs.Passing.{both}
 use Rattle.workload.proofs.FirstFailing.{PassesWith}
 use Rattle.workload.proofs.Numbers.{is_number-decimal, number_of-decimal}
 use Rattle.workload.proofs.CallWords.{number_passes, amount_passes, passes_pass, tries_pass, tries_back}
+use Rattle.workload.proofs.Started.{start_parts}
 use Rattle.workload.proofs.Awaits.{Awaits, awaits, alone_second, no_second}
 
 pub value_passes : (n : ℕ) → nat_le n MAX_VALUE ≡ true → is_number_to MAX_VALUE (decimal n) ≡ true
@@ -126,6 +129,7 @@ pool_passes d pool_calls.Sweep h = (refl, refl, refl)
 composed_passes : (d : Draft) (k : AtomicKind) (c : ComposedCall) → has_call (kinds.Atomic k) (operations.Composed c) ≡ true → is_composed_call c ≡ true → PassesWith d (atomic_form k (composed_verb c)) (composed_operands c) [] 0
 composed_passes d k (IfEqual v n) on h = (refl, refl, rw (number_passes k v on, passes_pass n h) refl)
 composed_passes d k (WaitFor a v n) on h = absurd cc
+composed_passes d k (Go w) on h = absurd cc
 
 -- an operation that an object of the kind has alone
 alone_passes : (d : Draft) (kind : ObjectKind) (o : Operation) → has_call kind o ≡ true → is_operation o ≡ true → PassesWith d (form_of (verb_of o) (word_of kind)) (operands_of o) (operation_keys o) 0
@@ -143,19 +147,24 @@ alone_passes d kinds.Pool (operations.Pool c) on h = pool_passes d c h
 alone_passes d (kinds.Atomic k) (operations.Composed c) on h = composed_passes d k c on h
 alone_passes d kind c on h = absurd cc
 
--- the form of a call hangs on the draft only where it is a `waitfor` of a cond
-pub plain_form : (d : Draft) (verb : Verb) (word : ObjectWord) (words : List (List ℕ)) → ((verb ≡ verbs.WaitFor) → (word ≡ object_words.Cond) → ⊥) → call_form d verb word words ≡ form_of verb word
-plain_form d verbs.WaitFor object_words.Cond words other = absurd (other refl refl)
-plain_form d verb word words other = refl
+-- the form of a call hangs on the draft only where it is a `waitfor` of a cond or a `go` of a wait group
+pub plain_form : (d : Draft) (verb : Verb) (word : ObjectWord) (words : List (List ℕ)) → ((verb ≡ verbs.WaitFor) → (word ≡ object_words.Cond) → ⊥) → ((verb ≡ verbs.Go) → (word ≡ object_words.WaitGroup) → ⊥) → call_form d verb word words ≡ form_of verb word
+plain_form d verbs.WaitFor object_words.Cond words no_wait no_go = absurd (no_wait refl refl)
+plain_form d verbs.Go object_words.WaitGroup words no_wait no_go = absurd (no_go refl refl)
+plain_form d verb word words no_wait no_go = refl
 
--- objects that have one alone have no `waitfor`
-no_form : (word : ObjectWord) → form_of verbs.WaitFor word ≡ None
-no_form object_words.Map = refl
-no_form word = refl
+-- objects that have one alone have neither
+no_wait_form : (word : ObjectWord) → form_of verbs.WaitFor word ≡ None
+no_wait_form object_words.Map = refl
+no_wait_form word = refl
 
-no_wait : (d : Draft) (kind : ObjectKind) (o : Operation) → has_call kind o ≡ true → is_operation o ≡ true → verb_of o ≡ verbs.WaitFor → ⊥
-no_wait d kind o on h verb =
-    let form : form_of (verb_of o) (word_of kind) ≡ None = ap (λ (v : Verb). form_of v (word_of kind)) verb ∙ no_form (word_of kind) in
+no_go_form : (word : ObjectWord) → form_of verbs.Go word ≡ None
+no_go_form object_words.Map = refl
+no_go_form word = refl
+
+not_alone : (d : Draft) (kind : ObjectKind) (o : Operation) (verb : Verb) → has_call kind o ≡ true → is_operation o ≡ true → form_of verb (word_of kind) ≡ None → verb_of o ≡ verb → ⊥
+not_alone d kind o verb on h none is =
+    let form : form_of (verb_of o) (word_of kind) ≡ None = ap (λ (v : Verb). form_of v (word_of kind)) is ∙ none in
     let fails : first_failing (form_words d (form_of (verb_of o) (word_of kind)) (operands_of o)) ≡ Some WrongKind = ap (λ (f : Option (List Operand)). first_failing (form_words d f (operands_of o))) form in
     let passes = sym (alone_passes d kind o on h).2 ∙ fails in
     cc
@@ -164,7 +173,8 @@ alone_call : (d : Draft) (kind : ObjectKind) (second : Option (List ℕ)) (o : O
     → PassesWith d (call_form d (verb_of o) (word_of kind) (option_to_list second ++ operands_of o)) (option_to_list second ++ operands_of o) (operation_keys o) (tries_of o)
 alone_call d kind second o on named h =
     let alone = alone_second kind o on in
-    let form = plain_form d (verb_of o) (word_of kind) (operands_of o) (λ v w. no_wait d kind o on h v) in
+    let form =
+    plain_form d (verb_of o) (word_of kind) (operands_of o) (λ v w. not_alone d kind o verbs.WaitFor on h (no_wait_form (word_of kind)) v) (λ v w. not_alone d kind o verbs.Go on h (no_go_form (word_of kind)) v) in
     subst (λ (x : Option (List ℕ)). PassesWith d (call_form d (verb_of o) (word_of kind) (option_to_list x ++ operands_of o)) (option_to_list x ++ operands_of o) (operation_keys o) (tries_of o)) (sym (no_second d o second alone.0 named))
     (subst (λ (f : Option (List Operand)). PassesWith d f (operands_of o) (operation_keys o) (tries_of o)) (sym form)
     (subst (λ (n : ℕ). PassesWith d (form_of (verb_of o) (word_of kind)) (operands_of o) (operation_keys o) n) (sym alone.1) (alone_passes d kind o on h)))
@@ -179,11 +189,21 @@ wait_passes d a v n second w h =
     subst (λ (x : Option (List ℕ)). PassesWith d (Some (wait_for_words d (option_to_list x ++ number_word v ∷ decimal n ∷ []))) (option_to_list x ++ number_word v ∷ decimal n ∷ []) [] n) (sym w.is)
     (rw w.found (refl, none_more (number_of (decimal n)) ∙ tries_back n h, rw (w.named, number_passes w.kind v w.fits, tries_pass n h) refl))
 
+-- a `go` of a worker that may be started
+go_passes : (d : Draft) (worker : ℕ) (second : Option (List ℕ)) → names_second d (operations.Composed (Go worker)) second ≡ true → may_start d (operations.Composed (Go worker)) ≡ true → is_composed_call (Go worker) ≡ true
+    → PassesWith d (Some (operands.Worker ∷ [])) (option_to_list second ++ decimal worker ∷ []) [] 0
+go_passes d worker second named may h =
+    let m = start_parts d worker may in
+    let small : worker < 2 ^ 64 = omega (arith, ltb-true worker MAX_WORKERS h) in
+    subst (λ (x : Option (List ℕ)). PassesWith d (Some (operands.Worker ∷ [])) (option_to_list x ++ decimal worker ∷ []) [] 0) (sym (no_second d (operations.Composed (Go worker)) second refl named))
+    (refl, refl, rw (is_number-decimal worker small, number_of-decimal worker small, m.inside, m.waits, m.new) refl)
+
 -- a call that its object has among the others passes the checks of the words behind the object's name
-pub call_passes : (d : Draft) (kind : ObjectKind) (second : Option (List ℕ)) (o : Operation) → has_among d.plan.objects kind o ≡ true → names_second d o second ≡ true → is_operation o ≡ true
+pub call_passes : (d : Draft) (kind : ObjectKind) (second : Option (List ℕ)) (o : Operation) → has_among d.plan.objects kind o ≡ true → names_second d o second ≡ true → may_start d o ≡ true → is_operation o ≡ true
     → PassesWith d (call_form d (verb_of o) (word_of kind) (option_to_list second ++ operands_of o)) (option_to_list second ++ operands_of o) (operation_keys o) (tries_of o)
-call_passes d (kinds.Cond m) second (operations.Composed (WaitFor a v n)) on named h = wait_passes d a v n second (awaits d a v n second on named) h
-call_passes d kind second o on named h = alone_call d kind second o on named h
+call_passes d (kinds.Cond m) second (operations.Composed (WaitFor a v n)) on named may h = wait_passes d a v n second (awaits d a v n second on named) h
+call_passes d (kinds.WaitGroup n) second (operations.Composed (Go w)) on named may h = go_passes d w second named may h
+call_passes d kind second o on named may h = alone_call d kind second o on named h
 
 -- the word of an operation says whether it is `range`
 pub ranges_of : (o : Operation) → count_by is_range_operation (o ∷ []) ≡ ranges_in (verb_of o)
@@ -248,3 +268,4 @@ ranges_of (operations.Pool c) = no_range c
     no_range pool_calls.Sweep = refl
 ranges_of (operations.Composed (IfEqual v n)) = refl
 ranges_of (operations.Composed (WaitFor a v n)) = refl
+ranges_of (operations.Composed (Go w)) = refl

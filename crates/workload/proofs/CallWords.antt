@@ -21,7 +21,7 @@ use Rattle.sync_types.specs.declared.atomic_object.AtomicCall.{AtomicCall}
 use Rattle.sync_types.specs.declared.atomic_object.AtomicCall.TheVariants as atomic_calls
 use Rattle.sync_types.specs.SequentialAtomic.{has_bits, is_signed, is_of, is_atomic_call}
 use Rattle.script_calls.specs.declared.call.ComposedCall.{ComposedCall}
-use Rattle.script_calls.specs.declared.call.ComposedCall.TheVariants.{IfEqual, WaitFor}
+use Rattle.script_calls.specs.declared.call.ComposedCall.TheVariants.{IfEqual, WaitFor, Go}
 use Rattle.workload.specs.declared.keyword.Verb.{Verb}
 use Rattle.workload.specs.declared.keyword.Verb.TheVariants as verbs
 use Rattle.workload.specs.declared.limits.TheConstants.{MAX_AMOUNT, MAX_PASSES, MAX_TRIES}
@@ -330,3 +330,4 @@ composed_call_spelled kind (IfEqual v n) on h =
     let most = leb-true n MAX_PASSES (both (nat_lt 0 n) (nat_le n MAX_PASSES) h).1 in
     ap (λ (x : Number). Some (IfEqual x (number_of (decimal n)))) (number_spelled kind v on) ∙ ap (λ (m : ℕ). Some (IfEqual v m)) (number_of-decimal n (omega arith))
 composed_call_spelled kind (WaitFor a v n) on h = absurd cc
+composed_call_spelled kind (Go w) on h = absurd cc

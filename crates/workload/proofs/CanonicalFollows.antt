@@ -13,9 +13,10 @@ use Rattle.std.proofs.lemmas.List.Folds.{list_any-append, list_all-append}
 use Rattle.std.proofs.lemmas.Slice.Eq.{bytes_eq-Decides}
 use Rattle.sync_types.specs.Name.{is_name}
 use Rattle.script_calls.specs.declared.call.Call.{Call}
-use Rattle.script_calls.specs.declared.call.ComposedCall.TheVariants.{WaitFor}
+use Rattle.script_calls.specs.declared.call.ComposedCall.TheVariants.{WaitFor, Go}
 use Rattle.script_calls.specs.declared.call.Operation.{Operation}
 use Rattle.script_calls.specs.declared.call.Operation.TheVariants as operations
+use Rattle.script_calls.specs.Starts.{started_by, starts, start_count}
 use Rattle.sync_types.specs.declared.atomic_object.AtomicKind.TheVariants as types
 use Rattle.workload.specs.declared.limits.TheConstants.{MAX_ALL_TRIES, MAX_CALLS, MAX_KEYS, MAX_RANGES, MAX_TURNS}
 use Rattle.workload.specs.declared.object.Declared.{Declared}
@@ -26,13 +27,14 @@ use Rattle.workload.specs.declared.object.ObjectWord.TheVariants as words
 use Rattle.workload.specs.declared.object.ObjectLine.{ObjectLine}
 use Rattle.workload.specs.declared.line.Line.TheVariants as lines
 use Rattle.workload.specs.declared.turn.Turn.{Turn}
-use Rattle.workload.specs.Plan.{Plan, word_of, reference_of, is_target, refers, has_call, has_among, is_on}
-use Rattle.workload.specs.Draft.{Draft, started, may_follow, declared_from, count_of, count_together, limit_of, is_kind, names_reference, names_object, is_call, is_item, keys_of, all_keys, distinct_count, key_count, call_count, is_range, range_count, tries_of, try_count, names_second}
+use Rattle.workload.specs.Plan.{Plan, word_of, reference_of, is_target, refers, has_call, has_among, is_on, starts_dormant}
+use Rattle.workload.specs.Draft.{Draft, started, may_start, may_follow, declared_from, count_of, count_together, limit_of, is_kind, names_reference, names_object, is_call, is_item, keys_of, all_keys, distinct_count, key_count, call_count, is_range, range_count, tries_of, try_count, names_second}
 use Rattle.workload.specs.Canonical.{name_of, reference_name, second_name, object_line, call_line, dormant_lines, script_lines, eights, canonical_lines}
 use Rattle.workload.specs.Readable.{may_join, may_declare, IsReadable}
 use Rattle.workload.proofs.Passing.{both, pair, not_true}
 use Rattle.workload.proofs.KeyLemmas.{distinct_more, distinct_same}
 use Rattle.workload.proofs.DraftLemmas.{valid_parts, declare_more}
+use Rattle.workload.proofs.Started.{may_begin, start_from, dormant_inside, no_starts}
 use Rattle.workload.proofs.Awaits.{held, alone_second}
 use Rattle.workload.proofs.Eights.{eights_first}
 use Rattle.workload.proofs.FollowOn.{FollowOn, follow_append, follow_to}
@@ -306,27 +308,41 @@ keys_fit done front rest c more =
 calls-middle : (done : List (List Call)) (script : List Call) (more : List (List Call)) → call_count (done ++ (script ∷ more)) ≡ call_count done + (length script + call_count more)
 calls-middle done script more = omega (arith, sum_by-append length done (script ∷ more), sum_by-append length (script ∷ []) more)
 
+-- what the calls add up to
+sums-middle : (one : Call → ℕ) (done : List (List Call)) (script : List Call) (more : List (List Call)) → sum_by (sum_by one) (done ++ (script ∷ more)) ≡ sum_by (sum_by one) done + (sum_by one script + sum_by (sum_by one) more)
+sums-middle one done script more = omega (arith, sum_by-append (sum_by one) done (script ∷ more), sum_by-append (sum_by one) (script ∷ []) more)
+
+-- with one more call it is no more than with all calls
+sums_fit : (one : Call → ℕ) (done : List (List Call)) (front rest : List Call) (c : Call) (more : List (List Call)) → sum_by (sum_by one) (done ++ (front ∷ more)) + one c ≤ sum_by (sum_by one) (done ++ ((front ++ (c ∷ rest)) ∷ more))
+sums_fit one done front rest c more = omega (arith, sums-middle one done front more, sums-middle one done (front ++ (c ∷ rest)) more, sum_by-append one front (c ∷ rest), sum_by-append one (c ∷ []) rest)
+
 ranges-middle : (done : List (List Call)) (script : List Call) (more : List (List Call)) → range_count (done ++ (script ∷ more)) ≡ range_count done + (count_by is_range script + range_count more)
-ranges-middle done script more =
-    let ranges : List Call → ℕ = λ calls. count_by is_range calls in
-    omega (arith, sum_by-append ranges done (script ∷ more), sum_by-append ranges (script ∷ []) more)
+ranges-middle done script more = sums-middle (λ call. cond (is_range call) 1 0) done script more
 
 -- one more call keeps the limit on `range` calls where all calls do
 ranges_fit : (done : List (List Call)) (front rest : List Call) (c : Call) (more : List (List Call)) → range_count (done ++ (front ∷ more)) + count_by is_range (c ∷ []) ≤ range_count (done ++ ((front ++ (c ∷ rest)) ∷ more))
 ranges_fit done front rest c more =
-    let one : Call → ℕ = λ call. cond (is_range call) 1 0 in
-    omega (arith, ranges-middle done front more, ranges-middle done (front ++ (c ∷ rest)) more, sum_by-append one front (c ∷ rest), sum_by-append one (c ∷ []) rest)
+    let fit : range_count (done ++ (front ∷ more)) + cond (is_range c) 1 0 ≤ range_count (done ++ ((front ++ (c ∷ rest)) ∷ more)) = sums_fit (λ call. cond (is_range call) 1 0) done front rest c more in
+    omega (arith, fit)
 
 tries-middle : (done : List (List Call)) (script : List Call) (more : List (List Call)) → try_count (done ++ (script ∷ more)) ≡ try_count done + (sum_by (λ call. tries_of call.operation) script + try_count more)
-tries-middle done script more =
-    let tries : List Call → ℕ = λ calls. sum_by (λ call. tries_of call.operation) calls in
-    omega (arith, sum_by-append tries done (script ∷ more), sum_by-append tries (script ∷ []) more)
+tries-middle done script more = sums-middle (λ call. tries_of call.operation) done script more
 
 -- one more call keeps the limit on waits where all calls do
 tries_fit : (done : List (List Call)) (front rest : List Call) (c : Call) (more : List (List Call)) → try_count (done ++ (front ∷ more)) + tries_of c.operation ≤ try_count (done ++ ((front ++ (c ∷ rest)) ∷ more))
-tries_fit done front rest c more =
-    let one : Call → ℕ = λ call. tries_of call.operation in
-    omega (arith, tries-middle done front more, tries-middle done (front ++ (c ∷ rest)) more, sum_by-append one front (c ∷ rest), sum_by-append one (c ∷ []) rest)
+tries_fit done front rest c more = sums_fit (λ call. tries_of call.operation) done front rest c more
+
+starts-middle : (worker : ℕ) (done : List (List Call)) (script : List Call) (more : List (List Call)) → start_count worker (done ++ (script ∷ more)) ≡ start_count worker done + (count_by (starts worker) script + start_count worker more)
+starts-middle worker done script more = sums-middle (λ call. cond (starts worker call) 1 0) done script more
+
+-- a worker that waits, and that at most one of all calls starts: none before the next one that starts it did
+start_fits : (d : Draft) (by : Option ℕ) (all : ℕ → ℕ) → length d.plan.dormant ≡ d.plan.workers → option_map_or (λ worker. get_or d.plan.dormant worker false) by true ≡ true
+    → ((worker : ℕ) → start_count worker d.plan.scripts + cond (option_map_or (λ started. eqb started worker) by false) 1 0 ≤ all worker) → ((worker : ℕ) → all worker ≤ 1) → may_begin d by ≡ true
+start_fits d None all long waits fit once = refl
+start_fits d (Some worker) all long waits fit once =
+    let inside : nat_lt worker d.plan.workers ≡ true = lt-ltb worker d.plan.workers (omega (arith, long, dormant_inside d.plan.dormant worker waits)) in
+    let here : start_count worker d.plan.scripts + 1 ≤ all worker = subst (λ (b : Bool). start_count worker d.plan.scripts + cond b 1 0 ≤ all worker) (eq-eqb worker worker refl) (fit worker) in
+    start_from d worker (record { inside = inside; waits = waits; new = omega (arith, here, once worker) })
 
 -- a call on an object that is there is named by its name
 call_named : (objects : List ObjectLine) (c : Call) → may_declare [] objects ≡ true → is_on objects (slice_get objects c.object) c ≡ true
@@ -345,6 +361,7 @@ second_named d (kinds.Cond m) (operations.Composed (WaitFor a v n)) new on =
     let atomic = held d.plan.objects a v on in
     let found = found_in d.plan.objects [] a atomic.0 new atomic.1 in
     rw (atomic.1, found.0, found.1) (eq-eqb (0 + a) a (omega arith))
+second_named d (kinds.WaitGroup n) (operations.Composed (Go w)) new on = refl
 second_named d kind o new on = no_name d kind o on
   where
     no_name : (d : Draft) (kind : ObjectKind) (o : Operation) → has_call kind o ≡ true → names_second d o (second_name d.plan.objects o) ≡ true
@@ -358,18 +375,20 @@ abbrev at : ℕ → List ObjectLine → List Bool → List Turn → List (List C
 at workers objects dormant schedule scripts worker = record { plan = record { workers = workers; objects = objects; dormant = dormant; scripts = scripts; schedule = schedule }; current = worker }
 
 -- what the calls of a script need
-record CallsFit (objects : List ObjectLine) (done : List (List Call)) (front rest : List Call) (more : List (List Call)) : Type 0 where
+record CallsFit (objects : List ObjectLine) (dormant : List Bool) (done : List (List Call)) (front rest : List Call) (more : List (List Call)) : Type 0 where
   on : list_all (λ call. is_on objects (slice_get objects call.object) call) rest ≡ true
   fits : list_all is_call rest ≡ true
   room : call_count (done ++ ((front ++ rest) ∷ more)) ≤ MAX_CALLS
   keys : distinct_count (all_keys (done ++ ((front ++ rest) ∷ more))) ≤ MAX_KEYS
   ranges : range_count (done ++ ((front ++ rest) ∷ more)) ≤ MAX_RANGES
   tries : try_count (done ++ ((front ++ rest) ∷ more)) ≤ MAX_ALL_TRIES
+  waits : list_all (λ call. starts_dormant dormant call.operation) rest ≡ true
+  once : (worker : ℕ) → start_count worker (done ++ ((front ++ rest) ∷ more)) ≤ 1
 
-calls_follow : (workers : ℕ) (objects : List ObjectLine) (dormant : List Bool) (schedule : List Turn) (done : List (List Call)) (rest front : List Call) (more : List (List Call)) → may_declare [] objects ≡ true → CallsFit objects done front rest more
+calls_follow : (workers : ℕ) (objects : List ObjectLine) (dormant : List Bool) (schedule : List Turn) (done : List (List Call)) (rest front : List Call) (more : List (List Call)) → may_declare [] objects ≡ true → length dormant ≡ workers → CallsFit objects dormant done front rest more
     → FollowOn (at workers objects dormant schedule (done ++ (front ∷ more)) (Some (length done))) (map (call_line objects) rest) (at workers objects dormant schedule (done ++ ((front ++ rest) ∷ more)) (Some (length done)))
-calls_follow workers objects dormant schedule done [] front more new fit = ap (λ (f : List Call). at workers objects dormant schedule (done ++ (f ∷ more)) (Some (length done))) (append-nil front)
-calls_follow workers objects dormant schedule done (c ∷ rest) front more new fit =
+calls_follow workers objects dormant schedule done [] front more new long fit = ap (λ (f : List Call). at workers objects dormant schedule (done ++ (f ∷ more)) (Some (length done))) (append-nil front)
+calls_follow workers objects dormant schedule done (c ∷ rest) front more new long fit =
     let d = at workers objects dormant schedule (done ++ (front ∷ more)) (Some (length done)) in
     let test : Call → Bool = λ call. is_on objects (slice_get objects call.object) call in
     let on = both (test c) (list_all test rest) fit.on in
@@ -384,18 +403,24 @@ calls_follow workers objects dormant schedule done (c ∷ rest) front more new f
     let tries : nat_le (try_count (done ++ (front ∷ more)) + tries_of c.operation) MAX_ALL_TRIES ≡ true =
     le-leb (try_count (done ++ (front ∷ more)) + tries_of c.operation) MAX_ALL_TRIES (omega (arith, fit.tries, tries_fit done front rest c more)) in
     let second = second_named d named.2 c.operation new named.3 in
-    let follows : may_follow d (call_line objects c) ≡ true = rw (named.0, named.1, second, fits.0, room, keys, ranges, tries) refl in
+    let wait : Call → Bool = λ call. starts_dormant dormant call.operation in
+    let waits = both (wait c) (list_all wait rest) fit.waits in
+    let start : may_start d c.operation ≡ true =
+    start_fits d (started_by c.operation) (λ worker. start_count worker (done ++ ((front ++ (c ∷ rest)) ∷ more))) long waits.0 (λ worker. sums_fit (λ call. cond (starts worker call) 1 0) done front rest c more) fit.once in
+    let follows : may_follow d (call_line objects c) ≡ true = rw (named.0, named.1, second, fits.0, start, room, keys, ranges, tries) refl in
     let moved : front ++ (c ∷ rest) ≡ (front ++ c ∷ []) ++ rest = sym (append_assoc front (c ∷ []) rest) in
     let put : set (done ++ (front ∷ more)) (length done) (get_or (done ++ (front ∷ more)) (length done) [] ++ c ∷ []) ≡ done ++ ((front ++ c ∷ []) ∷ more) =
     ap (λ (f : List Call). set (done ++ (front ∷ more)) (length done) (f ++ c ∷ [])) (get_or-append_seam done front more []) ∙ set-append_seam done front more (front ++ c ∷ []) in
     let next : FollowOn (at workers objects dormant schedule (done ++ ((front ++ c ∷ []) ∷ more)) (Some (length done))) (map (call_line objects) rest) (at workers objects dormant schedule (done ++ (((front ++ c ∷ []) ++ rest) ∷ more)) (Some (length done))) =
-    calls_follow workers objects dormant schedule done rest (front ++ c ∷ []) more new (record {
+    calls_follow workers objects dormant schedule done rest (front ++ c ∷ []) more new long (record {
       on = on.1;
       fits = fits.1;
       room = subst (λ (f : List Call). call_count (done ++ (f ∷ more)) ≤ MAX_CALLS) moved fit.room;
       keys = subst (λ (f : List Call). distinct_count (all_keys (done ++ (f ∷ more))) ≤ MAX_KEYS) moved fit.keys;
       ranges = subst (λ (f : List Call). range_count (done ++ (f ∷ more)) ≤ MAX_RANGES) moved fit.ranges;
       tries = subst (λ (f : List Call). try_count (done ++ (f ∷ more)) ≤ MAX_ALL_TRIES) moved fit.tries;
+      waits = waits.1;
+      once = λ worker. subst (λ (f : List Call). start_count worker (done ++ (f ∷ more)) ≤ 1) moved (fit.once worker);
     }) in (
       follows,
       tt,
@@ -457,18 +482,20 @@ empty_calls zero = refl
 empty_calls (suc n) = empty_calls n
 
 -- what the scripts need
-record ScriptsFit (objects : List ObjectLine) (done rest : List (List Call)) : Type 0 where
+record ScriptsFit (objects : List ObjectLine) (dormant : List Bool) (done rest : List (List Call)) : Type 0 where
   on : list_all (list_all (λ call. is_on objects (slice_get objects call.object) call)) rest ≡ true
   fits : list_all (list_all is_call) rest ≡ true
   room : call_count (done ++ rest) ≤ MAX_CALLS
   keys : distinct_count (all_keys (done ++ rest)) ≤ MAX_KEYS
   ranges : range_count (done ++ rest) ≤ MAX_RANGES
   tries : try_count (done ++ rest) ≤ MAX_ALL_TRIES
+  waits : list_all (list_all (λ call. starts_dormant dormant call.operation)) rest ≡ true
+  once : (worker : ℕ) → start_count worker (done ++ rest) ≤ 1
 
-scripts_follow : (workers : ℕ) (objects : List ObjectLine) (dormant : List Bool) (schedule : List Turn) (rest done : List (List Call)) (worker : Option ℕ) → may_declare [] objects ≡ true → length done + length rest ≡ workers → ScriptsFit objects done rest
+scripts_follow : (workers : ℕ) (objects : List ObjectLine) (dormant : List Bool) (schedule : List Turn) (rest done : List (List Call)) (worker : Option ℕ) → may_declare [] objects ≡ true → length dormant ≡ workers → length done + length rest ≡ workers → ScriptsFit objects dormant done rest
     → (last : Option ℕ) × FollowOn (at workers objects dormant schedule (done ++ replicate (length rest) []) worker) (script_lines objects (length done) rest) (at workers objects dormant schedule (done ++ rest) last)
-scripts_follow workers objects dormant schedule [] done worker new count fit = (worker, refl)
-scripts_follow workers objects dormant schedule (s ∷ rest) done worker new count fit =
+scripts_follow workers objects dormant schedule [] done worker new long count fit = (worker, refl)
+scripts_follow workers objects dormant schedule (s ∷ rest) done worker new long count fit =
     let test : Call → Bool = λ call. is_on objects (slice_get objects call.object) call in
     let on = both (list_all test s) (list_all (list_all test) rest) fit.on in
     let fits = both (list_all is_call s) (list_all (list_all is_call) rest) fit.fits in
@@ -485,15 +512,20 @@ scripts_follow workers objects dormant schedule (s ∷ rest) done worker new cou
     ) in
     let some_ranges : range_count (done ++ (s ∷ more)) ≤ MAX_RANGES = omega (arith, fit.ranges, ranges-middle done s more, ranges-middle done s rest, empty_ranges (length rest)) in
     let some_tries : try_count (done ++ (s ∷ more)) ≤ MAX_ALL_TRIES = omega (arith, fit.tries, tries-middle done s more, tries-middle done s rest, empty_tries (length rest)) in
-    let calls = calls_follow workers objects dormant schedule done s [] more new (record { on = on.0; fits = fits.0; room = room; keys = some_keys; ranges = some_ranges; tries = some_tries }) in
+    let wait : Call → Bool = λ call. starts_dormant dormant call.operation in
+    let waits = both (list_all wait s) (list_all (list_all wait) rest) fit.waits in
+    let once : (w : ℕ) → start_count w (done ++ (s ∷ more)) ≤ 1 = λ w. omega (arith, fit.once w, starts-middle w done s more, starts-middle w done s rest, no_starts w (length rest)) in
+    let calls = calls_follow workers objects dormant schedule done s [] more new long (record { on = on.0; fits = fits.0; room = room; keys = some_keys; ranges = some_ranges; tries = some_tries; waits = waits.0; once = once }) in
     let inside : nat_lt (length done) workers ≡ true = lt-ltb (length done) workers (omega arith) in
-    let behind = scripts_follow workers objects dormant schedule rest (done ++ s ∷ []) (Some (length done)) new (omega (arith, length-append done (s ∷ []))) (record {
+    let behind = scripts_follow workers objects dormant schedule rest (done ++ s ∷ []) (Some (length done)) new long (omega (arith, length-append done (s ∷ []))) (record {
       on = on.1;
       fits = fits.1;
       room = subst (λ (x : List (List Call)). call_count x ≤ MAX_CALLS) moved fit.room;
       keys = subst (λ (x : List (List Call)). distinct_count (all_keys x) ≤ MAX_KEYS) moved fit.keys;
       ranges = subst (λ (x : List (List Call)). range_count x ≤ MAX_RANGES) moved fit.ranges;
       tries = subst (λ (x : List (List Call)). try_count x ≤ MAX_ALL_TRIES) moved fit.tries;
+      waits = waits.1;
+      once = λ w. subst (λ (x : List (List Call)). start_count w x ≤ 1) moved (fit.once w);
     }) in
     let here : FollowOn (at workers objects dormant schedule (done ++ ([] ∷ more)) worker) (lines.Worker (length done) ∷ map (call_line objects) s) (at workers objects dormant schedule ((done ++ s ∷ []) ++ more) (Some (length done))) =
     (inside, tt, follow_to (map (call_line objects) s) _ _ _ (ap (λ (x : List (List Call)). at workers objects dormant schedule x (Some (length done))) (sym (append_assoc done (s ∷ []) more))) calls) in
@@ -549,7 +581,7 @@ canonical_follows plan h =
     let v = valid_parts plan h.valid in
     let first = objects_follow plan.objects plan.objects (started plan.workers) refl refl h.objects in
     let second = dormant_follow plan.workers plan.objects plan.dormant [] (omega (arith, v.dormant)) in
-    let third = scripts_follow plan.workers plan.objects plan.dormant [] plan.scripts [] None h.objects (omega (arith, v.scripts)) (record { on = v.calls; fits = h.calls; room = h.call_room; keys = h.key_room; ranges = h.range_room; tries = h.try_room }) in
+    let third = scripts_follow plan.workers plan.objects plan.dormant [] plan.scripts [] None h.objects v.dormant (omega (arith, v.scripts)) (record { on = v.calls; fits = h.calls; room = h.call_room; keys = h.key_room; ranges = h.range_room; tries = h.try_room; waits = v.starts; once = h.starts }) in
     let fourth = schedule_follows (length plan.schedule) plan.workers plan.objects plan.dormant plan.scripts third.0 plan.schedule [] (omega arith) h.items (omega (arith, h.turn_room)) in
     let unnamed : wait plan.workers plan.objects (replicate plan.workers false) ≡ wait plan.workers plan.objects (replicate (length plan.dormant) false) = ap (λ (n : ℕ). wait plan.workers plan.objects (replicate n false)) (sym v.dormant) in
     let start : wait plan.workers plan.objects plan.dormant ≡ at plan.workers plan.objects plan.dormant [] (replicate (length plan.scripts) []) None = ap (λ (n : ℕ). at plan.workers plan.objects plan.dormant [] (replicate n []) None) (sym v.scripts) in

@@ -1,6 +1,6 @@
 -- A draft with one more line keeps its tables.
 use Rattle.std.proofs.Common.{◌≡◌, ℕ, zero, suc, ◌+◌, ◌-◌, ◌<◌, ◌≤◌, Bool, true, false, cond, eqb, ◌&&◌, List, [], ◌∷◌, ◌++◌, length, get_or, set, replicate, Option, Some, None, refl, sym, ap, subst, ◌∙◌, append_assoc, arith}
-use Rattle.std.specs.Prelude.{is_some, slice_get, count_by, sum_by}
+use Rattle.std.specs.Prelude.{is_some, nat_lt, slice_get, count_by, sum_by}
 use Rattle.std.specs.Option.{option_or, option_map_or}
 use Rattle.std.specs.List.{list_all}
 use Rattle.std.specs.Str.{bytes_eq}
@@ -18,6 +18,7 @@ use Rattle.script_calls.specs.declared.call.Call.{Call}
 use Rattle.script_calls.specs.declared.call.ComposedCall.TheVariants.{WaitFor}
 use Rattle.script_calls.specs.declared.call.Operation.{Operation}
 use Rattle.script_calls.specs.declared.call.Operation.TheVariants as operations
+use Rattle.script_calls.specs.Starts.{started_by}
 use Rattle.workload.specs.declared.object.ObjectLine.{ObjectLine}
 use Rattle.workload.specs.declared.object.Declared.{Declared}
 use Rattle.workload.specs.declared.line.Line.TheVariants as lines
@@ -25,13 +26,14 @@ use Rattle.workload.specs.declared.turn.Turn.{Turn}
 use Rattle.workload.specs.declared.turn.Turn.TheVariants as turns
 use Rattle.workload.specs.declared.object.ObjectKind.{ObjectKind}
 use Rattle.workload.specs.declared.object.ObjectKind.TheVariants as kinds
-use Rattle.workload.specs.Plan.{Plan, reference_of, is_target, refers, may_hold, has_among, is_on, is_turn, is_valid}
+use Rattle.workload.specs.Plan.{Plan, reference_of, is_target, refers, may_hold, has_among, is_on, is_turn, starts_dormant, is_valid}
 use Rattle.workload.specs.Draft.{Draft, names_reference, declared_from, names_object, is_call, is_item, may_follow, call_count, key_count, keys_of, all_keys, distinct_count, is_range, range_count, tries_of, try_count}
 use Rattle.workload.specs.Readable.{may_join, may_declare}
-use Rattle.workload.specs.Index.{IsIndexed, with_keys, marks}
+use Rattle.workload.specs.Index.{IsIndexed, marked, with_keys, marks}
 use Rattle.workload.proofs.Passing.{both, pair, all_mono, all_set, all_append, all_at}
 use Rattle.workload.proofs.Follows.{object_follows, schedule_follows, call_follows}
 use Rattle.workload.proofs.References.{some_reference}
+use Rattle.workload.proofs.Started.{starts_few, marks_more, marked_length, may_waits, all_wait, no_starts, no_marks}
 use Rattle.workload.proofs.KeyLemmas.{keys_with_call, keys_more, distinct_same}
 
 or_none : (o : Option Declared) → option_or o None ≡ o
@@ -127,6 +129,7 @@ pub record IsValid (plan : Plan) : Type 0 where
   pub turns : list_all (is_turn plan.workers) plan.schedule ≡ true
   pub references : list_all (λ object. refers plan.objects object.kind) plan.objects ≡ true
   pub dormant : length plan.dormant ≡ plan.workers
+  pub starts : list_all (list_all (λ call. starts_dormant plan.dormant call.operation)) plan.scripts ≡ true
 
 pub valid_parts : (plan : Plan) → is_valid plan ≡ true → IsValid plan
 valid_parts plan e =
@@ -134,18 +137,21 @@ valid_parts plan e =
     let turns = list_all (is_turn plan.workers) plan.schedule in
     let references = list_all (λ object. refers plan.objects object.kind) plan.objects in
     let dormant = eqb (length plan.dormant) plan.workers in
-    let first = both (eqb (length plan.scripts) plan.workers) (calls && (turns && (references && dormant))) e in
-    let second = both calls (turns && (references && dormant)) first.1 in
-    let third = both turns (references && dormant) second.1 in
-    let fourth = both references dormant third.1 in
-    record { scripts = eqb-true (length plan.scripts) plan.workers first.0; calls = second.0; turns = third.0; references = fourth.0; dormant = eqb-true (length plan.dormant) plan.workers fourth.1 }
+    let starts = list_all (list_all (λ call. starts_dormant plan.dormant call.operation)) plan.scripts in
+    let first = both (eqb (length plan.scripts) plan.workers) (calls && (turns && (references && (dormant && starts)))) e in
+    let second = both calls (turns && (references && (dormant && starts))) first.1 in
+    let third = both turns (references && (dormant && starts)) second.1 in
+    let fourth = both references (dormant && starts) third.1 in
+    let fifth = both dormant starts fourth.1 in
+    record { scripts = eqb-true (length plan.scripts) plan.workers first.0; calls = second.0; turns = third.0; references = fourth.0; dormant = eqb-true (length plan.dormant) plan.workers fifth.0; starts = fifth.1 }
 
 pub valid_from : (plan : Plan) → IsValid plan → is_valid plan ≡ true
 valid_from plan v =
     pair (eqb (length plan.scripts) plan.workers) _ (eq-eqb (length plan.scripts) plan.workers v.scripts)
     (pair (list_all (list_all (λ call. is_on plan.objects (slice_get plan.objects call.object) call)) plan.scripts) _ v.calls
     (pair (list_all (is_turn plan.workers) plan.schedule) _ v.turns
-    (pair (list_all (λ object. refers plan.objects object.kind) plan.objects) (eqb (length plan.dormant) plan.workers) v.references (eq-eqb (length plan.dormant) plan.workers v.dormant))))
+    (pair (list_all (λ object. refers plan.objects object.kind) plan.objects) _ v.references
+    (pair (eqb (length plan.dormant) plan.workers) _ (eq-eqb (length plan.dormant) plan.workers v.dormant) v.starts))))
 
 no_name : (q name : List ℕ) (os : List ObjectLine) → is_some (declared_from 0 name os) ≡ false → bytes_eq q name ≡ true → declared_from 0 q os ≡ None
 no_name q name os new same =
@@ -180,10 +186,10 @@ object_joins d o to follows =
     rw (h.name, h.new, names_refers d o.kind to h.reference, h.kind, h.room) refl
 
 -- one more object keeps the tables
-pub indexed_object : (plan : Plan) (worker : Option ℕ) (table : FinMap (slice_cmp nat_cmp) Declared) (seen : FinMap (slice_cmp nat_cmp) (Unit {0})) (number many waits : ℕ) (o : ObjectLine) (to : Option (List ℕ))
-    → IsIndexed plan worker table seen number many waits → may_follow (record { plan = plan; current = worker }) (lines.Object o to) ≡ true
-    → IsIndexed (record plan { objects = plan.objects ++ o ∷ [] }) worker (insert table o.name (record { place = length plan.objects; kind = o.kind })) seen number many waits
-indexed_object plan worker table seen number many waits o to h follows =
+pub indexed_object : (plan : Plan) (worker : Option ℕ) (table : FinMap (slice_cmp nat_cmp) Declared) (seen : FinMap (slice_cmp nat_cmp) (Unit {0})) (begun : List Bool) (number many tried : ℕ) (o : ObjectLine) (to : Option (List ℕ))
+    → IsIndexed plan worker table seen begun number many tried → may_follow (record { plan = plan; current = worker }) (lines.Object o to) ≡ true
+    → IsIndexed (record plan { objects = plan.objects ++ o ∷ [] }) worker (insert table o.name (record { place = length plan.objects; kind = o.kind })) seen begun number many tried
+indexed_object plan worker table seen begun number many tried o to h follows =
     let r = h.readable in
     let v = valid_parts plan r.valid in
     let d : Draft = record { plan = plan; current = worker } in
@@ -200,6 +206,7 @@ indexed_object plan worker table seen number many waits o to h follows =
               (all_mono (λ x. refers plan.objects x.kind) all (λ x. refers_more plan.objects o x.kind) plan.objects v.references)
               (pair (all o) true (refers_more plan.objects o o.kind (names_refers d o.kind to parts.reference)) refl);
           dormant = v.dormant;
+          starts = v.starts;
         });
         some_workers = r.some_workers;
         few_workers = r.few_workers;
@@ -209,22 +216,25 @@ indexed_object plan worker table seen number many waits o to h follows =
         key_room = r.key_room;
         range_room = r.range_room;
         try_room = r.try_room;
+        starts = r.starts;
         items = r.items;
         turn_room = r.turn_room;
       };
       current = h.current;
       names = names_more table plan.objects o parts.new h.names;
       keys = h.keys;
+      workers = h.workers;
+      starts = h.starts;
       calls = h.calls;
       ranges = h.ranges;
       tries = h.tries;
     }
 
 -- one more worker that waits to be started keeps the tables
-pub indexed_dormant : (plan : Plan) (worker : Option ℕ) (table : FinMap (slice_cmp nat_cmp) Declared) (seen : FinMap (slice_cmp nat_cmp) (Unit {0})) (number many waits : ℕ) (started : ℕ)
-    → IsIndexed plan worker table seen number many waits
-    → IsIndexed (record plan { dormant = set plan.dormant started true }) worker table seen number many waits
-indexed_dormant plan worker table seen number many waits started h =
+pub indexed_dormant : (plan : Plan) (worker : Option ℕ) (table : FinMap (slice_cmp nat_cmp) Declared) (seen : FinMap (slice_cmp nat_cmp) (Unit {0})) (begun : List Bool) (number many tried : ℕ) (started : ℕ)
+    → IsIndexed plan worker table seen begun number many tried
+    → IsIndexed (record plan { dormant = set plan.dormant started true }) worker table seen begun number many tried
+indexed_dormant plan worker table seen begun number many tried started h =
     let r = h.readable in
     let v = valid_parts plan r.valid in
     record {
@@ -235,6 +245,7 @@ indexed_dormant plan worker table seen number many waits started h =
           turns = v.turns;
           references = v.references;
           dormant = length-set plan.dormant started true ∙ v.dormant;
+          starts = all_wait plan.dormant started plan.scripts v.starts;
         });
         some_workers = r.some_workers;
         few_workers = r.few_workers;
@@ -244,12 +255,15 @@ indexed_dormant plan worker table seen number many waits started h =
         key_room = r.key_room;
         range_room = r.range_room;
         try_room = r.try_room;
+        starts = r.starts;
         items = r.items;
         turn_room = r.turn_room;
       };
       current = h.current;
       names = h.names;
       keys = h.keys;
+      workers = h.workers;
+      starts = h.starts;
       calls = h.calls;
       ranges = h.ranges;
       tries = h.tries;
@@ -260,10 +274,10 @@ item_is_turn workers (turns.Worker worker) e = e
 item_is_turn workers (turns.Moment moment) e = refl
 
 -- more turns keep the tables
-pub indexed_turns : (plan : Plan) (worker : Option ℕ) (table : FinMap (slice_cmp nat_cmp) Declared) (seen : FinMap (slice_cmp nat_cmp) (Unit {0})) (number many waits : ℕ) (more : List Turn)
-    → IsIndexed plan worker table seen number many waits → may_follow (record { plan = plan; current = worker }) (lines.Schedule more) ≡ true
-    → IsIndexed (record plan { schedule = plan.schedule ++ more }) worker table seen number many waits
-indexed_turns plan worker table seen number many waits more h follows =
+pub indexed_turns : (plan : Plan) (worker : Option ℕ) (table : FinMap (slice_cmp nat_cmp) Declared) (seen : FinMap (slice_cmp nat_cmp) (Unit {0})) (begun : List Bool) (number many tried : ℕ) (more : List Turn)
+    → IsIndexed plan worker table seen begun number many tried → may_follow (record { plan = plan; current = worker }) (lines.Schedule more) ≡ true
+    → IsIndexed (record plan { schedule = plan.schedule ++ more }) worker table seen begun number many tried
+indexed_turns plan worker table seen begun number many tried more h follows =
     let r = h.readable in
     let v = valid_parts plan r.valid in
     let items = (schedule_follows (record { plan = plan; current = worker }) more follows).items in
@@ -275,6 +289,7 @@ indexed_turns plan worker table seen number many waits more h follows =
           turns = all_append (is_turn plan.workers) plan.schedule more v.turns (all_mono (is_item plan.workers) (is_turn plan.workers) (item_is_turn plan.workers) more items);
           references = v.references;
           dormant = v.dormant;
+          starts = v.starts;
         });
         some_workers = r.some_workers;
         few_workers = r.few_workers;
@@ -284,29 +299,34 @@ indexed_turns plan worker table seen number many waits more h follows =
         key_room = r.key_room;
         range_room = r.range_room;
         try_room = r.try_room;
+        starts = r.starts;
         items = all_append (is_item plan.workers) plan.schedule more r.items items;
         turn_room = omega (arith, length-append plan.schedule more, leb-true (length plan.schedule + length more) MAX_TURNS (schedule_follows (record { plan = plan; current = worker }) more follows).room);
       };
       current = h.current;
       names = h.names;
       keys = h.keys;
+      workers = h.workers;
+      starts = h.starts;
       calls = h.calls;
       ranges = h.ranges;
       tries = h.tries;
     }
 
 -- one more call keeps the tables
-pub indexed_call : (plan : Plan) (worker : ℕ) (table : FinMap (slice_cmp nat_cmp) Declared) (seen : FinMap (slice_cmp nat_cmp) (Unit {0})) (number many waits : ℕ) (name : List ℕ) (second : Option (List ℕ)) (call : Call)
-    → IsIndexed plan (Some worker) table seen number many waits → may_follow (record { plan = plan; current = Some worker }) (lines.Call name second call) ≡ true
-    → IsIndexed (record plan { scripts = set plan.scripts worker (get_or plan.scripts worker [] ++ call ∷ []) }) (Some worker) table (with_keys seen (keys_of call)) (number + 1) (many + count_by is_range (call ∷ [])) (waits + tries_of call.operation)
-indexed_call plan worker table seen number many waits name second call h follows =
+pub indexed_call : (plan : Plan) (worker : ℕ) (table : FinMap (slice_cmp nat_cmp) Declared) (seen : FinMap (slice_cmp nat_cmp) (Unit {0})) (begun : List Bool) (number many tried : ℕ) (name : List ℕ) (second : Option (List ℕ)) (call : Call)
+    → IsIndexed plan (Some worker) table seen begun number many tried → may_follow (record { plan = plan; current = Some worker }) (lines.Call name second call) ≡ true
+    → IsIndexed (record plan { scripts = set plan.scripts worker (get_or plan.scripts worker [] ++ call ∷ []) }) (Some worker) table (with_keys seen (keys_of call)) (marked begun (started_by call.operation)) (number + 1) (many + count_by is_range (call ∷ [])) (tried + tries_of call.operation)
+indexed_call plan worker table seen begun number many tried name second call h follows =
     let r = h.readable in
     let v = valid_parts plan r.valid in
-    let parts = call_follows (record { plan = plan; current = Some worker }) name second call follows in
+    let d : Draft = record { plan = plan; current = Some worker } in
+    let parts = call_follows d name second call follows in
     let on : is_on plan.objects (slice_get plan.objects call.object) call ≡ true = names_is_on name plan.objects call parts.on in
     let here : worker < length plan.scripts = omega (arith, ltb-true worker plan.workers h.current, v.scripts) in
     let script = get_or plan.scripts worker [] in
     let test : Call → Bool = λ c. is_on plan.objects (slice_get plan.objects c.object) c in
+    let waits : Call → Bool = λ c. starts_dormant plan.dormant c.operation in
     let grown : call_count (set plan.scripts worker (script ++ call ∷ [])) ≡ call_count plan.scripts + 1 = omega (arith, sum_by-set length plan.scripts worker (script ++ call ∷ []) [] here, length-append script (call ∷ [])) in
     let ranges : List Call → ℕ = λ calls. count_by is_range calls in
     let more : range_count (set plan.scripts worker (script ++ call ∷ [])) ≡ range_count plan.scripts + count_by is_range (call ∷ []) =
@@ -322,6 +342,7 @@ indexed_call plan worker table seen number many waits name second call h follows
           turns = v.turns;
           references = v.references;
           dormant = v.dormant;
+          starts = all_set (list_all waits) plan.scripts worker (script ++ call ∷ []) (all_append waits script (call ∷ []) (all_at waits plan.scripts worker v.starts) (pair (waits call) true (may_waits d call.operation parts.start) refl)) v.starts;
         });
         some_workers = r.some_workers;
         few_workers = r.few_workers;
@@ -335,12 +356,15 @@ indexed_call plan worker table seen number many waits name second call h follows
         );
         range_room = omega (arith, more, leb-true (range_count plan.scripts + count_by is_range (call ∷ [])) MAX_RANGES parts.ranges);
         try_room = omega (arith, longer, leb-true (try_count plan.scripts + tries_of call.operation) MAX_ALL_TRIES parts.tries);
+        starts = λ other. starts_few d call worker other here parts.start (r.starts other);
         items = r.items;
         turn_room = r.turn_room;
       };
       current = h.current;
       names = h.names;
       keys = keys_with_call seen plan.scripts worker call here h.keys;
+      workers = marked_length begun (started_by call.operation) ∙ h.workers;
+      starts = λ other. marks_more d begun call worker other here h.workers parts.start (h.starts other);
       calls = omega (arith, h.calls, grown);
       ranges = omega (arith, h.ranges, more);
       tries = omega (arith, h.tries, longer);
@@ -367,7 +391,7 @@ no_calls zero = refl
 no_calls (suc n) = no_calls n
 
 -- the tables of a draft without lines
-pub indexed_start : (workers : ℕ) → 0 < workers → workers ≤ MAX_WORKERS → IsIndexed (record { workers = workers; objects = []; dormant = replicate workers false; scripts = replicate workers []; schedule = [] }) None empty empty 0 0 0
+pub indexed_start : (workers : ℕ) → 0 < workers → workers ≤ MAX_WORKERS → IsIndexed (record { workers = workers; objects = []; dormant = replicate workers false; scripts = replicate workers []; schedule = [] }) None empty empty (replicate workers false) 0 0 0
 indexed_start workers some few = record {
   readable = record {
     valid = valid_from (record { workers = workers; objects = []; dormant = replicate workers false; scripts = replicate workers []; schedule = [] }) (record {
@@ -376,6 +400,7 @@ indexed_start workers some few = record {
       turns = refl;
       references = refl;
       dormant = length-replicate workers false;
+      starts = all_empty (λ call. starts_dormant (replicate workers false) call.operation) workers;
     });
     some_workers = some;
     few_workers = few;
@@ -385,12 +410,15 @@ indexed_start workers some few = record {
     key_room = omega (arith, ap distinct_count (no_keys workers));
     range_room = omega (arith, no_ranges workers);
     try_room = omega (arith, no_tries workers);
+    starts = λ worker. omega (arith, no_starts worker workers);
     items = refl;
     turn_room = omega arith;
   };
   current = refl;
   names = λ name. get-empty (slice_cmp nat_cmp) name;
   keys = ap (λ (ks : List (List ℕ)). from_entries {R = slice_cmp nat_cmp} (marks ks)) (sym (no_keys workers));
+  workers = length-replicate workers false;
+  starts = λ worker. no_marks workers worker ∙ ap (λ (n : ℕ). nat_lt 0 n) (sym (no_starts worker workers));
   calls = sym (no_calls workers);
   ranges = sym (no_ranges workers);
   tries = sym (no_tries workers);

@@ -5,14 +5,15 @@ use Rattle.std.specs.List.{list_all, flat_map, AllByRecursion}
 use Rattle.std.specs.Fmt.{decimal, signed_decimal}
 use Rattle.std.specs.Option.{option_to_list, option_map_or}
 use Rattle.std.specs.Str.{bytes_eq}
-use Rattle.std.proofs.lemmas.Bool.{eqb-true, eq-eqb, ltb-true, leb-true, cases_lt}
+use Rattle.std.proofs.lemmas.Bool.{eqb-true, eq-eqb, ltb-true, leb-true, lt-ltb, cases_lt}
 use Rattle.std.proofs.lemmas.Slice.Eq.{bytes_eq-Decides}
 use Rattle.std.proofs.lemmas.List.{length-map}
 use Rattle.sync_types.specs.Name.{is_name}
 use Rattle.script_calls.specs.declared.call.Call.{Call}
-use Rattle.script_calls.specs.declared.call.ComposedCall.TheVariants.{IfEqual, WaitFor}
+use Rattle.script_calls.specs.declared.call.ComposedCall.TheVariants.{IfEqual, WaitFor, Go}
 use Rattle.script_calls.specs.declared.call.Operation.{Operation}
 use Rattle.script_calls.specs.declared.call.Operation.TheVariants as operations
+use Rattle.script_calls.specs.Starts.{start_count}
 use Rattle.sync_types.specs.declared.map_object.MapCall.TheVariants as map_calls
 use Rattle.sync_types.specs.declared.atomic_object.AtomicKind.{AtomicKind}
 use Rattle.sync_types.specs.declared.atomic_object.AtomicKind.TheVariants as types
@@ -42,7 +43,7 @@ use Rattle.workload.specs.declared.keyword.Parameter.TheVariants as parameters
 use Rattle.workload.specs.declared.line.Line.{Line}
 use Rattle.workload.specs.declared.line.Line.TheVariants as lines
 use Rattle.workload.specs.declared.reason.Reason.{Reason}
-use Rattle.workload.specs.declared.reason.Reason.TheVariants.{NoWorkersLine, LineTooLong, BadByte, WrongNumberOfWords, BadName, NameTaken, BadNumber, CallOutsideWorker, LimitReached, InputTooLong}
+use Rattle.workload.specs.declared.reason.Reason.TheVariants.{NoWorkersLine, LineTooLong, BadByte, WrongNumberOfWords, BadName, NameTaken, BadNumber, CallOutsideWorker, LimitReached, InputTooLong, NotDormant}
 use Rattle.workload.specs.declared.turn.Turn.{Turn}
 use Rattle.workload.specs.declared.turn.Turn.TheVariants as turns
 use Rattle.workload.specs.Plan.{Plan, is_dormant, word_of, reference_of, is_target, is_amount, has_call, has_among}
@@ -51,13 +52,14 @@ use Rattle.workload.specs.KeywordWords.{keyword_word, keyword_at, verb_word}
 use Rattle.workload.specs.NumberWords.{number_word, is_number, is_number_to, is_amount_word, is_passes, number_of}
 use Rattle.workload.specs.CallWords.{verb_of, operands_of}
 use Rattle.workload.specs.Words.{spelled, kind_parameters, turn_word}
-use Rattle.workload.specs.Draft.{Draft, started, with_line, declared, may_follow, names_object, names_reference, is_kind, is_operation, is_value, is_item, is_range, operation_keys, names_second, tries_of, count_of, limit_of, range_count}
-use Rattle.workload.specs.Checks.{Check, first_failing, form_words, parameter_words, keys_among, map_form, bits_form, atomic_form, mutex_form, rw_mutex_form, cond_form, group_form, pool_form, form_of, parameters_of, parameters_checks, reference_checks, is_mutex, is_int64, is_atomic, awaited_number, wait_for_words, call_form, operand_checks, tries_among, ranges_in, limit_checks, form_checks, object_checks, worker_checks, item_checks, line_checks, first_checks, word_checks, reason_of}
+use Rattle.workload.specs.Draft.{Draft, started, with_line, declared, may_follow, names_object, names_reference, is_kind, is_operation, is_value, is_item, is_range, operation_keys, names_second, may_start, tries_of, count_of, limit_of, range_count}
+use Rattle.workload.specs.Checks.{Check, first_failing, form_words, parameter_words, keys_among, map_form, bits_form, atomic_form, mutex_form, rw_mutex_form, cond_form, group_form, pool_form, form_of, parameters_of, parameters_checks, reference_checks, is_mutex, is_int64, is_atomic, awaited_number, wait_for_words, call_form, operand_checks, tries_among, ranges_in, limit_checks, form_checks, object_checks, worker_checks, start_checks, item_checks, line_checks, first_checks, word_checks, reason_of}
 use Rattle.workload.specs.Reads.{Continues, IsRead, ReadsOn, Reads, FirstFault, IsRefused}
 use Rattle.workload.proofs.Passing.{both, pair}
 use Rattle.workload.proofs.Keywords.{keyword_from}
 use Rattle.workload.proofs.CallWords.{number_read, number_said, signed_of, amount_said, passes_said, tries_said}
 use Rattle.workload.proofs.CallForms.{plain_form, call_passes, ranges_of}
+use Rattle.workload.proofs.Started.{alone_start, start_from}
 use Rattle.workload.proofs.Awaits.{alone_second}
 use Rattle.workload.proofs.DraftLemmas.{found_at}
 use Rattle.workload.proofs.FirstFailing.{PassesWith, form_passes}
@@ -451,18 +453,19 @@ spelled_on d kind verb words h = absurd cc
 -- the call with its second name, if it has one
 abbrev SpelledAmong : Draft → ObjectKind → Verb → List (List ℕ) → Type 0
 SpelledAmong d kind verb words =
-    (second : Option (List ℕ)) × (o : Operation) × (verb_of o ≡ verb) × (option_to_list second ++ operands_of o ≡ words) × (has_among d.plan.objects kind o ≡ true) × (names_second d o second ≡ true) × (is_operation o ≡ true)
+    (second : Option (List ℕ)) × (o : Operation) × (verb_of o ≡ verb) × (option_to_list second ++ operands_of o ≡ words) × (has_among d.plan.objects kind o ≡ true) × (names_second d o second ≡ true) × (may_start d o ≡ true) × (is_operation o ≡ true)
 
 -- a call that an object has alone, it has among any
 alone_among : (objects : List ObjectLine) (kind : ObjectKind) (o : Operation) → has_call kind o ≡ true → has_among objects kind o ≡ true
 alone_among objects (kinds.Cond m) (operations.Composed (WaitFor a v n)) h = absurd cc
+alone_among objects (kinds.WaitGroup n) (operations.Composed (Go w)) h = absurd cc
 alone_among objects kind o h = h
 
 alone_spelled : (d : Draft) (kind : ObjectKind) (verb : Verb) (words : List (List ℕ)) → first_failing (form_words d (form_of verb (word_of kind)) words) ≡ None → SpelledAmong d kind verb words
 alone_spelled d kind verb words h =
     let said = spelled_on d kind verb words h in
     let second : names_second d said.0 None ≡ true = rw (alone_second kind said.0 said.3).0 refl in
-    (None, said.0, said.1, said.2, alone_among d.plan.objects kind said.0 said.3, second, said.4)
+    (None, said.0, said.1, said.2, alone_among d.plan.objects kind said.0 said.3, second, alone_start d kind said.0 said.3, said.4)
 
 -- a kind of an atomic
 atomic_kind : (kind : ObjectKind) → is_atomic kind ≡ true → (k : AtomicKind) × (kind ≡ kinds.Atomic k)
@@ -501,44 +504,59 @@ wait_spelled d m (a ∷ v ∷ w ∷ []) h =
       ap (λ (x : List ℕ). a ∷ x ∷ decimal (number_of w) ∷ []) value.1 ∙ ap (λ (x : List ℕ). a ∷ v ∷ x ∷ []) tries.1,
       wait_among d m a to.0 k (number_read k v) (number_of w) to.2 atomic.1 value.0,
       wait_named d a to.0 (number_read k v) (number_of w) to.1 to.2,
+      refl,
       tries.0,
     )
 wait_spelled d m (a ∷ v ∷ w ∷ other ∷ words) h = absurd (omega (arith, eqb-true (length (a ∷ v ∷ w ∷ other ∷ words)) 3 (all_pass (form_words d (Some (wait_for_words d (a ∷ v ∷ w ∷ other ∷ words))) (a ∷ v ∷ w ∷ other ∷ words)) h).0))
 
-spelled_among : (d : Draft) (kind : ObjectKind) (verb : Verb) (words : List (List ℕ)) → first_failing (form_words d (call_form d verb (word_of kind) words) words) ≡ None → SpelledAmong d kind verb words
-spelled_among d (kinds.Cond m) verbs.WaitFor words h = wait_spelled d m words h
-spelled_among d kind verb words h =
-    alone_spelled d kind verb words (subst (λ (f : Option (List Operand)). first_failing (form_words d f words) ≡ None) (plain_form d verb (word_of kind) words (λ v w. cc)) h)
+-- a `go` of a worker that may be started
+go_spelled : (d : Draft) (n : ℕ) (words : List (List ℕ)) → d.plan.workers ≤ MAX_WORKERS → first_failing (form_words d (Some (operands.Worker ∷ [])) words) ≡ None → SpelledAmong d (kinds.WaitGroup n) verbs.Go words
+go_spelled d n [] few h = absurd cc
+go_spelled d n (word ∷ []) few h =
+    let parts = both_pass (start_checks d word) [] h in
+    let behind : List Check = (is_dormant d.plan (number_of word), NotDormant) ∷ (eqb (start_count (number_of word) d.plan.scripts) 0, NameTaken) ∷ [] in
+    let checks = both_pass (worker_checks d.plan.workers word) behind parts.0 in
+    let number = worker_words d.plan.workers word few checks.0 in
+    let others = all_pass behind checks.1 in
+    let may = start_from d (number_of word) (record { inside = number.0; waits = others.0; new = eqb-true (start_count (number_of word) d.plan.scripts) 0 others.1.0 }) in
+    (None, operations.Composed (Go (number_of word)), refl, ap (λ (w : List ℕ). w ∷ []) number.1, refl, refl, may, lt-ltb (number_of word) MAX_WORKERS (omega (arith, ltb-true (number_of word) d.plan.workers number.0)))
+go_spelled d n (word ∷ other ∷ words) few h = absurd (omega (arith, eqb-true (length (word ∷ other ∷ words)) 1 (all_pass (form_words d (Some (operands.Worker ∷ [])) (word ∷ other ∷ words)) h).0))
+
+spelled_among : (d : Draft) (kind : ObjectKind) (verb : Verb) (words : List (List ℕ)) → d.plan.workers ≤ MAX_WORKERS → first_failing (form_words d (call_form d verb (word_of kind) words) words) ≡ None → SpelledAmong d kind verb words
+spelled_among d (kinds.Cond m) verbs.WaitFor words few h = wait_spelled d m words h
+spelled_among d (kinds.WaitGroup n) verbs.Go words few h = go_spelled d n words few h
+spelled_among d kind verb words few h =
+    alone_spelled d kind verb words (subst (λ (f : Option (List Operand)). first_failing (form_words d f words) ≡ None) (plain_form d verb (word_of kind) words (λ v w. cc) (λ v w. cc)) h)
 
 -- the checks of the operands alone
 operands_pass : (d : Draft) (verb : Verb) (form : Option (List Operand)) (words : List (List ℕ)) → first_failing (form_checks d verb form words) ≡ None → first_failing (form_words d form words) ≡ None
 operands_pass d verb form words h = (both_pass (form_words d form words) (limit_checks d (keys_among form words) (ranges_in verb) (tries_among form words)) h).0
 
-kind_said : (d : Draft) (name : List ℕ) (place : ℕ) (kind : ObjectKind) → declared d name ≡ Some (record { place = place; kind = kind }) → is_some d.current ≡ true → is_name name ≡ true → (verb : Verb) (words : List (List ℕ))
+kind_said : (d : Draft) (name : List ℕ) (place : ℕ) (kind : ObjectKind) → declared d name ≡ Some (record { place = place; kind = kind }) → d.plan.workers ≤ MAX_WORKERS → is_some d.current ≡ true → is_name name ≡ true → (verb : Verb) (words : List (List ℕ))
     → first_failing (form_checks d verb (call_form d verb (word_of kind) words) words) ≡ None → CallSaid d name verb words
-kind_said d name place kind at current named verb words h =
+kind_said d name place kind at few current named verb words h =
     let form = call_form d verb (word_of kind) words in
-    let said = spelled_among d kind verb words (operands_pass d verb form words h) in
+    let said = spelled_among d kind verb words few (operands_pass d verb form words h) in
     let o = said.1 in
     let c : Call = record { object = place; operation = o } in
     let keys = operation_keys o in
     let tries = tries_of o in
     let passes : PassesWith d form words keys tries =
     subst (λ (ws : List (List ℕ)). PassesWith d (call_form d verb (word_of kind) ws) ws keys tries) said.3
-    (subst (λ (v : Verb). PassesWith d (call_form d v (word_of kind) (option_to_list said.0 ++ operands_of o)) (option_to_list said.0 ++ operands_of o) keys tries) said.2 (call_passes d kind said.0 o said.4 said.5 said.6)) in
+    (subst (λ (v : Verb). PassesWith d (call_form d v (word_of kind) (option_to_list said.0 ++ operands_of o)) (option_to_list said.0 ++ operands_of o) keys tries) said.2 (call_passes d kind said.0 o said.4 said.5 said.6 said.7)) in
     let limits = all_pass (limit_checks d keys (ranges_in verb) tries) (sym (form_passes d verb form words keys tries passes) ∙ h) in
     let on : names_object d.plan.objects (declared d name) c ≡ true = rw at (pair (eqb place place) (has_among d.plan.objects kind o) (eq-eqb place place refl) said.4) in
     let many : ranges_in verb ≡ count_by is_range (c ∷ []) = ap ranges_in (sym said.2) ∙ sym (ranges_of o) in
     let ranges : nat_le (range_count d.plan.scripts + count_by is_range (c ∷ [])) MAX_RANGES ≡ true = ap (λ (n : ℕ). nat_le (range_count d.plan.scripts + n) MAX_RANGES) (sym many) ∙ limits.1.1.0 in
-    (said.0, c, said.2, said.3, rw (current, named, on, said.5, said.6, limits.0, limits.1.0, ranges, limits.1.1.1.0) refl)
+    (said.0, c, said.2, said.3, rw (current, named, on, said.5, said.7, said.6, limits.0, limits.1.0, ranges, limits.1.1.1.0) refl)
 
-call_said : (d : Draft) (verb : Verb) (words : List (List ℕ)) → first_failing (line_checks d (Some (keywords.Call verb)) words) ≡ None → Said d (keyword_word (keywords.Call verb) ∷ words)
-call_said d verb [] h = absurd (no_words d.current h)
+call_said : (d : Draft) (verb : Verb) (words : List (List ℕ)) → d.plan.workers ≤ MAX_WORKERS → first_failing (line_checks d (Some (keywords.Call verb)) words) ≡ None → Said d (keyword_word (keywords.Call verb) ∷ words)
+call_said d verb [] few h = absurd (no_words d.current h)
   where
     no_words : (current : Option ℕ) → first_failing ((is_some current, CallOutsideWorker) ∷ (false, WrongNumberOfWords) ∷ []) ≡ None → ⊥
     no_words None h = cc
     no_words (Some w) h = cc
-call_said d verb (name ∷ words) h =
+call_said d verb (name ∷ words) few h =
     let one = both_pass ((is_some d.current, CallOutsideWorker) ∷ (is_name name, BadName) ∷ []) (object_checks d (declared d name) verb words) h in
     let front = all_pass ((is_some d.current, CallOutsideWorker) ∷ (is_name name, BadName) ∷ []) one.0 in
     found_said (declared d name) refl front.0 front.1.0 one.1
@@ -546,7 +564,7 @@ call_said d verb (name ∷ words) h =
     found_said : (o : Option Declared) → declared d name ≡ o → is_some d.current ≡ true → is_name name ≡ true → first_failing (object_checks d o verb words) ≡ None → Said d (keyword_word (keywords.Call verb) ∷ name ∷ words)
     found_said None is current named h = absurd cc
     found_said (Some found) is current named h =
-        let said = kind_said d name found.place found.kind is current named verb words h in
+        let said = kind_said d name found.place found.kind is few current named verb words h in
         (lines.Call name said.0 said.1, said.4, ap (λ (v : Verb). verb_word v ∷ name ∷ words) (sym said.2) ∙ ap (λ (ws : List (List ℕ)). verb_word (verb_of said.1.operation) ∷ name ∷ ws) (sym said.3))
 
 line_said : (d : Draft) (word : List ℕ) (k : Option Keyword) (words : List (List ℕ)) → d.plan.workers ≤ MAX_WORKERS → keyword_at word ≡ k → first_failing (line_checks d k words) ≡ None → Said d (word ∷ words)
@@ -556,7 +574,7 @@ line_said d word (Some (keywords.Object kind)) words few is h = said_as d word (
 line_said d word (Some keywords.Dormant) words few is h = said_as d word keywords.Dormant words is (dormant_said d words few h)
 line_said d word (Some keywords.Worker) words few is h = said_as d word keywords.Worker words is (worker_said d words few h)
 line_said d word (Some keywords.Schedule) words few is h = said_as d word keywords.Schedule words is (schedule_said d words few h)
-line_said d word (Some (keywords.Call verb)) words few is h = said_as d word (keywords.Call verb) words is (call_said d verb words h)
+line_said d word (Some (keywords.Call verb)) words few is h = said_as d word (keywords.Call verb) words is (call_said d verb words few h)
 
 first_said : (word : List ℕ) (words : List (List ℕ)) → first_failing (first_checks word words) ≡ None → (after : Option Draft) × Continues None (word ∷ words) after
 first_said word [] h = absurd (no_words (bytes_eq word (codes "workers")) h)

@@ -83,6 +83,7 @@ significant (keywords.Call verbs.Get) rest = refl
 significant (keywords.Call verbs.Sweep) rest = refl
 significant (keywords.Call verbs.IfEqual) rest = refl
 significant (keywords.Call verbs.WaitFor) rest = refl
+significant (keywords.Call verbs.Go) rest = refl
 
 not_silent : {X : Type 0} (b : Bool) → b ≡ true → b ≡ false → X
 not_silent b t f = absurd cc

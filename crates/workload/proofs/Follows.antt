@@ -9,7 +9,7 @@ use Rattle.workload.specs.declared.object.ObjectLine.{ObjectLine}
 use Rattle.workload.specs.declared.line.Line.TheVariants as lines
 use Rattle.workload.specs.declared.turn.Turn.{Turn}
 use Rattle.workload.specs.Plan.{word_of, is_dormant}
-use Rattle.workload.specs.Draft.{Draft, declared, names_reference, is_kind, count_of, limit_of, call_count, key_count, range_count, is_range, try_count, tries_of, keys_of, names_object, names_second, is_call, is_item, may_follow}
+use Rattle.workload.specs.Draft.{Draft, declared, names_reference, is_kind, count_of, limit_of, call_count, key_count, range_count, is_range, try_count, tries_of, keys_of, names_object, names_second, is_call, is_item, may_start, may_follow}
 use Rattle.workload.proofs.Passing.{both, not_true}
 
 pub record ObjectFollows (d : Draft) (o : ObjectLine) (to : Option (List ℕ)) : Type 0 where
@@ -58,6 +58,7 @@ pub record CallFollows (d : Draft) (object : List ℕ) (behind : Option (List �
   pub on : names_object d.plan.objects (declared d object) made ≡ true
   pub second : names_second d made.operation behind ≡ true
   pub call : is_call made ≡ true
+  pub start : may_start d made.operation ≡ true
   pub room : nat_lt (call_count d.plan.scripts) MAX_CALLS ≡ true
   pub keys : nat_le (key_count d.plan.scripts (keys_of made)) MAX_KEYS ≡ true
   pub ranges : nat_le (range_count d.plan.scripts + count_by is_range (made ∷ [])) MAX_RANGES ≡ true
@@ -67,16 +68,18 @@ pub call_follows : (d : Draft) (name : List ℕ) (second : Option (List ℕ)) (c
 call_follows d name second call e =
     let on = names_object d.plan.objects (declared d name) call in
     let behind = names_second d call.operation second in
+    let start = may_start d call.operation in
     let room = nat_lt (call_count d.plan.scripts) MAX_CALLS in
     let keys = nat_le (key_count d.plan.scripts (keys_of call)) MAX_KEYS in
     let ranges = nat_le (range_count d.plan.scripts + count_by is_range (call ∷ [])) MAX_RANGES in
     let tries = nat_le (try_count d.plan.scripts + tries_of call.operation) MAX_ALL_TRIES in
-    let p1 = both (is_some d.current) (is_name name && (on && (behind && (is_call call && (room && (keys && (ranges && tries))))))) e in
-    let p2 = both (is_name name) (on && (behind && (is_call call && (room && (keys && (ranges && tries)))))) p1.1 in
-    let p3 = both on (behind && (is_call call && (room && (keys && (ranges && tries))))) p2.1 in
-    let p4 = both behind (is_call call && (room && (keys && (ranges && tries)))) p3.1 in
-    let p5 = both (is_call call) (room && (keys && (ranges && tries))) p4.1 in
-    let p6 = both room (keys && (ranges && tries)) p5.1 in
-    let p7 = both keys (ranges && tries) p6.1 in
-    let p8 = both ranges tries p7.1 in
-    record { current = p1.0; name = p2.0; on = p3.0; second = p4.0; call = p5.0; room = p6.0; keys = p7.0; ranges = p8.0; tries = p8.1 }
+    let p1 = both (is_some d.current) (is_name name && (on && (behind && (is_call call && (start && (room && (keys && (ranges && tries)))))))) e in
+    let p2 = both (is_name name) (on && (behind && (is_call call && (start && (room && (keys && (ranges && tries))))))) p1.1 in
+    let p3 = both on (behind && (is_call call && (start && (room && (keys && (ranges && tries)))))) p2.1 in
+    let p4 = both behind (is_call call && (start && (room && (keys && (ranges && tries))))) p3.1 in
+    let p5 = both (is_call call) (start && (room && (keys && (ranges && tries)))) p4.1 in
+    let p6 = both start (room && (keys && (ranges && tries))) p5.1 in
+    let p7 = both room (keys && (ranges && tries)) p6.1 in
+    let p8 = both keys (ranges && tries) p7.1 in
+    let p9 = both ranges tries p8.1 in
+    record { current = p1.0; name = p2.0; on = p3.0; second = p4.0; call = p5.0; start = p6.0; room = p7.0; keys = p8.0; ranges = p9.0; tries = p9.1 }

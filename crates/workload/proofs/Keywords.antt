@@ -61,6 +61,7 @@ keyword_at-keyword_word (keywords.Call verbs.Get) = refl
 keyword_at-keyword_word (keywords.Call verbs.Sweep) = refl
 keyword_at-keyword_word (keywords.Call verbs.IfEqual) = refl
 keyword_at-keyword_word (keywords.Call verbs.WaitFor) = refl
+keyword_at-keyword_word (keywords.Call verbs.Go) = refl
 
 same_some : {X : Type 0} (x y : X) → Some x ≡ Some y → x ≡ y
 same_some x y e = cc

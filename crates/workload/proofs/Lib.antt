@@ -15,6 +15,8 @@ mod Awaits
 mod FirstFailing
 pub mod OneReading
 pub mod SameLine
+pub mod Started
+mod GoCalls
 pub mod NoReason
 mod Eights
 pub mod LineTexts

@@ -25,7 +25,7 @@ use Rattle.sync_types.specs.declared.pool_call.PoolCall.{PoolCall}
 use Rattle.sync_types.specs.declared.pool_call.PoolCall.TheVariants as pool_calls
 use Rattle.script_calls.specs.declared.call.Call.{Call}
 use Rattle.script_calls.specs.declared.call.ComposedCall.{ComposedCall}
-use Rattle.script_calls.specs.declared.call.ComposedCall.TheVariants.{IfEqual, WaitFor}
+use Rattle.script_calls.specs.declared.call.ComposedCall.TheVariants.{IfEqual, WaitFor, Go}
 use Rattle.script_calls.specs.declared.call.Operation.{Operation}
 use Rattle.script_calls.specs.declared.call.Operation.TheVariants as operations
 use Rattle.sync_types.specs.declared.map_object.MapCall.{MapCall}
@@ -305,6 +305,7 @@ composed_operands_fit k (IfEqual v n) on h =
     let second = one_decimal n MAX_PASSES (both (nat_lt 0 n) (nat_le n MAX_PASSES) h).1 (omega arith) in
     (pair (is_word (number_word v)) (list_all is_word (decimal n ∷ [])) first.0 second.0, omega (arith, first.1, second.1))
 composed_operands_fit k (WaitFor a v n) on h = absurd cc
+composed_operands_fit k (Go w) on h = absurd cc
 
 wait_operands_fit : (k : AtomicKind) (v : Number) (n : ℕ) → is_of k v ≡ true → is_tries n ≡ true → (list_all is_word (number_word v ∷ decimal n ∷ []) ≡ true) × (widths (number_word v ∷ decimal n ∷ []) ≤ 80)
 wait_operands_fit k v n on h =
@@ -349,6 +350,9 @@ operands_fit : (objects : List ObjectLine) (kind : ObjectKind) (o : Operation) �
 operands_fit objects (kinds.Cond m) (operations.Composed (WaitFor a v n)) on h =
     let atomic = held objects a v on in
     wait_operands_fit atomic.2 v n atomic.4 h
+operands_fit objects (kinds.WaitGroup n) (operations.Composed (Go w)) on h =
+    let word = decimal_is_word w (omega (arith, ltb-true w MAX_WORKERS h)) in
+    (pair (is_word (decimal w)) true word.0 refl, omega (arith, word.1))
 operands_fit objects kind o on h = alone_fit kind o on h
 
 -- what stands behind the name of a call's object: a second name, and operands
@@ -391,6 +395,7 @@ verb_fits verbs.Get = (refl, omega arith)
 verb_fits verbs.Sweep = (refl, omega arith)
 verb_fits verbs.IfEqual = (refl, omega arith)
 verb_fits verbs.WaitFor = (refl, omega arith)
+verb_fits verbs.Go = (refl, omega arith)
 
 call_fits : (d : Draft) (o : Option Declared) (name : List ℕ) (second : Option (List ℕ)) (c : Call) → names_object d.plan.objects o c ≡ true → names_second d c.operation second ≡ true → is_name name ≡ true → is_call c ≡ true
     → FitsLine (verb_word (verb_of c.operation) ∷ name ∷ option_to_list second ++ operands_of c.operation)

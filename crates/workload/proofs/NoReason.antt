@@ -77,7 +77,7 @@ form_of_call d found n r c on h =
     let verb = verb_of c.operation in
     let words = option_to_list r ++ operands_of c.operation in
     let few : nat_le (range_count d.plan.scripts + ranges_in verb) MAX_RANGES ≡ true = ap (λ (n : ℕ). nat_le (range_count d.plan.scripts + n) MAX_RANGES) (sym (ranges_of c.operation)) ∙ h.ranges in
-    form_passes d verb (call_form d verb (word_of found.kind) words) words (keys_of c) (tries_of c.operation) (call_passes d found.kind r c.operation on h.second h.call) ∙ rw (h.room, h.keys, few, h.tries) refl
+    form_passes d verb (call_form d verb (word_of found.kind) words) words (keys_of c) (tries_of c.operation) (call_passes d found.kind r c.operation on h.second h.start h.call) ∙ rw (h.room, h.keys, few, h.tries) refl
 
 object_passes : (d : Draft) (o : Option Declared) (n : List ℕ) (r : Option (List ℕ)) (c : Call) → declared d n ≡ o → names_object d.plan.objects o c ≡ true → CallFollows d n r c
     → first_failing (line_checks d (Some (keywords.Call (verb_of c.operation))) (n ∷ option_to_list r ++ operands_of c.operation)) ≡ None

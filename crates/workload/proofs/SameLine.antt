@@ -8,7 +8,7 @@ use Rattle.std.proofs.lemmas.Bool.{eqb-true, ltb-true, leb-true}
 use Rattle.std.proofs.lemmas.Fmt.{decimal_injective}
 use Rattle.script_calls.specs.declared.call.Call.{Call}
 use Rattle.script_calls.specs.declared.call.ComposedCall.{ComposedCall}
-use Rattle.script_calls.specs.declared.call.ComposedCall.TheVariants.{IfEqual, WaitFor}
+use Rattle.script_calls.specs.declared.call.ComposedCall.TheVariants.{IfEqual, WaitFor, Go}
 use Rattle.script_calls.specs.declared.call.Operation.{Operation}
 use Rattle.script_calls.specs.declared.call.Operation.TheVariants as operations
 use Rattle.sync_types.specs.declared.map_object.MapCall.{MapCall}
@@ -20,6 +20,7 @@ use Rattle.sync_types.specs.declared.atomic_object.AtomicCall.TheVariants as ato
 use Rattle.sync_types.specs.declared.wait_call.CondCall.{CondCall}
 use Rattle.sync_types.specs.declared.wait_call.CondCall.TheVariants as cond_calls
 use Rattle.sync_types.specs.declared.wait_call.WaitGroupCall.{WaitGroupCall}
+use Rattle.sync_types.specs.declared.wait_call.WaitGroupCall.TheVariants as group_calls
 use Rattle.sync_types.specs.declared.pool_call.PoolCall.{PoolCall}
 use Rattle.sync_types.specs.declared.lock_call.MutexCall.{MutexCall}
 use Rattle.sync_types.specs.declared.lock_call.MutexCall.TheVariants as mutex_calls
@@ -167,6 +168,16 @@ no_test c (WaitFor a v n) e = no_wait c e
     no_wait (atomic_calls.And x) e = cc
     no_wait (atomic_calls.Or x) e = cc
     no_wait (atomic_calls.CompareAndSwap x y) e = cc
+no_test c (Go w) e = no_go c e
+  where
+    no_go : (c : AtomicCall) → atomic_verb c ≡ verbs.Go → ⊥
+    no_go atomic_calls.Load e = cc
+    no_go (atomic_calls.Store x) e = cc
+    no_go (atomic_calls.Swap x) e = cc
+    no_go (atomic_calls.Add x) e = cc
+    no_go (atomic_calls.And x) e = cc
+    no_go (atomic_calls.Or x) e = cc
+    no_go (atomic_calls.CompareAndSwap x y) e = cc
 
 -- no call of a map's calls is spelled as `range`
 no_range : (c : MapCall (List ℕ)) → map_verb c ≡ verbs.Range → ⊥
@@ -253,6 +264,21 @@ no_wait cond_calls.Wait e = cc
 no_wait cond_calls.Signal e = cc
 no_wait cond_calls.Broadcast e = cc
 
+-- no call of a wait group's calls is spelled as `go`
+no_go : (c : WaitGroupCall) → group_verb c ≡ verbs.Go → ⊥
+no_go (group_calls.Add z) e = cc
+no_go group_calls.Done e = cc
+no_go group_calls.Wait e = cc
+
+-- two of `go`
+go_same : (d : Draft) (i j : ℕ) (r s : Option (List ℕ)) → names_second d (operations.Composed (Go i)) r ≡ true → names_second d (operations.Composed (Go j)) s ≡ true → is_composed_call (Go i) ≡ true → is_composed_call (Go j) ≡ true
+    → option_to_list r ++ decimal i ∷ [] ≡ option_to_list s ++ decimal j ∷ [] → (operations.Composed (Go i) ≡ operations.Composed (Go j)) × (r ≡ s)
+go_same d i j r s f g p q e =
+    let none = no_second d (operations.Composed (Go i)) r refl f in
+    let absent = no_second d (operations.Composed (Go j)) s refl g in
+    let words = heads (decimal i) (decimal j) [] [] (without r s (decimal i ∷ []) (decimal j ∷ []) none absent e) in
+    (ap (λ (n : ℕ). operations.Composed (Go n)) (decimal_injective i j (omega (arith, ltb-true i MAX_WORKERS p)) (omega (arith, ltb-true j MAX_WORKERS q)) words.0), none ∙ sym absent)
+
 same_operation : (d : Draft) (kind : ObjectKind) (a b : Operation) (r s : Option (List ℕ)) → has_among d.plan.objects kind a ≡ true → has_among d.plan.objects kind b ≡ true → names_second d a r ≡ true → names_second d b s ≡ true
     → is_operation a ≡ true → is_operation b ≡ true → verb_of a ≡ verb_of b → behind r a ≡ behind s b → (a ≡ b) × (r ≡ s)
 same_operation d (kinds.Cond k) (operations.Composed (WaitFor i x m)) (operations.Composed (WaitFor j y n)) r s on_a on_b f g p q v e = wait_same d i j x y m n r s (awaits d i x m r on_a f) (awaits d j y n s on_b g) p q e
@@ -260,6 +286,11 @@ same_operation d (kinds.Cond k) (operations.Composed (WaitFor i x m)) (operation
 same_operation d (kinds.Cond k) (operations.Cond c) (operations.Composed (WaitFor j y n)) r s on_a on_b f g p q v e = absurd (no_wait c v)
 same_operation d (kinds.Cond k) (operations.Cond c) (operations.Cond b) r s on_a on_b f g p q v e = alone_same d (kinds.Cond k) (operations.Cond c) (operations.Cond b) r s on_a on_b f g p q v e
 same_operation d (kinds.Cond k) a b r s on_a on_b f g p q v e = absurd cc
+same_operation d (kinds.WaitGroup k) (operations.Composed (Go i)) (operations.Composed (Go j)) r s on_a on_b f g p q v e = go_same d i j r s f g p q e
+same_operation d (kinds.WaitGroup k) (operations.Composed (Go i)) (operations.WaitGroup c) r s on_a on_b f g p q v e = absurd (no_go c (sym v))
+same_operation d (kinds.WaitGroup k) (operations.WaitGroup c) (operations.Composed (Go j)) r s on_a on_b f g p q v e = absurd (no_go c v)
+same_operation d (kinds.WaitGroup k) (operations.WaitGroup c) (operations.WaitGroup b) r s on_a on_b f g p q v e = alone_same d (kinds.WaitGroup k) (operations.WaitGroup c) (operations.WaitGroup b) r s on_a on_b f g p q v e
+same_operation d (kinds.WaitGroup k) a b r s on_a on_b f g p q v e = absurd cc
 same_operation d kind a b r s on_a on_b f g p q v e = alone_same d kind a b r s on_a on_b f g p q v e
 
 same_call : (d : Draft) (o : Option Declared) (b c : Call) (r s : Option (List ℕ)) → names_object d.plan.objects o b ≡ true → names_object d.plan.objects o c ≡ true → names_second d b.operation r ≡ true → names_second d c.operation s ≡ true

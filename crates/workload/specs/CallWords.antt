@@ -3,7 +3,7 @@ use Rattle.std.specs.Prelude.{ℕ, List, [], ◌∷◌, ◌++◌, map}
 use Rattle.std.specs.Option.{option_to_list}
 use Rattle.std.specs.Fmt.{decimal, signed_decimal}
 use Rattle.script_calls.specs.declared.call.ComposedCall.{ComposedCall}
-use Rattle.script_calls.specs.declared.call.ComposedCall.TheVariants.{IfEqual, WaitFor}
+use Rattle.script_calls.specs.declared.call.ComposedCall.TheVariants.{IfEqual, WaitFor, Go}
 use Rattle.script_calls.specs.declared.call.Operation.{Operation}
 use Rattle.script_calls.specs.declared.call.Operation.TheVariants as operations
 use Rattle.sync_types.specs.declared.map_object.MapCall.{MapCall}
@@ -78,6 +78,7 @@ pool_verb pool_calls.Sweep = verbs.Sweep
 abbrev pub composed_verb : ComposedCall → Verb
 composed_verb (IfEqual value passes) = verbs.IfEqual
 composed_verb (WaitFor atomic value tries) = verbs.WaitFor
+composed_verb (Go worker) = verbs.Go
 
 abbrev pub verb_of : Operation → Verb
 verb_of (operations.Map call) = map_verb call
@@ -135,6 +136,7 @@ pool_operands pool_calls.Sweep = []
 abbrev pub composed_operands : ComposedCall → List (List ℕ)
 composed_operands (IfEqual value passes) = number_word value ∷ decimal passes ∷ []
 composed_operands (WaitFor atomic value tries) = number_word value ∷ decimal tries ∷ []
+composed_operands (Go worker) = decimal worker ∷ []
 
 abbrev pub operands_of : Operation → List (List ℕ)
 operands_of (operations.Map call) = map_operands call

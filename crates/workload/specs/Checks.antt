@@ -4,6 +4,7 @@ use Rattle.std.specs.List.{flat_map}
 use Rattle.std.specs.Option.{option_map_or}
 use Rattle.std.specs.Str.{bytes_eq}
 use Rattle.sync_types.specs.Name.{is_name}
+use Rattle.script_calls.specs.Starts.{start_count}
 use Rattle.sync_types.specs.declared.atomic_object.AtomicKind.{AtomicKind}
 use Rattle.sync_types.specs.declared.atomic_object.AtomicKind.TheVariants as types
 use Rattle.sync_types.specs.SequentialAtomic.{has_bits}
@@ -23,7 +24,7 @@ use Rattle.workload.specs.declared.object.ObjectWord.{ObjectWord}
 use Rattle.workload.specs.declared.object.ObjectWord.TheVariants as words
 use Rattle.workload.specs.declared.object.Declared.{Declared}
 use Rattle.workload.specs.declared.reason.Reason.{Reason}
-use Rattle.workload.specs.declared.reason.Reason.TheVariants.{NoWorkersLine, LineTooLong, BadByte, UnknownWord, WrongNumberOfWords, BadName, NameTaken, UnknownName, WrongKind, BadNumber, NoSuchWorker, CallOutsideWorker, LimitReached}
+use Rattle.workload.specs.declared.reason.Reason.TheVariants.{NoWorkersLine, LineTooLong, BadByte, UnknownWord, WrongNumberOfWords, BadName, NameTaken, UnknownName, WrongKind, BadNumber, NoSuchWorker, CallOutsideWorker, LimitReached, NotDormant}
 use Rattle.workload.specs.Lines.{is_short, is_clean, words_of, is_significant}
 use Rattle.workload.specs.KeywordWords.{keyword_word, keyword_at}
 use Rattle.workload.specs.Plan.{word_of, is_dormant}
@@ -165,10 +166,11 @@ abbrev pub wait_for_words : Draft → List (List ℕ) → List Operand
 wait_for_words d [] = wait_for_form None
 wait_for_words d (word ∷ words) = wait_for_form (declared d word)
 
--- The operands of a call on an object of a word, where such objects have the call. Those of a `waitfor` hang on what the draft declares
+-- The operands of a call on an object of a word, where such objects have the call. Those of a `waitfor` hang on what the draft declares, and a `go` names a worker
 abbrev pub call_form : Draft → Verb → ObjectWord → List (List ℕ) → Option (List Operand)
-call_form d verbs.WaitFor words.Cond operands = Some (wait_for_words d operands)
-call_form d verb word operands = form_of verb word
+call_form d verbs.WaitFor words.Cond behind = Some (wait_for_words d behind)
+call_form d verbs.Go words.WaitGroup behind = Some (operands.Worker ∷ [])
+call_form d verb word behind = form_of verb word
 
 -- the form of an operand
 abbrev pub operand_check : Operand → List ℕ → Check
@@ -179,12 +181,22 @@ operand_check operands.Amount word = (is_amount_word word, BadNumber)
 operand_check operands.Passes word = (is_passes_word word, BadNumber)
 operand_check operands.Tries word = (is_tries_word word, BadNumber)
 operand_check operands.Atomic word = (is_name word, BadName)
+operand_check operands.Worker word = (is_number word, BadNumber)
 
--- the operands from left to right; the name of an atomic is that of one that is declared before
+-- the number of a worker of whom there are so many
+abbrev pub worker_checks : ℕ → List ℕ → List Check
+worker_checks workers word = (is_number word, BadNumber) ∷ (nat_lt (number_of word) workers, NoSuchWorker) ∷ []
+
+-- a worker that waits to be started, and that no call starts yet
+abbrev pub start_checks : Draft → List ℕ → List Check
+start_checks d word = worker_checks d.plan.workers word ++ (is_dormant d.plan (number_of word), NotDormant) ∷ (start_count (number_of word) d.plan.scripts == 0, NameTaken) ∷ []
+
+-- the operands from left to right; the name of an atomic is that of one that is declared before, and a worker is one that may be started
 abbrev pub operand_checks : Draft → List Operand → List (List ℕ) → List Check
 operand_checks d [] words = []
 operand_checks d (form ∷ forms) [] = []
 operand_checks d (operands.Atomic ∷ forms) (word ∷ words) = reference_checks d is_atomic word ++ operand_checks d forms words
+operand_checks d (operands.Worker ∷ forms) (word ∷ words) = start_checks d word ++ operand_checks d forms words
 operand_checks d (form ∷ forms) (word ∷ words) = operand_check form word ∷ operand_checks d forms words
 
 -- the keys among the operands
@@ -271,9 +283,6 @@ declaration_checks d word [] = (false, WrongNumberOfWords) ∷ []
 declaration_checks d word (name ∷ words) =
     (length words == length (parameters_of word), WrongNumberOfWords) ∷ (is_name name, BadName) ∷ (not (is_some (declared d name)), NameTaken)
     ∷ parameters_checks d (parameters_of word) words ++ (nat_lt (count_of word d.plan.objects) (limit_of word), LimitReached) ∷ []
-
-abbrev pub worker_checks : ℕ → List ℕ → List Check
-worker_checks workers word = (is_number word, BadNumber) ∷ (nat_lt (number_of word) workers, NoSuchWorker) ∷ []
 
 -- a worker that no `dormant` line names yet
 abbrev pub dormant_checks : Draft → List ℕ → List Check

@@ -6,16 +6,17 @@ use Rattle.std.specs.Str.{bytes_eq}
 use Rattle.sync_types.specs.Name.{is_name}
 use Rattle.script_calls.specs.declared.call.Call.{Call}
 use Rattle.script_calls.specs.declared.call.ComposedCall.{ComposedCall}
-use Rattle.script_calls.specs.declared.call.ComposedCall.TheVariants.{IfEqual, WaitFor}
+use Rattle.script_calls.specs.declared.call.ComposedCall.TheVariants.{IfEqual, WaitFor, Go}
 use Rattle.script_calls.specs.declared.call.Operation.{Operation}
 use Rattle.script_calls.specs.declared.call.Operation.TheVariants as operations
+use Rattle.script_calls.specs.Starts.{started_by, start_count}
 use Rattle.sync_types.specs.declared.map_object.MapCall.{MapCall}
 use Rattle.sync_types.specs.declared.wait_call.WaitGroupCall.{WaitGroupCall}
 use Rattle.sync_types.specs.declared.wait_call.WaitGroupCall.TheVariants as group_calls
 use Rattle.sync_types.specs.declared.pool_call.PoolCall.{PoolCall}
 use Rattle.sync_types.specs.declared.pool_call.PoolCall.TheVariants as pool_calls
 use Rattle.sync_types.specs.SequentialMap.{map_key}
-use Rattle.workload.specs.declared.limits.TheConstants.{MAX_ALL_TRIES, MAX_AMOUNT, MAX_ATOMICS, MAX_CALLS, MAX_CODE, MAX_KEYS, MAX_MAPS, MAX_OTHERS, MAX_RANGES, MAX_TURNS}
+use Rattle.workload.specs.declared.limits.TheConstants.{MAX_ALL_TRIES, MAX_AMOUNT, MAX_ATOMICS, MAX_CALLS, MAX_CODE, MAX_KEYS, MAX_MAPS, MAX_OTHERS, MAX_RANGES, MAX_TURNS, MAX_WORKERS}
 use Rattle.sync_types.specs.declared.value.TheConstants.{MAX_VALUE}
 use Rattle.workload.specs.declared.object.ObjectKind.{ObjectKind}
 use Rattle.workload.specs.declared.object.ObjectKind.TheVariants as kinds
@@ -150,10 +151,11 @@ abbrev pub is_pool_call : PoolCall → Bool
 is_pool_call (pool_calls.Put item) = is_value item
 is_pool_call call = true
 
--- whether the number of calls that a call passes over, or of waits that it may make, is in range
+-- whether the number of calls that a call passes over, of waits that it may make, or of the worker that it starts, is in range
 abbrev pub is_composed_call : ComposedCall → Bool
 is_composed_call (IfEqual value passes) = is_passes passes
 is_composed_call (WaitFor atomic value tries) = is_tries tries
+is_composed_call (Go worker) = nat_lt worker MAX_WORKERS
 
 -- the same of any operation; of an atomic's numbers the kind of the object says it
 abbrev pub is_operation : Operation → Bool
@@ -194,6 +196,10 @@ abbrev pub names_second : Draft → Operation → Option (List ℕ) → Bool
 names_second d operation None = not (is_some (second_of operation))
 names_second d operation (Some name) = is_name name && option_map_or (λ found. option_map_or (λ place. found.place == place) (second_of operation) false) (declared d name) false
 
+-- whether the worker that an operation starts, if it starts one, waits to be started, and no call starts it yet
+abbrev pub may_start : Draft → Operation → Bool
+may_start d operation = option_map_or (λ worker. nat_lt worker d.plan.workers && (is_dormant d.plan worker && (start_count worker d.plan.scripts == 0))) (started_by operation) true
+
 -- whether an item of a schedule is in range
 abbrev pub is_item : ℕ → Turn → Bool
 is_item workers (turns.Worker worker) = nat_lt worker workers
@@ -209,7 +215,7 @@ may_follow d (lines.Worker worker) = nat_lt worker d.plan.workers
 may_follow d (lines.Schedule schedule) =
     nat_lt 0 (length schedule) && (list_all (is_item d.plan.workers) schedule && nat_le (length d.plan.schedule + length schedule) MAX_TURNS)
 may_follow d (lines.Call name second call) =
-    is_some d.current && (is_name name && (names_object d.plan.objects (declared d name) call && (names_second d call.operation second && (is_call call
+    is_some d.current && (is_name name && (names_object d.plan.objects (declared d name) call && (names_second d call.operation second && (is_call call && (may_start d call.operation
     && (nat_lt (call_count d.plan.scripts) MAX_CALLS && (nat_le (key_count d.plan.scripts (keys_of call)) MAX_KEYS
     && (nat_le (range_count d.plan.scripts + count_by is_range (call ∷ [])) MAX_RANGES
-    && nat_le (try_count d.plan.scripts + tries_of call.operation) MAX_ALL_TRIES)))))))
+    && nat_le (try_count d.plan.scripts + tries_of call.operation) MAX_ALL_TRIES))))))))

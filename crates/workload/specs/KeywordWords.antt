@@ -59,6 +59,7 @@ verb_word verbs.Get = codes "get"
 verb_word verbs.Sweep = codes "sweep"
 verb_word verbs.IfEqual = codes "ifeq"
 verb_word verbs.WaitFor = codes "waitfor"
+verb_word verbs.Go = codes "go"
 
 -- the word that a line begins with
 abbrev pub keyword_word : Keyword → List ℕ
@@ -80,7 +81,7 @@ abbrev pub call_verbs : List Verb
 call_verbs =
     verbs.Load ∷ verbs.Store ∷ verbs.LoadOrStore ∷ verbs.LoadAndDelete ∷ verbs.Delete ∷ verbs.Swap ∷ verbs.CompareAndSwap ∷ verbs.CompareAndDelete ∷ verbs.Clear ∷ verbs.Range
     ∷ verbs.Add ∷ verbs.And ∷ verbs.Or ∷ verbs.Lock ∷ verbs.Unlock ∷ verbs.TryLock ∷ verbs.RLock ∷ verbs.RUnlock ∷ verbs.TryRLock
-    ∷ verbs.Wait ∷ verbs.Signal ∷ verbs.Broadcast ∷ verbs.Done ∷ verbs.Do ∷ verbs.Call ∷ verbs.Value ∷ verbs.Put ∷ verbs.Get ∷ verbs.Sweep ∷ verbs.IfEqual ∷ verbs.WaitFor ∷ []
+    ∷ verbs.Wait ∷ verbs.Signal ∷ verbs.Broadcast ∷ verbs.Done ∷ verbs.Do ∷ verbs.Call ∷ verbs.Value ∷ verbs.Put ∷ verbs.Get ∷ verbs.Sweep ∷ verbs.IfEqual ∷ verbs.WaitFor ∷ verbs.Go ∷ []
 
 -- the keywords other than calls
 abbrev pub other_keywords : List Keyword

@@ -3,9 +3,10 @@ use Rattle.std.specs.Prelude.{ℕ, ℤ, pos, negsuc, Bool, true, false, ◌&&◌
 use Rattle.std.specs.Option.{option_map_or}
 use Rattle.std.specs.List.{list_all, list_any}
 use Rattle.script_calls.specs.declared.call.Call.{Call}
-use Rattle.script_calls.specs.declared.call.ComposedCall.TheVariants.{IfEqual, WaitFor}
+use Rattle.script_calls.specs.declared.call.ComposedCall.TheVariants.{IfEqual, WaitFor, Go}
 use Rattle.script_calls.specs.declared.call.Operation.{Operation}
 use Rattle.script_calls.specs.declared.call.Operation.TheVariants as operations
+use Rattle.script_calls.specs.Starts.{started_by}
 use Rattle.sync_types.specs.declared.atomic_object.AtomicKind.TheVariants as types
 use Rattle.sync_types.specs.declared.atomic_object.Number.{Number}
 use Rattle.sync_types.specs.SequentialAtomic.{is_of, is_atomic_call}
@@ -96,15 +97,20 @@ abbrev pub may_hold : Number → ObjectKind → Bool
 may_hold value (kinds.Atomic kind) = is_of kind value
 may_hold value kind = false
 
--- whether an object of this kind, among these objects, has the operation: a cond has a `waitfor` of an atomic that may hold its value
+-- whether an object of this kind, among these objects, has the operation: a cond has a `waitfor` of an atomic that may hold its value, and a wait group a `go`
 abbrev pub has_among : List ObjectLine → ObjectKind → Operation → Bool
 has_among objects (kinds.Cond mutex) (operations.Composed (WaitFor atomic value tries)) = option_map_or (λ object. may_hold value object.kind) (slice_get objects atomic) false
+has_among objects (kinds.WaitGroup start) (operations.Composed (Go worker)) = true
 has_among objects kind operation = has_call kind operation
 
 -- whether a call is on an object that is there and has it
 abbrev pub is_on : List ObjectLine → Option ObjectLine → Call → Bool
 is_on objects None call = false
 is_on objects (Some object) call = has_among objects object.kind call.operation
+
+-- whether the worker that an operation starts, if it starts one, waits to be started
+abbrev pub starts_dormant : List Bool → Operation → Bool
+starts_dormant dormant operation = option_map_or (λ worker. get_or dormant worker false) (started_by operation) true
 
 -- whether a turn is that of a worker that is there
 abbrev pub is_turn : ℕ → Turn → Bool
@@ -118,4 +124,5 @@ is_valid plan =
     && (list_all (list_all (λ call. is_on plan.objects (slice_get plan.objects call.object) call)) plan.scripts
     && (list_all (is_turn plan.workers) plan.schedule
     && (list_all (λ object. refers plan.objects object.kind) plan.objects
-    && (length plan.dormant == plan.workers))))
+    && ((length plan.dormant == plan.workers)
+    && list_all (list_all (λ call. starts_dormant plan.dormant call.operation)) plan.scripts))))

@@ -1,6 +1,7 @@
 -- The workloads that have a text.
-use Rattle.std.specs.Prelude.{◌≡◌, ◌<◌, ◌≤◌, Bool, true, ◌&&◌, not, nat_lt, List, [], ◌∷◌, ◌++◌, length, is_some}
+use Rattle.std.specs.Prelude.{◌≡◌, ◌<◌, ◌≤◌, ℕ, Bool, true, ◌&&◌, not, nat_lt, List, [], ◌∷◌, ◌++◌, length, is_some}
 use Rattle.std.specs.List.{list_all}
+use Rattle.script_calls.specs.Starts.{start_count}
 use Rattle.sync_types.specs.Name.{is_name}
 use Rattle.workload.specs.declared.limits.TheConstants.{MAX_ALL_TRIES, MAX_CALLS, MAX_KEYS, MAX_RANGES, MAX_TURNS, MAX_WORKERS}
 use Rattle.workload.specs.declared.object.ObjectLine.{ObjectLine}
@@ -18,7 +19,7 @@ abbrev pub may_declare : List ObjectLine → List ObjectLine → Bool
 may_declare others [] = true
 may_declare others (object ∷ objects) = may_join others object && may_declare (others ++ object ∷ []) objects
 
--- every name is one, every number is in range, and every limit is kept
+-- every name is one, every number is in range, every limit is kept, and no worker is started by two calls
 pub record IsReadable (plan : Plan) : Type 0 where
   pub valid : is_valid plan ≡ true
   pub some_workers : 0 < plan.workers
@@ -29,5 +30,6 @@ pub record IsReadable (plan : Plan) : Type 0 where
   pub key_room : distinct_count (all_keys plan.scripts) ≤ MAX_KEYS
   pub range_room : range_count plan.scripts ≤ MAX_RANGES
   pub try_room : try_count plan.scripts ≤ MAX_ALL_TRIES
+  pub starts : (worker : ℕ) → start_count worker plan.scripts ≤ 1
   pub items : list_all (is_item plan.workers) plan.schedule ≡ true
   pub turn_room : length plan.schedule ≤ MAX_TURNS

@@ -1,7 +1,7 @@
 -- The texts of the reasons.
 use Rattle.std.specs.Prelude.{ℕ, List, codes}
 use Rattle.workload.specs.declared.reason.Reason.{Reason}
-use Rattle.workload.specs.declared.reason.Reason.TheVariants.{NoWorkersLine, LineTooLong, BadByte, UnknownWord, WrongNumberOfWords, BadName, NameTaken, UnknownName, WrongKind, BadNumber, NoSuchWorker, CallOutsideWorker, LimitReached, InputTooLong}
+use Rattle.workload.specs.declared.reason.Reason.TheVariants.{NoWorkersLine, LineTooLong, BadByte, UnknownWord, WrongNumberOfWords, BadName, NameTaken, UnknownName, WrongKind, BadNumber, NoSuchWorker, CallOutsideWorker, LimitReached, InputTooLong, NotDormant}
 
 -- what the program says of a reason
 abbrev pub reason_text : Reason → List ℕ
@@ -19,3 +19,4 @@ reason_text NoSuchWorker = codes "no such worker"
 reason_text CallOutsideWorker = codes "call outside a worker"
 reason_text LimitReached = codes "limit reached"
 reason_text InputTooLong = codes "input too long"
+reason_text NotDormant = codes "worker not dormant"

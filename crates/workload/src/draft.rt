@@ -1,12 +1,13 @@
 //! What the lines of a text say so far.
-ghost use Rattle.std.specs.Prelude.{◌≡◌, ◌≤◌, ◌<◌, ◌+◌, ◌∷◌, [], true, false, length, nat_lt, is_some, count_by, replicate, IfOk, OnOk};
-ghost use Rattle.std.specs.Option.{option_copied, option_to_list};
+ghost use Rattle.std.specs.Prelude.{◌≡◌, ◌≤◌, ◌<◌, ◌+◌, ◌∷◌, [], true, false, length, nat_lt, is_some, vec_len, count_by, replicate, IfOk, OnOk};
+ghost use Rattle.std.specs.Option.{option_copied, option_map_or, option_to_list};
 ghost use Rattle.std.specs.FinMap.{insert};
 ghost use Rattle.sync_types.specs.Name.{is_name};
 ghost use Rattle.workload.specs.declared.limits.TheConstants.{MAX_WORKERS};
-ghost use Rattle.workload.specs.Index.{with_keys};
+ghost use Rattle.workload.specs.Index.{with_keys, marked};
 ghost use Rattle.workload.specs.Plan.{is_dormant};
 ghost use Rattle.workload.specs.Draft.{started, with_line, may_follow, declared, count_of, count_together, limit_of, call_count, key_count, keys_of, is_range, range_count, tries_of, try_count};
+ghost use Rattle.script_calls.specs.Starts.{started_by, start_count};
 
 use crate::keys::Keys;
 use crate::limits::{MAX_ATOMICS, MAX_MAPS, MAX_OTHERS};
@@ -27,6 +28,7 @@ pub struct Draft {
     workers: u32,
     objects: Seq<ObjectLine>,
     dormant: Vec<bool>,
+    started: Vec<bool>,
     scripts: Seq<Seq<Call>>,
     schedule: Seq<Turn>,
     current: Option<u32>,
@@ -45,7 +47,7 @@ impl Model for Draft {
 
     ghost view = { λ d. record { plan = record { workers = d.workers; objects = d.objects; dormant = d.dormant.items; scripts = d.scripts; schedule = d.schedule }; current = d.current } };
 
-    ghost invariant = { λ d. IsIndexed (record { workers = d.workers; objects = d.objects; dormant = d.dormant.items; scripts = d.scripts; schedule = d.schedule }) d.current d.names d.keys d.calls d.ranges d.tries };
+    ghost invariant = { λ d. IsIndexed (record { workers = d.workers; objects = d.objects; dormant = d.dormant.items; scripts = d.scripts; schedule = d.schedule }) d.current d.names d.keys d.started.items d.calls d.ranges d.tries };
 }
 
 /// As many empty scripts as there are workers.
@@ -59,15 +61,15 @@ fn empty_scripts(alloc: Global, workers: u32) -> Result<Seq<Seq<Call>>, AllocErr
     Ok(scripts)
 }
 
-/// For each worker that it doesn't wait to be started.
-fn no_dormant(alloc: Global, workers: u32) -> Result<Vec<bool>, AllocError>
-    ensures { IfOk result (λ dormant. dormant.items ≡ replicate workers false) }
+/// For each worker `false`: it doesn't wait to be started, and no call starts it.
+fn none_yet(alloc: Global, workers: u32) -> Result<Vec<bool>, AllocError>
+    ensures { IfOk result (λ none. none.items ≡ replicate workers false) }
 {
-    let mut dormant = Vec::new(alloc);
+    let mut none = Vec::new(alloc);
     for _ in 0..workers {
-        dormant.push(false)?;
+        none.push(false)?;
     }
-    Ok(dormant)
+    Ok(none)
 }
 
 fn counts_together(word: ObjectWord, other: ObjectWord) -> bool
@@ -158,6 +160,30 @@ pub fn tries_in(call: &Call) -> usize
     }
 }
 
+/// The worker that a call starts, if it starts one.
+fn started_by(call: &Call) -> Option<u32>
+    ensures { result ≡ started_by call.now.operation }
+{
+    match &call.operation {
+        Operation::Composed(ComposedCall::Go { worker }) => Some(*worker),
+        _ => None,
+    }
+}
+
+/// With a mark at the worker that a call starts, if it starts one.
+fn with_started(mut started: Vec<bool>, call: &Call) -> Vec<bool>
+    requires { option_map_or (λ worker. nat_lt worker (vec_len started)) (started_by call.now.operation) true ≡ true }
+    ensures { result.items ≡ marked started.items (started_by call.now.operation) }
+{
+    match started_by(call) {
+        None => started,
+        Some(worker) => {
+            started[worker as usize] = true;
+            started
+        }
+    }
+}
+
 impl Draft {
     /// The draft behind the first line.
     pub fn start(alloc: Global, workers: u32) -> Result<Self, AllocError>
@@ -168,7 +194,8 @@ impl Draft {
         Ok(Draft {
             workers,
             objects: Seq::new(alloc),
-            dormant: no_dormant(alloc, workers)?,
+            dormant: none_yet(alloc, workers)?,
+            started: none_yet(alloc, workers)?,
             scripts: empty_scripts(alloc, workers)?,
             schedule: Seq::new(alloc),
             current: None,
@@ -182,7 +209,8 @@ impl Draft {
 
     /// How many workers there are.
     pub fn workers(&self) -> u32
-        ensures { result ≡ self.now.plan.workers }
+        ensures workers { result ≡ self.now.plan.workers }
+        ensures few { result ≤ MAX_WORKERS }
     {
         self.workers
     }
@@ -193,6 +221,14 @@ impl Draft {
         ensures { result ≡ is_dormant self.now.plan worker }
     {
         self.dormant[worker as usize]
+    }
+
+    /// Whether a call starts a worker.
+    pub fn is_started(&self, worker: u32) -> bool
+        requires { worker < self.now.plan.workers }
+        ensures { result ≡ nat_lt 0 (start_count worker self.now.plan.scripts) }
+    {
+        self.started[worker as usize]
     }
 
     /// Whether a `worker` line came.
@@ -278,6 +314,7 @@ impl Draft {
             workers,
             mut objects,
             dormant,
+            started,
             scripts,
             schedule,
             current,
@@ -297,6 +334,7 @@ impl Draft {
             workers,
             objects,
             dormant,
+            started,
             scripts,
             schedule,
             current,
@@ -316,6 +354,7 @@ impl Draft {
             workers,
             objects,
             mut dormant,
+            started,
             scripts,
             schedule,
             current,
@@ -330,6 +369,7 @@ impl Draft {
             workers,
             objects,
             dormant,
+            started,
             scripts,
             schedule,
             current,
@@ -349,6 +389,7 @@ impl Draft {
             workers,
             objects,
             dormant,
+            started,
             scripts,
             schedule,
             current: _,
@@ -362,6 +403,7 @@ impl Draft {
             workers,
             objects,
             dormant,
+            started,
             scripts,
             schedule,
             current: Some(worker),
@@ -381,6 +423,7 @@ impl Draft {
             workers,
             objects,
             dormant,
+            started,
             scripts,
             mut schedule,
             current,
@@ -395,6 +438,7 @@ impl Draft {
             workers,
             objects,
             dormant,
+            started,
             scripts,
             schedule,
             current,
@@ -420,6 +464,7 @@ impl Draft {
             workers,
             objects,
             dormant,
+            started,
             mut scripts,
             schedule,
             current,
@@ -435,11 +480,13 @@ impl Draft {
         insert_keys(alloc, &mut keys, &call)?;
         let more_ranges = ranges_in(&call);
         let more_tries = tries_in(&call);
+        let started = with_started(started, &call);
         scripts.push_at(worker as usize, call)?;
         Ok(Draft {
             workers,
             objects,
             dormant,
+            started,
             scripts,
             schedule,
             current,

@@ -65,6 +65,7 @@ pub enum Verb {
     IfEqual,
     /// `waitfor`
     WaitFor,
+    Go,
 }
 
 /// What a word of a call behind the object's name stands for.
@@ -84,6 +85,8 @@ pub enum Operand {
     Tries,
     /// An atomic that is declared before.
     Atomic,
+    /// A worker that waits to be started, and that no call starts yet.
+    Worker,
 }
 
 /// What a word of an object's line behind the object's name stands for.
@@ -158,6 +161,7 @@ impl Verb {
             Verb::Sweep => b"sweep",
             Verb::IfEqual => b"ifeq",
             Verb::WaitFor => b"waitfor",
+            Verb::Go => b"go",
         }
     }
 }
@@ -192,7 +196,7 @@ fn verbs_with(first: u8) -> &'static [Verb]
             Verb::Call,
         ],
         b'd' => &[Verb::Delete, Verb::Done, Verb::Do],
-        b'g' => &[Verb::Get],
+        b'g' => &[Verb::Get, Verb::Go],
         b'i' => &[Verb::IfEqual],
         b'l' => &[
             Verb::Load,

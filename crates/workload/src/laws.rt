@@ -9,17 +9,13 @@ ghost use Rattle.workload.specs.Canonical.{canonical, eights};
 ghost use Rattle.workload.specs.CallWords.{verb_of, operands_of};
 ghost use Rattle.workload.specs.Checks.{Check, first_failing, call_form, form_words, keys_among, tries_among, ranges_in};
 ghost use Rattle.workload.specs.Dormant.{begins_dormant, names_dormant};
-ghost use Rattle.workload.specs.Draft.{Draft, all_keys, declared, distinct_count, is_operation, is_range_operation, names_second, operation_keys, tries_of};
+ghost use Rattle.workload.specs.Draft.{Draft, all_keys, declared, distinct_count, is_operation, is_range_operation, may_start, names_second, operation_keys, tries_of};
 ghost use Rattle.workload.specs.Keys.{keys_in, number_in, key_number, key_name};
 ghost use Rattle.workload.specs.Readable.{IsReadable};
-ghost use Rattle.script_calls.specs.declared.call.Call.{Call};
-ghost use Rattle.script_calls.specs.declared.call.Operation.{Operation};
 ghost use Rattle.workload.specs.KeywordWords.{keyword_at, keyword_word};
 ghost use Rattle.workload.specs.NumberWords.{is_number, number_of};
 ghost use Rattle.workload.specs.declared.keyword.Keyword.{Keyword};
 ghost use Rattle.workload.specs.declared.object.Declared.{Declared};
-ghost use Rattle.workload.specs.declared.object.ObjectKind.{ObjectKind};
-ghost use Rattle.workload.specs.declared.object.ObjectLine.{ObjectLine};
 ghost use Rattle.workload.specs.declared.reason.Reason.{Reason};
 ghost use Rattle.workload.specs.declared.turn.Turn.{Turn};
 ghost use Rattle.workload.specs.Lines.{lines_of, words_of};
@@ -30,6 +26,9 @@ use crate::limits::{
     MAX_ALL_TRIES, MAX_AMOUNT, MAX_ATOMICS, MAX_CALLS, MAX_CODE, MAX_INPUT, MAX_KEYS, MAX_LINE,
     MAX_MAPS, MAX_OTHERS, MAX_PASSES, MAX_RANGES, MAX_TRIES, MAX_TURNS, MAX_WORKERS,
 };
+use crate::object::{ObjectKind, ObjectLine};
+use script_calls::laws::who_starts_whom;
+use script_calls::{Call, ComposedCall, Operation};
 use sync_types::MAX_VALUE;
 
 /// No two workloads are read from the same bytes.
@@ -103,15 +102,16 @@ pub fn names_find_their_objects()
     ensures { (draft : Draft) (name : List ℕ) (found : Declared) → declared draft name ≡ Some found → (object : ObjectLine) × (slice_get draft.plan.objects found.place ≡ Some object) × (object.kind ≡ found.kind) }
 {}
 
-/// A call that its object has among those of the draft, with its numbers in range and its second name, if it has one, that of
-/// the second object: it passes the checks of the words that it is printed as. The keys among these words and the number of
-/// waits that they say are its own, and its word says whether it is a `range`.
+/// A call that its object has among those of the draft, with its numbers in range, its second name, if it has one, that of
+/// the second object, and the worker that it starts, if it starts one, a waiting one that no call starts yet: it passes the
+/// checks of the words that it is printed as. The keys among these words and the number of waits that they say are its own,
+/// and its word says whether it is a `range`.
 pub fn calls_pass_their_checks()
-    ensures passes { (draft : Draft) (kind : ObjectKind) (second : Option (List ℕ)) (operation : Operation) → has_among draft.plan.objects kind operation ≡ true → names_second draft operation second ≡ true → is_operation operation ≡ true
+    ensures passes { (draft : Draft) (kind : ObjectKind) (second : Option (List ℕ)) (operation : Operation) → has_among draft.plan.objects kind operation ≡ true → names_second draft operation second ≡ true → may_start draft operation ≡ true → is_operation operation ≡ true
         → first_failing (form_words draft (call_form draft (verb_of operation) (word_of kind) (option_to_list second ++ operands_of operation)) (option_to_list second ++ operands_of operation)) ≡ None }
-    ensures keys { (draft : Draft) (kind : ObjectKind) (second : Option (List ℕ)) (operation : Operation) → has_among draft.plan.objects kind operation ≡ true → names_second draft operation second ≡ true → is_operation operation ≡ true
+    ensures keys { (draft : Draft) (kind : ObjectKind) (second : Option (List ℕ)) (operation : Operation) → has_among draft.plan.objects kind operation ≡ true → names_second draft operation second ≡ true → may_start draft operation ≡ true → is_operation operation ≡ true
         → keys_among (call_form draft (verb_of operation) (word_of kind) (option_to_list second ++ operands_of operation)) (option_to_list second ++ operands_of operation) ≡ operation_keys operation }
-    ensures tries { (draft : Draft) (kind : ObjectKind) (second : Option (List ℕ)) (operation : Operation) → has_among draft.plan.objects kind operation ≡ true → names_second draft operation second ≡ true → is_operation operation ≡ true
+    ensures tries { (draft : Draft) (kind : ObjectKind) (second : Option (List ℕ)) (operation : Operation) → has_among draft.plan.objects kind operation ≡ true → names_second draft operation second ≡ true → may_start draft operation ≡ true → is_operation operation ≡ true
         → tries_among (call_form draft (verb_of operation) (word_of kind) (option_to_list second ++ operands_of operation)) (option_to_list second ++ operands_of operation) ≡ tries_of operation }
     ensures ranges { (operation : Operation) → count_by is_range_operation (operation ∷ []) ≡ ranges_in (verb_of operation) }
 {}
@@ -138,3 +138,18 @@ pub fn dormant_lines_say_who_waits()
 pub fn a_workload_has_few_objects()
     ensures { (plan : Plan) → IsReadable plan → length plan.objects ≤ MAX_MAPS + (MAX_ATOMICS + 8 * MAX_OTHERS) }
 {}
+
+/// In a workload that has a text each `go` is one of a wait group and starts a worker that waits to be started. No two start the
+/// same worker.
+pub fn each_go_starts_one_that_waits()
+    ensures waits { (plan : Plan) (at place worker : ℕ) (script : List Call) (call : Call) → IsReadable plan → slice_get plan.scripts at ≡ Some script → slice_get script place ≡ Some call
+        → call.operation ≡ Operation.Composed (ComposedCall.Go worker) → (worker < plan.workers) × (is_dormant plan worker ≡ true) }
+    ensures group { (plan : Plan) (at place worker : ℕ) (script : List Call) (call : Call) → IsReadable plan → slice_get plan.scripts at ≡ Some script → slice_get script place ≡ Some call
+        → call.operation ≡ Operation.Composed (ComposedCall.Go worker) → (start : ℕ) × (object : ObjectLine) × (slice_get plan.objects call.object ≡ Some object) × (object.kind ≡ ObjectKind.WaitGroup start) }
+    ensures one { (plan : Plan) (at after place other worker : ℕ) (script later : List Call) (call another : Call) → IsReadable plan
+        → slice_get plan.scripts at ≡ Some script → slice_get script place ≡ Some call → call.operation ≡ Operation.Composed (ComposedCall.Go worker)
+        → slice_get plan.scripts after ≡ Some later → slice_get later other ≡ Some another → another.operation ≡ Operation.Composed (ComposedCall.Go worker)
+        → (at ≡ after) × (place ≡ other) }
+{
+    who_starts_whom();
+}

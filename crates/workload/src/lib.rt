@@ -4,6 +4,7 @@
 
 pub mod draft;
 pub mod fault;
+mod groups;
 pub mod keys;
 pub mod keyword;
 pub mod laws;

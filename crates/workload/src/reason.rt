@@ -32,6 +32,8 @@ pub enum Reason {
     LimitReached,
     /// The text has more than 8,388,608 bytes.
     InputTooLong,
+    /// A call starts a worker that no `dormant` line before it names.
+    NotDormant,
 }
 
 impl Reason {
@@ -56,6 +58,7 @@ impl Reason {
             Reason::CallOutsideWorker => "call outside a worker",
             Reason::LimitReached => "limit reached",
             Reason::InputTooLong => "input too long",
+            Reason::NotDormant => "worker not dormant",
         }
     }
 }

@@ -1,10 +1,12 @@
 //! A workload that was read.
 ghost use Rattle.std.specs.Prelude.{◌≡◌, ◌<◌, true, get_or, []};
+ghost use Rattle.script_calls.specs.Starts.{group_of};
 ghost use Rattle.workload.specs.Keys.{keys_in};
 ghost use Rattle.workload.specs.Plan.{is_dormant, has_dormant, is_valid};
 ghost use Rattle.workload.specs.Puts.{puts_at};
 ghost use Rattle.workload.specs.Readable.{IsReadable};
 
+use crate::groups::group_of;
 use crate::keys::Keys;
 use crate::object::ObjectLine;
 use crate::puts::puts_at;
@@ -124,6 +126,13 @@ impl Workload {
         ensures { result ≡ puts_at place self.now.scripts }
     {
         puts_at(self.scripts.as_slice(), place)
+    }
+
+    /// The place of the group under which a worker is started, if any call may start it.
+    pub fn group_of(&self, worker: u32) -> Option<usize>
+        ensures { result ≡ group_of worker self.now.scripts }
+    {
+        group_of(self.scripts.as_slice(), worker)
     }
 
     /// The items of the schedule.

@@ -1,4 +1,4 @@
--- The checks of operands that name no object: they are the same by any draft.
+-- The checks of operands that name no object and no worker: they are the same by any draft.
 use Rattle.std.proofs.Common.{◌≡◌, ℕ, Bool, true, false, eqb, List, [], ◌∷◌, length, Option, Some, None, refl, sym, ap, subst, ◌∙◌}
 use Rattle.sync_types.specs.declared.atomic_object.AtomicKind.{AtomicKind}
 use Rattle.sync_types.specs.declared.atomic_object.AtomicKind.TheVariants as types
@@ -14,10 +14,11 @@ use Rattle.workload.specs.Draft.{Draft}
 use Rattle.workload.specs.Checks.{Check, operand_check, operand_checks, form_words, form_of, call_form, map_form, atomic_form, bits_form, mutex_form, rw_mutex_form, cond_form, group_form, once_form, once_func_form, once_value_form, pool_form}
 use Rattle.workload_text.specs.LineResult.{IsFault, blank}
 
--- whether no operand names an object
+-- whether no operand names an object or a worker
 abbrev is_plain : List Operand → Bool
 is_plain [] = true
 is_plain (operands.Atomic ∷ forms) = false
+is_plain (operands.Worker ∷ forms) = false
 is_plain (form ∷ forms) = is_plain forms
 
 abbrev is_plain_form : Option (List Operand) → Bool
@@ -28,6 +29,7 @@ same_checks : (d e : Draft) (forms : List Operand) (ws : List (List ℕ)) → is
 same_checks d e [] ws h = refl
 same_checks d e (form ∷ forms) [] h = refl
 same_checks d e (operands.Atomic ∷ forms) (word ∷ ws) h = absurd cc
+same_checks d e (operands.Worker ∷ forms) (word ∷ ws) h = absurd cc
 same_checks d e (form ∷ forms) (word ∷ ws) h = ap (λ (checks : List Check). operand_check form word ∷ checks) (same_checks d e forms ws h)
 
 same_words : (d e : Draft) (form : Option (List Operand)) (ws : List (List ℕ)) → is_plain_form form ≡ true → form_words d form ws ≡ form_words e form ws
@@ -84,13 +86,14 @@ plain_form verb words.OnceFunc = (plain_once verb).1
 plain_form verb words.OnceValue = (plain_once verb).2
 plain_form verb words.Pool = plain_pool verb
 
--- the form of a call hangs on the draft only where it is a `waitfor`
-call_form_is : (d : Draft) (verb : Verb) (word : ObjectWord) (ws : List (List ℕ)) → ((verb ≡ verbs.WaitFor) → ⊥) → call_form d verb word ws ≡ form_of verb word
-call_form_is d verbs.WaitFor word ws other = absurd (other refl)
-call_form_is d verb word ws other = refl
+-- the form of a call is that of its object's calls but where it is a `waitfor` or a `go`
+call_form_is : (d : Draft) (verb : Verb) (word : ObjectWord) (ws : List (List ℕ)) → ((verb ≡ verbs.WaitFor) → ⊥) → ((verb ≡ verbs.Go) → ⊥) → call_form d verb word ws ≡ form_of verb word
+call_form_is d verbs.WaitFor word ws no_wait no_go = absurd (no_wait refl)
+call_form_is d verbs.Go word ws no_wait no_go = absurd (no_go refl)
+call_form_is d verb word ws no_wait no_go = refl
 
 -- so a fault of the words by no draft is one by any
-pub plain_fails : (d : Draft) (verb : Verb) (word : ObjectWord) (ws : List (List ℕ)) (f : LineFault) → ((verb ≡ verbs.WaitFor) → ⊥) → IsFault (form_words blank (form_of verb word) ws) f → IsFault (form_words d (call_form d verb word ws) ws) f
-plain_fails d verb word ws f other h =
+pub plain_fails : (d : Draft) (verb : Verb) (word : ObjectWord) (ws : List (List ℕ)) (f : LineFault) → ((verb ≡ verbs.WaitFor) → ⊥) → ((verb ≡ verbs.Go) → ⊥) → IsFault (form_words blank (form_of verb word) ws) f → IsFault (form_words d (call_form d verb word ws) ws) f
+plain_fails d verb word ws f no_wait no_go h =
     subst (λ (checks : List Check). IsFault checks f)
-    (same_words blank d (form_of verb word) ws (plain_form verb word) ∙ ap (λ (form : Option (List Operand)). form_words d form ws) (sym (call_form_is d verb word ws other))) h
+    (same_words blank d (form_of verb word) ws (plain_form verb word) ∙ ap (λ (form : Option (List Operand)). form_words d form ws) (sym (call_form_is d verb word ws no_wait no_go))) h

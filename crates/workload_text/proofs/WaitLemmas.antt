@@ -31,7 +31,7 @@ pub wait_said : FindsObjects → (d : Draft) (name : List ℕ) (atomic : ℕ) (k
     → name ∷ number_word value ∷ decimal tries ∷ [] ≡ words → (mutex : ℕ) → IsCallIn d (kinds.Cond mutex) verbs.WaitFor words (Some name, operations.Composed (WaitFor atomic value tries))
 wait_said finds d name atomic kind value tries words named found fits few are mutex =
     let there = finds d name (record { place = atomic; kind = kinds.Atomic kind }) found in
-    (refl, are, few, rw (named, found) (eq-eqb atomic atomic refl), rw (there.1, there.2) fits)
+    (refl, are, few, rw (named, found) (eq-eqb atomic atomic refl), refl, rw (there.1, there.2) fits)
 
 -- a fault of the value
 pub value_fails : FailsFirst → (d : Draft) (name value tries : List ℕ) (atomic : ℕ) (kind : AtomicKind) (f : LineFault) → is_name name ≡ true → declared d name ≡ Some (record { place = atomic; kind = kinds.Atomic kind })

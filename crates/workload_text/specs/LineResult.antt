@@ -1,5 +1,5 @@
 -- What the reading of a line, or of a word of it, answers.
-use Rattle.std.specs.Prelude.{◌≡◌, Bool, ◌++◌, ◌<◌, ◌≤◌, map, ℕ, true, List, ◌∷◌, Option, Some, None, Result, MatchResult}
+use Rattle.std.specs.Prelude.{◌≡◌, Bool, ◌++◌, ◌<◌, ◌≤◌, map, ℕ, true, List, [], ◌∷◌, Option, Some, None, Result, MatchResult}
 use Rattle.std.specs.Option.{option_to_list}
 use Rattle.sync_types.specs.Name.{is_name}
 use Rattle.std.specs.List.{list_all, flat_map}
@@ -9,6 +9,7 @@ use Rattle.workload.specs.declared.fault.LineFault.{LineFault}
 use Rattle.workload.specs.declared.fault.LineFault.TheVariants as faults
 use Rattle.workload.specs.declared.keyword.Keyword.{Keyword}
 use Rattle.workload.specs.declared.keyword.Operand.{Operand}
+use Rattle.workload.specs.declared.keyword.Operand.TheVariants as operands
 use Rattle.workload.specs.declared.keyword.Verb.{Verb}
 use Rattle.workload.specs.declared.keyword.Verb.TheVariants as verbs
 use Rattle.workload.specs.declared.object.ObjectKind.{ObjectKind}
@@ -22,7 +23,7 @@ use Rattle.workload.specs.CallWords.{verb_of, operands_of}
 use Rattle.workload.specs.Words.{spelled, first_spelled, keyword_of, arguments_of, kind_parameters, turn_word}
 use Rattle.workload.specs.Plan.{word_of, has_operation, has_among}
 use Rattle.workload.specs.Lines.{is_short, is_clean, words_of, is_significant}
-use Rattle.workload.specs.Draft.{Draft, started, declared, may_follow, names_reference, names_second, is_kind, is_operation, is_item}
+use Rattle.workload.specs.Draft.{Draft, started, declared, may_follow, names_reference, names_second, may_start, is_kind, is_operation, is_item}
 use Rattle.workload.specs.Checks.{Check, first_failing, line_checks, form_of, form_words, call_form, wait_for_words, is_atomic, parameter_words, reference_checks, item_checks, first_checks, checks_of}
 
 -- the fault is the first check that fails, unless memory ran out
@@ -61,10 +62,10 @@ IsCallOf word verb words operation =
 abbrev pub IsCall : ObjectWord → Verb → List (List ℕ) → Result Operation LineFault → Type 0
 IsCall word verb words result = MatchResult result (IsCallOf word verb words) (IsFault (form_words blank (form_of verb word) words))
 
--- an operation of this verb that an object of this kind has in the draft, with the name of a second object, if it has one, and these words behind the name of the first
+-- An operation of this verb that an object of this kind has in the draft, with the name of a second object, if it has one, and these words behind the name of the first. A worker that it starts may be started
 abbrev pub IsCallIn : Draft → ObjectKind → Verb → List (List ℕ) → Option (List ℕ) × Operation → Type 0
 IsCallIn d kind verb words said =
-    (verb_of said.1 ≡ verb) × (option_to_list said.0 ++ operands_of said.1 ≡ words) × (is_operation said.1 ≡ true) × (names_second d said.1 said.0 ≡ true) × (has_among d.plan.objects kind said.1 ≡ true)
+    (verb_of said.1 ≡ verb) × (option_to_list said.0 ++ operands_of said.1 ≡ words) × (is_operation said.1 ≡ true) × (names_second d said.1 said.0 ≡ true) × (may_start d said.1 ≡ true) × (has_among d.plan.objects kind said.1 ≡ true)
 
 -- such an operation, or the first check that fails
 abbrev pub IsCallOn : Draft → ObjectKind → Verb → List (List ℕ) → Result (Option (List ℕ) × Operation) LineFault → Type 0
@@ -76,6 +77,13 @@ IsWait d words result =
     MatchResult result
     (λ said. (mutex : ℕ) → IsCallIn d (kinds.Cond mutex) verbs.WaitFor words (Some said.0, said.1))
     (IsFault (form_words d (Some (wait_for_words d words)) words))
+
+-- a `go` of a worker that may be started
+abbrev pub IsStart : Draft → List (List ℕ) → Result Operation LineFault → Type 0
+IsStart d words result =
+    MatchResult result
+    (λ operation. (start : ℕ) → IsCallIn d (kinds.WaitGroup start) verbs.Go words (None, operation))
+    (IsFault (form_words d (Some (operands.Worker ∷ [])) words))
 
 -- the name and the place of an object of this kind that is declared, or the first check that fails
 abbrev pub IsReferenceTo : Draft → ObjectKind → (ObjectKind → Bool) → List ℕ → Result (List ℕ × ℕ) LineFault → Type 0

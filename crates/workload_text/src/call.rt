@@ -106,6 +106,7 @@ pub fn composed_verb(call: ComposedCall) -> Verb
     match call {
         ComposedCall::IfEqual { .. } => Verb::IfEqual,
         ComposedCall::WaitFor { .. } => Verb::WaitFor,
+        ComposedCall::Go { .. } => Verb::Go,
     }
 }
 

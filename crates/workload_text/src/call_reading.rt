@@ -7,11 +7,11 @@ ghost use Rattle.workload.specs.NumberWords.{is_passes, number_word};
 ghost use Rattle.workload.specs.Plan.{is_amount};
 ghost use Rattle.workload.specs.Checks.{bits_form, first_failing, form_words};
 ghost use Rattle.sync_types.specs.declared.value.TheConstants.{MAX_VALUE};
-ghost use Rattle.workload_text.specs.LineResult.{blank, IsFault, IsOperands, IsCall, IsWait, IsCallOn};
+ghost use Rattle.workload_text.specs.LineResult.{blank, IsFault, IsOperands, IsCall, IsWait, IsStart, IsCallOn};
 
 use crate::object_reading::read_atomic;
 use crate::word_reading::{
-    read_amount, read_name, read_none, read_number, read_passes, read_tries, read_value,
+    read_amount, read_name, read_none, read_number, read_passes, read_start, read_tries, read_value,
 };
 use script_calls::{ComposedCall, Operation};
 use std::alloc::Global;
@@ -327,6 +327,31 @@ fn read_wait_for(
     }
 }
 
+/// The `go` of a worker that waits to be started.
+fn read_started(draft: &Draft, words: &[&[u8]]) -> Result<Operation, LineFault>
+    ensures { IsStart draft.now (map (λ word. word.now) words.now) result }
+{
+    let [worker] = words else {
+        return Err(LineFault::Refused(Reason::WrongNumberOfWords));
+    };
+    let worker = read_start(draft, worker)?;
+    Ok(Operation::Composed(ComposedCall::Go { worker }))
+}
+
+/// A `go` on an object of this kind.
+fn read_go(
+    draft: &Draft,
+    kind: ObjectKind,
+    words: &[&[u8]],
+) -> Result<(Option<Name>, Operation), LineFault>
+    ensures { IsCallOn draft.now kind Verb.Go (map (λ word. word.now) words.now) result }
+{
+    match kind {
+        ObjectKind::WaitGroup { .. } => Ok((None, read_started(draft, words)?)),
+        _ => Err(LineFault::Refused(Reason::WrongKind)),
+    }
+}
+
 /// A call on an object of this kind, with the name of a second object, if it names one.
 pub fn read_call_on(
     alloc: Global,
@@ -339,6 +364,7 @@ pub fn read_call_on(
 {
     match verb {
         Verb::WaitFor => read_wait_for(alloc, draft, kind, words),
+        Verb::Go => read_go(draft, kind, words),
         _ => Ok((None, read_operation(alloc, kind.word(), verb, words)?)),
     }
 }

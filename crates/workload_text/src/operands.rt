@@ -10,8 +10,8 @@ use script_calls::{ComposedCall, Operation};
 use sync_types::{AtomicCall, MapCall, Name, Number, PoolCall, WaitGroupCall};
 
 /// The numbers of a call, in order. A value of a map and an item of a pool are of the type `Uint64` here,
-/// an amount for a wait group is of `Int32`, and the number of calls that an `ifeq` passes over or of waits that a
-/// `waitfor` may make is of `Uint32`.
+/// an amount for a wait group is of `Int32`, and the number of calls that an `ifeq` passes over, of waits that a
+/// `waitfor` may make or of the worker that a `go` starts is of `Uint32`.
 #[derive(Clone, Copy)]
 pub enum Numbers {
     /// The call has no number.
@@ -75,13 +75,15 @@ fn pool_numbers(call: PoolCall) -> Numbers
     }
 }
 
-/// The value that an atomic is compared with, and how many calls are passed over or waits may be made.
+/// The value that an atomic is compared with, and how many calls are passed over or waits may be made; or the worker that is
+/// started.
 fn composed_numbers(call: ComposedCall) -> Numbers
     ensures { map number_word (numbers_in result) ≡ composed_operands call }
 {
     match call {
         ComposedCall::IfEqual { value, passes } => Numbers::Two(value, Number::Uint32(passes)),
         ComposedCall::WaitFor { value, tries, .. } => Numbers::Two(value, Number::Uint32(tries)),
+        ComposedCall::Go { worker } => Numbers::One(Number::Uint32(worker)),
     }
 }
 

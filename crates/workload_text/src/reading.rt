@@ -1,16 +1,15 @@
 //! One line, read after those before it.
-ghost use Rattle.std.specs.Prelude.{◌≡◌, ◌<◌, true, map, MatchResult, None};
+ghost use Rattle.std.specs.Prelude.{◌≡◌, true, map, MatchResult, None};
 ghost use Rattle.std.specs.Fmt.{decimal};
-ghost use Rattle.workload.specs.NumberWords.{number_of};
 ghost use Rattle.workload.specs.Words.{turn_word};
 ghost use Rattle.workload.specs.Draft.{may_follow, is_item, keys_of, tries_of};
-ghost use Rattle.workload.specs.Checks.{worker_checks, dormant_checks, item_checks, ranges_in, limit_checks, first_failing};
+ghost use Rattle.workload.specs.Checks.{dormant_checks, item_checks, ranges_in, limit_checks, first_failing};
 ghost use Rattle.workload_text.specs.LineResult.{IsFault, IsTurns, IsWorkers, IsLineOf, IsLine};
 
 use crate::call_reading::read_call_on;
-use crate::number::{is_number, number};
+use crate::number::number;
 use crate::object_reading::{parameter_count, read_kind};
-use crate::word_reading::read_name;
+use crate::word_reading::{read_name, read_worker};
 use script_calls::Call;
 use std::alloc::Global;
 use sync_types::{MAX_VALUE, Seq};
@@ -23,19 +22,6 @@ use workload::line::Line;
 use workload::object::{ObjectLine, ObjectWord};
 use workload::reason::Reason;
 use workload::turn::Turn;
-
-/// The number of a worker of whom there are so many.
-fn read_worker(workers: u32, word: &[u8]) -> Result<u32, LineFault>
-    ensures { MatchResult result (λ worker. (decimal worker ≡ word.now) × (worker < workers) × (first_failing (worker_checks workers word.now) ≡ None) × (number_of word.now ≡ worker)) (IsFault (worker_checks workers word.now)) }
-{
-    if !is_number(word) {
-        return Err(LineFault::Refused(Reason::BadNumber));
-    }
-    match number(word, u64::from(u32::MAX)) {
-        Some(worker) if worker < u64::from(workers) => Ok(worker as u32),
-        _ => Err(LineFault::Refused(Reason::NoSuchWorker)),
-    }
-}
 
 /// An item of the schedule.
 fn read_turn(workers: u32, word: &[u8]) -> Result<Turn, LineFault>

@@ -1,20 +1,25 @@
 //! The words of a line that stand for one thing.
-ghost use Rattle.std.specs.Prelude.{◌≡◌, ◌∷◌, [], ◌≤◌, true, map, MatchResult, Some, None};
+ghost use Rattle.std.specs.Prelude.{◌≡◌, ◌<◌, ◌∷◌, [], ◌≤◌, true, map, MatchResult, Some, None};
 ghost use Rattle.std.specs.Fmt.{decimal, signed_decimal};
 ghost use Rattle.sync_types.specs.Name.{is_name};
 ghost use Rattle.sync_types.specs.SequentialAtomic.{is_of};
-ghost use Rattle.workload.specs.NumberWords.{is_number_to, is_amount_word, is_passes, is_passes_word, is_tries, is_tries_word, is_number_word, number_word};
+ghost use Rattle.workload.specs.NumberWords.{is_number_to, is_amount_word, is_passes, is_passes_word, is_tries, is_tries_word, is_number_word, number_of, number_word};
 ghost use Rattle.workload.specs.Plan.{is_amount};
-ghost use Rattle.workload.specs.Checks.{operand_check};
+ghost use Rattle.workload.specs.Checks.{first_failing, operand_check, worker_checks, start_checks};
+ghost use Rattle.workload.specs.Draft.{may_start};
 ghost use Rattle.workload_text.specs.LineResult.{IsFault, IsOperands};
+ghost use Rattle.workload.specs.declared.limits.TheConstants.{MAX_WORKERS};
 ghost use Rattle.sync_types.specs.declared.value.TheConstants.{MAX_VALUE};
 
-use crate::number::{amount, atomic_number, number};
+use crate::number::{amount, atomic_number, is_number, number};
+use script_calls::{ComposedCall, Operation};
 use std::alloc::Global;
 use sync_types::name::is_name;
 use sync_types::{AtomicKind, MAX_VALUE, Name, Number};
+use workload::draft::Draft;
 use workload::fault::LineFault;
 use workload::keyword::Operand;
+use workload::laws::checks_go_in_order;
 use workload::limits::{MAX_PASSES, MAX_TRIES};
 use workload::reason::Reason;
 
@@ -86,6 +91,34 @@ pub fn read_number_to(most: u64, word: &[u8]) -> Result<u64, LineFault>
         None => Err(LineFault::Refused(Reason::BadNumber)),
         Some(number) => Ok(number),
     }
+}
+
+/// The number of a worker of whom there are so many.
+pub fn read_worker(workers: u32, word: &[u8]) -> Result<u32, LineFault>
+    ensures { MatchResult result (λ worker. (decimal worker ≡ word.now) × (worker < workers) × (first_failing (worker_checks workers word.now) ≡ None) × (number_of word.now ≡ worker)) (IsFault (worker_checks workers word.now)) }
+{
+    if !is_number(word) {
+        return Err(LineFault::Refused(Reason::BadNumber));
+    }
+    match number(word, u64::from(u32::MAX)) {
+        Some(worker) if worker < u64::from(workers) => Ok(worker as u32),
+        _ => Err(LineFault::Refused(Reason::NoSuchWorker)),
+    }
+}
+
+/// The number of a worker that waits to be started, and that no call starts yet.
+pub fn read_start(draft: &Draft, word: &[u8]) -> Result<u32, LineFault>
+    ensures { MatchResult result (λ worker. (decimal worker ≡ word.now) × (worker < MAX_WORKERS) × (may_start draft.now (Operation.Composed (ComposedCall.Go worker)) ≡ true)) (IsFault (start_checks draft.now word.now)) }
+{
+    checks_go_in_order();
+    let worker = read_worker(draft.workers(), word)?;
+    if !draft.is_dormant(worker) {
+        return Err(LineFault::Refused(Reason::NotDormant));
+    }
+    if draft.is_started(worker) {
+        return Err(LineFault::Refused(Reason::NameTaken));
+    }
+    Ok(worker)
 }
 
 /// No operands.

@@ -5,7 +5,7 @@ ghost use Rattle.step_runner.specs.declared.turns.object_state.ObjectState.{Obje
 ghost use Rattle.step_runner.specs.Objects.{IsMachineOf, kind_of};
 ghost use Rattle.step_runner.specs.Ready.{IsReady};
 ghost use Rattle.step_runner.specs.TurnAtObjects.{turn_on, turn_on_both, with_both, turn_at};
-ghost use Rattle.step_runner.specs.TurnWithin.{wait_on};
+ghost use Rattle.step_runner.specs.TurnWithin.{wait_on, on_group};
 
 use crate::turns::answer::Answer;
 use crate::turns::laws::turns_keep_kinds_and_machines;
@@ -21,7 +21,7 @@ use crate::turns::wait_turn::{take_cond_turn, take_wait_group_turn};
 use script_calls::{Call, Operation};
 use std::alloc::{AllocError, Global};
 use std::mem;
-use sync_types::{CondCall, Number};
+use sync_types::{CondCall, Number, WaitGroupCall};
 
 /// Takes a turn of a worker that stands before a call of this operation, at the call's object and by its
 /// kind, where that object refers to no other.
@@ -128,4 +128,17 @@ pub(crate) fn take_wait_turn(objects: &mut [ObjectState], cond: usize, taker: Ta
             take_turn_at_both(objects, cond, mutex, &wait, taker)
         }
     }
+}
+
+/// Takes a turn of a call of the wait group at a place, which refers to no other object and wants no memory.
+pub(crate) fn take_group_turn(
+    objects: &mut [ObjectState],
+    group: usize,
+    call: WaitGroupCall,
+    taker: Taker,
+) -> Answer
+    requires { IsReady taker.workers taker.worker (on_group group call) objects.old }
+    ensures { turn_at (on_group group call) taker.worker taker.moment objects.old ≡ (objects.new, result) }
+{
+    take_wait_group_turn(&mut objects[group], call, taker)
 }

@@ -1,18 +1,19 @@
 //! The turn of a worker that stands before a call or within it, at the objects of a run. A `waitfor` is made of loads of its
-//! atomic and of turns of `wait`s on its cond: how many waits were begun tells whether the worker stands before it.
+//! atomic and of turns of `wait`s on its cond: how many waits were begun tells whether the worker stands before it. A `go` is the
+//! `add` of 1 to its group, in one turn.
 ghost use Rattle.std.specs.Prelude.{◌≡◌, ◌<◌, ◌≤◌, IfOk};
 ghost use Rattle.step_runner.specs.Ready.{IsReady};
 ghost use Rattle.step_runner.specs.StandsWithin.{IsReadyWithin};
 ghost use Rattle.step_runner.specs.TurnAtObjects.{turn_at};
-ghost use Rattle.step_runner.specs.TurnWithin.{wait_on, is_met, tells, begin_wait, look, wait_for_turn, turn_within};
+ghost use Rattle.step_runner.specs.TurnWithin.{wait_on, done_on, is_met, tells, begin_wait, look, wait_for_turn, turn_within};
 
 use crate::turns::answer::Answer;
 use crate::turns::object_state::ObjectState;
 use crate::turns::stages::Taker;
-use crate::turns::turn::{take_turn_at, take_wait_turn};
+use crate::turns::turn::{take_group_turn, take_turn_at, take_wait_turn};
 use script_calls::{Call, ComposedCall, Operation, Reply};
 use std::alloc::{AllocError, Global};
-use sync_types::{AtomicReply, Number};
+use sync_types::{AtomicReply, Number, WaitGroupCall};
 
 /// What a `waitfor` names, and how many waits it may make.
 #[derive(Clone, Copy)]
@@ -119,9 +120,21 @@ pub fn take_turn_within(
             };
             Ok(take_wait_for_turn(objects, awaited, begun, taker))
         }
+        Operation::Composed(ComposedCall::Go { .. }) => {
+            let added = take_group_turn(objects, call.object, WaitGroupCall::Add(1), taker);
+            Ok((begun, added))
+        }
         _ => {
             let answer = take_turn_at(alloc, objects, call, taker)?;
             Ok((begun, answer))
         }
     }
+}
+
+/// Takes the turn of the `done` that a worker makes behind its script, on the group of the `go` by which it was started.
+pub fn take_done_turn(objects: &mut [ObjectState], group: usize, taker: Taker) -> Answer
+    requires ready { IsReady taker.workers taker.worker (done_on group) objects.old }
+    ensures { turn_at (done_on group) taker.worker taker.moment objects.old ≡ (objects.new, result) }
+{
+    take_group_turn(objects, group, WaitGroupCall::Done, taker)
 }

@@ -5,7 +5,7 @@ use Rattle.run_cuts.proofs.OnceCut.{do_cuts, func_cuts, value_cuts}
 use Rattle.run_cuts.proofs.PoolCut.{pool_cuts}
 use Rattle.run_cuts.proofs.RwMutexCut.{rw_mutex_cuts}
 use Rattle.run_cuts.proofs.SharedCut.{adds_cuts, atomic_cuts, if_equal_cuts, map_cuts}
-use Rattle.run_cuts.proofs.StartsCut.{wait_start_cuts, end_cuts}
+use Rattle.run_cuts.proofs.StartsCut.{go_cuts, wait_start_cuts, end_cuts}
 use Rattle.run_cuts.proofs.WaitForCut.{wait_for_cuts}
 use Rattle.run_cuts.proofs.laws.calls_are_cut_as_they_are_spelt.Goals as goal
 
@@ -47,6 +47,9 @@ returns-clause-once_value c object value = value_cuts object value
 
 pub returns-clause-pool : goal.returns-clause-pool
 returns-clause-pool c workers worker first call = pool_cuts workers worker first call
+
+pub returns-clause-go : goal.returns-clause-go
+returns-clause-go c group starts worker = go_cuts group starts worker
 
 pub returns-clause-starts : goal.returns-clause-starts
 returns-clause-starts c object = (wait_start_cuts object, end_cuts object)

@@ -1,7 +1,7 @@
 use Rattle.std.proofs.Common.{refl, sym, ◌∙◌}
 use Rattle.workload.specs.Plan.{Plan}
 use Rattle.step_runner.specs.Computed.{turns}
-use Rattle.step_runner.proofs.EndLemmas.{steps_is, is_steps, done_made, done_replied}
+use Rattle.step_runner.proofs.EndLemmas.{steps_is, is_steps, done_begun, done_made, done_replied}
 use Rattle.step_runner.proofs.RunLemmas.{UsesUp, uses_up}
 use Rattle.step_runner.proofs.laws.each_run_has_one_outcome.Goals as goal
 
@@ -23,6 +23,11 @@ pub returns-clause-complete : goal.returns-clause-complete
 returns-clause-complete c plan report worker valid live comes =
     done_made plan (c.validity.ensures.goes_on plan) (uses c plan) (record { left = c.runs_do_not_hang_on_names.ensures.left; made = c.runs_do_not_hang_on_names.ensures.made })
     (c.validity.ensures.begins plan valid) report comes worker live
+
+pub returns-clause-begun : goal.returns-clause-begun
+returns-clause-begun c plan report worker valid comes =
+    done_begun plan (c.validity.ensures.goes_on plan) (uses c plan) (record { left = c.runs_do_not_hang_on_names.ensures.left; made = c.runs_do_not_hang_on_names.ensures.made })
+    (c.validity.ensures.begins plan valid) report comes worker
 
 pub returns-clause-straight : goal.returns-clause-straight
 returns-clause-straight c plan report valid straight live comes =

@@ -1,5 +1,5 @@
 //! What the items of a turn spell of its call, of whose waits its worker has begun so many: what a turn at its objects spells, also where
-//! a `waitfor` makes several of them, or none, in one.
+//! a `waitfor` makes several of them, or none, in one, and where a `go` starts a worker behind it.
 ghost use Rattle.std.specs.Prelude.{◌≡◌, ◌≢◌, ℕ, ◌+◌, ◌==◌, None, List, [], filter, map, length};
 ghost use Rattle.script_calls.specs.declared.call.Call.{Call};
 ghost use Rattle.script_calls.specs.declared.call.Reply.{Reply};

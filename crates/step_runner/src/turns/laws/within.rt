@@ -1,11 +1,14 @@
 //! What a turn of a worker keeps and uses up that stands before a call or within it: what a turn at its objects does, also where a
-//! `waitfor` makes several of them, or none, in one.
+//! `waitfor` makes several of them, or none, in one, and where a `go` starts a worker behind it.
 ghost use Rattle.std.specs.Prelude.{◌≡◌, ◌≢◌, ℕ, ◌≤◌, true, false, List, Option, Some, map, slice_get, sum_by};
 ghost use Rattle.script_calls.specs.declared.call.Call.{Call};
+ghost use Rattle.script_calls.specs.declared.call.ComposedCall.{ComposedCall};
+ghost use Rattle.script_calls.specs.declared.call.Operation.TheVariants as operations;
 ghost use Rattle.workload.specs.Draft.{keys_of, distinct_count, tries_of};
 ghost use Rattle.step_runner.specs.declared.turns.object_state.ObjectState.{ObjectState};
 ghost use Rattle.step_runner.specs.AtomicRange.{IsInRange};
 ghost use Rattle.step_runner.specs.Completes.{takes_one_turn, IsCompleted};
+ghost use Rattle.step_runner.specs.Goes.{HasGone};
 ghost use Rattle.step_runner.specs.Items.{goes_back, unlocks};
 ghost use Rattle.step_runner.specs.LeadsTo.{on_object, LeadsTo};
 ghost use Rattle.step_runner.specs.MapKeys.{AreAmong, HasObjectKeysIn};
@@ -123,3 +126,10 @@ pub fn items_lead_on()
 {
     turns_keep_kinds_and_machines();
 }
+
+/// A turn before a `go` completes the call, or the call is a misuse. It adds 1 to the group's counter, and then, in the same turn, starts
+/// the worker. Where the sum may be no counter, the `add` is the misuse: nothing changes, and nobody is started.
+pub fn a_go_adds_one_and_then_starts()
+    ensures { (workers worker moment begun started : ℕ) (call : Call) (objects : List ObjectState) → IsReadyWithin workers worker call objects → call.operation ≡ operations.Composed (ComposedCall.Go started)
+        → HasGone call worker started objects (turn_within call worker moment begun objects).0.0 (items_within call worker moment begun objects) (turn_within call worker moment begun objects).1 }
+{}

@@ -3,7 +3,7 @@ use Rattle.workload.specs.declared.object.ObjectKind.{ObjectKind}
 use Rattle.workload.specs.declared.object.ObjectKind.TheVariants as kinds
 use Rattle.thread_objects.specs.Catalog.{IsAt}
 use Rattle.thread_objects.specs.Passes.{owns_of}
-use Rattle.thread_runner.proofs.ByKind.{awaits_at, if_equal_made, tested_at, tested_type, wait_for_made}
+use Rattle.thread_runner.proofs.ByKind.{awaits_at, go_made, group_here, if_equal_made, some_wait, tested_at, tested_type, wait_for_made}
 use Rattle.thread_runner.proofs.Sites.{has_atomics, mutex_of}
 use Rattle.thread_runner.proofs.composed.composed_at.Goals as goal
 
@@ -37,3 +37,21 @@ wait_for_at-requires-clause-atomic g c = (awaits_at c.args.site.now.catalog.work
 pub returns-in-Cond-clause-works : goal.returns-in-Cond-clause-works
 returns-in-Cond-clause-works g c =
     λ before. wait_for_made c.args.site.now.catalog.workload.now c.args.worker.now.number before c.args.place _ _ _ c.args.kind c.args.call c.in-WaitFor.atomic c.in-WaitFor.value c.in-WaitFor.tries c.in-WaitFor.is c.in-Cond.mutex c.in-Cond.is c.wait_for_at.ensures.works
+
+pub go_at-requires-clause-group : goal.go_at-requires-clause-group
+go_at-requires-clause-group g c =
+    let plan = c.args.site.now.catalog.workload.now in
+    let is = group_here plan c.args.kind c.args.call c.requires.call c.in-Go.started c.in-Go.is in
+    c.objects_are_of_their_kinds.ensures.kind c.args.worker.now.at.home.now plan c.args.site.now.objects.now c.args.place (kinds.WaitGroup is.0) c.requires.site.declared (subst (λ (k : ObjectKind). IsAt plan c.args.place k) is.1 c.requires.place)
+
+pub go_at-requires-clause-room : goal.go_at-requires-clause-room
+go_at-requires-clause-room g c = c.objects_are_of_their_kinds.ensures.there c.args.worker.now.at.home.now c.args.site.now.catalog.workload.now c.args.site.now.objects.now c.args.place c.args.kind c.requires.site.declared c.requires.place
+
+pub go_at-requires-clause-dormant : goal.go_at-requires-clause-dormant
+go_at-requires-clause-dormant g c = some_wait c.args.site.now.catalog.workload.now c.args.call c.in-Go.started c.in-Go.is c.requires.dormant
+
+pub returns-in-Go-clause-works : goal.returns-in-Go-clause-works
+returns-in-Go-clause-works g c =
+    let plan = c.args.site.now.catalog.workload.now in
+    let is = group_here plan c.args.kind c.args.call c.requires.call c.in-Go.started c.in-Go.is in
+    λ before. go_made plan c.args.worker.now.number before c.args.place _ _ _ c.args.kind c.args.call c.in-Go.started c.in-Go.is is.0 is.1 c.go_at.ensures.works

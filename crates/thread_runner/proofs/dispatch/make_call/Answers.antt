@@ -3,7 +3,7 @@ use Rattle.std.proofs.lemmas.Option.{slice_get_within}
 use Rattle.workload.specs.declared.object.ObjectKind.{ObjectKind}
 use Rattle.workload.specs.Plan.{refers}
 use Rattle.thread_runner.proofs.ByKind.{kind_has, line_of, spells_if}
-use Rattle.thread_runner.proofs.ScriptCalls.{worker_within, in_range, keys_are_known, on_object, refers_at}
+use Rattle.thread_runner.proofs.ScriptCalls.{worker_within, in_range, keys_are_known, on_object, refers_at, starts_one}
 use Rattle.thread_runner.proofs.dispatch.make_call.Goals as goal
 
 pub kind_at-kind-requires : goal.kind_at-kind-requires
@@ -36,3 +36,6 @@ returns-clause-works g c = spells_if c.args.site.now.catalog.workload.now c.args
 
 pub call_at-requires-clause-own : goal.call_at-requires-clause-own
 call_at-requires-clause-own g c = omega (arith, worker_within c.args.site.now.catalog.workload.now c.args.worker.now.number c.args.call.now c.requires.call c.workers-workers.ensures.valid, c.requires.workers)
+
+pub call_at-requires-clause-dormant : goal.call_at-requires-clause-dormant
+call_at-requires-clause-dormant g c = starts_one c.args.site.now.catalog.workload.now c.args.worker.now.number c.args.call.now c.requires.call c.workers-workers.ensures.valid

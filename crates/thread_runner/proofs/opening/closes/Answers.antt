@@ -1,48 +1,39 @@
-use Rattle.std.proofs.Common.{◌-◌, length, sym, ◌∙◌, subst}
-use Rattle.std.specs.Prelude.{slice_set}
-use Rattle.run_record.specs.StartsKind.{end_part}
-use Rattle.thread_objects.specs.Passes.{owns_of}
-use Rattle.thread_objects.specs.Working.{Works, desk_with}
-use Rattle.thread_runner.proofs.LastObject.{is_starts, number_is, pass_within, seat_here, seats_behind}
-use Rattle.thread_runner.proofs.Slots.{in_slot}
-use Rattle.thread_runner.proofs.WholeLines.{ends_at_once, tells_last}
+use Rattle.std.proofs.Common.{sym, ◌∙◌}
+use Rattle.run_record.specs.Objects.{starts_number}
+use Rattle.run_record.specs.StartsKind.{done_part, end_part}
+use Rattle.thread_runner.proofs.WholeLines.{closes_by, ends_at_once}
+use Rattle.thread_runner.proofs.Working.{erred_first, halted_first, keeps_on, went_first}
 use Rattle.thread_runner.proofs.opening.closes.Goals as goal
 
 pub returns-then-not-has_dormant-clause-works : goal.returns-then-not-has_dormant-clause-works
 returns-then-not-has_dormant-clause-works g c = ends_at_once c.args.site.now.catalog.workload.now c.args.worker.now.number c.moves.ensures.none _ (sym c.has_dormant.ensures ∙ c.if-not-has_dormant.true)
 
-pub tell_end-requires-clause-kind : goal.tell_end-requires-clause-kind
-tell_end-requires-clause-kind g c =
+pub returns-in-Done-Err-clause-works : goal.returns-in-Done-Err-clause-works
+returns-in-Done-Err-clause-works g c =
     let plan = c.args.site.now.catalog.workload.now in
-    let objects = c.args.site.now.objects.now in
-    let last = c.starts_is_the_last_object.ensures c.args.worker.now.at.home.now plan objects c.requires.declared ((sym c.has_dormant.ensures ∙ c.if-not-has_dormant.false)) in
-    is_starts plan objects last c.index-site-number.result
+    let worker = c.args.worker.now.number in
+    closes_by plan worker _ _ _ (sym c.has_dormant.ensures ∙ c.if-not-has_dormant.false)
+    (erred_first c.moves.ensures.none c.moves.ensures.joined (done_part plan worker) (λ done. end_part (starts_number plan)) _ _ c.in-Done-Err.misuse (rw c.in-Done-Err.field-0-is at c.in-Done-Err.ensures.works))
 
-pub tell_end-requires-clause-seat : goal.tell_end-requires-clause-seat
-tell_end-requires-clause-seat g c =
+pub returns-in-Halted-clause-works : goal.returns-in-Halted-clause-works
+returns-in-Halted-clause-works g c =
     let plan = c.args.site.now.catalog.workload.now in
-    let objects = c.args.site.now.objects.now in
-    let worker = c.args.worker.now in
-    let last = c.starts_is_the_last_object.ensures worker.at.home.now plan objects c.requires.declared ((sym c.has_dormant.ensures ∙ c.if-not-has_dormant.false)) in
-    seat_here plan objects last g.S.Mark.Note.at worker.at.home.now worker.workers worker.number c.args.passes.now c.requires.seats c.index-site-number.result c.index-passes-number.result
+    let worker = c.args.worker.now.number in
+    closes_by plan worker _ _ _ (sym c.has_dormant.ensures ∙ c.if-not-has_dormant.false)
+    (halted_first c.moves.ensures.none c.moves.ensures.joined (done_part plan worker) (λ done. end_part (starts_number plan)) _ _ c.in-Halted.misuse c.in-Halted.ensures.works)
 
-pub returns-clause-seats : goal.returns-clause-seats
-returns-clause-seats g c =
-    let plan = c.args.site.now.catalog.workload.now in
-    let objects = c.args.site.now.objects.now in
-    let worker = c.args.worker.now in
-    let last = c.starts_is_the_last_object.ensures worker.at.home.now plan objects c.requires.declared ((sym c.has_dormant.ensures ∙ c.if-not-has_dormant.false)) in
-    seats_behind plan objects last g.S.Mark.Note.at worker.at.home.now worker.workers worker.number c.args.passes.now c.requires.seats c.index-site-number.result c.tell_end.new.pass c.tell_end.ensures.seat
+pub end_at-requires-clause-dormant : goal.end_at-requires-clause-dormant
+end_at-requires-clause-dormant g c = sym c.has_dormant.ensures ∙ c.if-not-has_dormant.false
+
+pub end_at-requires-clause-note : goal.end_at-requires-clause-note
+end_at-requires-clause-note g c = c.leaves_group.ensures.note.home _ c.requires.note
+
+pub returns-clause-note : goal.returns-clause-note
+returns-clause-note g c = keeps_on g.S.Mark.Note.at g.S.Mark.Note.own g.S.Mark.Note.front _ _ _ c.leaves_group.ensures.note c.end_at.ensures.note
 
 pub returns-clause-works : goal.returns-clause-works
 returns-clause-works g c =
-    let mark = g.S.Mark.Note in
     let plan = c.args.site.now.catalog.workload.now in
-    let objects = c.args.site.now.objects.now in
-    let worker = c.args.worker.now in
-    let number = length objects - 1 in
-    let has = (sym c.has_dormant.ensures ∙ c.if-not-has_dormant.false) in
-    let last = c.starts_is_the_last_object.ensures worker.at.home.now plan objects c.requires.declared has in
-    let within = pass_within plan objects last mark.at worker.at.home.now worker.workers worker.number c.args.passes.now c.requires.seats c.index-site-number.result in
-    let works = in_slot c.args.passes.now number c.index-passes-number.result c.tell_end.new.pass within (end_part number) mark.own mark.front c.args.note.now c.tell_end.new.note c.tell_end.result (c.tell_end.ensures.works number) in
-    tells_last plan worker.number _ _ c.tell_end.result has (subst (λ k. Works (end_part k) (desk_with mark.own mark.front (owns_of c.args.passes.now) c.args.note.now) c.tell_end.result (desk_with mark.own mark.front (owns_of (slice_set c.args.passes.now number c.tell_end.new.pass)) c.tell_end.new.note)) (number_is plan objects last) works)
+    let worker = c.args.worker.now.number in
+    closes_by plan worker _ _ _ (sym c.has_dormant.ensures ∙ c.if-not-has_dormant.false)
+    (went_first c.moves.ensures.none c.moves.ensures.joined (done_part plan worker) (λ done. end_part (starts_number plan)) _ _ tt _ _ (rw c.in-Done-Ok.field-0-is at c.in-Done-Ok.ensures.works) c.end_at.ensures.works)

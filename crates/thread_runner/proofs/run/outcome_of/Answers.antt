@@ -13,7 +13,7 @@ use Rattle.sync_model.specs.Journal.{by}
 use Rattle.thread_objects.specs.Desks.{AreSeats}
 use Rattle.thread_objects.specs.Passes.{owns_of}
 use Rattle.thread_runner.specs.Runs.{HasRun, IsExplained}
-use Rattle.thread_runner.proofs.AllReady.{one_script_each}
+use Rattle.thread_runner.proofs.ScriptCalls.{one_script_each}
 use Rattle.thread_runner.proofs.Ended.{seats_of, callers_stay, none_gave_up, all_done}
 use Rattle.thread_runner.proofs.Explaining.{done, stopped}
 use Rattle.thread_runner.proofs.Joining.{Knowing}

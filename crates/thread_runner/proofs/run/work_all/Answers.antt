@@ -13,7 +13,8 @@ use Rattle.workload.specs.Keys.{keys_in}
 use Rattle.thread_runner.specs.Sites.{IsSite}
 use Rattle.thread_runner.specs.AllGone.{HaveGone}
 use Rattle.thread_runner.specs.Jobs.{HasRoom, IsReady, HasGone}
-use Rattle.thread_runner.proofs.AllReady.{ready_at, have_gone, number_at_place, one_script_each, zipped_long}
+use Rattle.thread_runner.proofs.AllReady.{ready_at, have_gone, number_at_place, zipped_long}
+use Rattle.thread_runner.proofs.ScriptCalls.{one_script_each}
 use Rattle.thread_runner.proofs.Dealt.{mapped_found}
 use Rattle.thread_runner.proofs.run.work_all.Goals as goal
 

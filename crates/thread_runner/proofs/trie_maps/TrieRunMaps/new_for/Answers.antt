@@ -3,7 +3,7 @@ use Rattle.std.specs.Prelude.{sum}
 use Rattle.std.proofs.lemmas.Option.{slice_get_within, same_Some}
 use Rattle.sync_model.specs.Note.{Holding}
 use Rattle.sync_model.specs.Shared.{items_of}
-use Rattle.thread_runner.proofs.AllReady.{one_script_each}
+use Rattle.thread_runner.proofs.ScriptCalls.{one_script_each}
 use Rattle.thread_runner.proofs.Costs.{atomics_and_maps, few_units}
 use Rattle.thread_runner.proofs.trie_maps.TrieRunMaps.new_for.Goals as goal
 
