@@ -1,5 +1,5 @@
 //! Tests of what stands below Go's types: plain types, notes, words, the machines event by event, one machine shared by its
-//! callers, the nodes of a trie, and the outside world, faked and real.
+//! callers, the nodes of a trie, the races of a trace, and the outside world, faked and real.
 #![tactic(auto)]
 
 #[cfg(test)]
@@ -20,6 +20,8 @@ mod outside;
 mod plain;
 #[cfg(test)]
 mod pool;
+#[cfg(test)]
+mod races;
 #[cfg(test)]
 mod rows;
 #[cfg(test)]

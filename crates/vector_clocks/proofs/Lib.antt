@@ -1,0 +1,14 @@
+pub mod Advance
+pub mod Channels
+pub mod Fitting
+pub mod HandedLemmas
+pub mod JoinLemmas
+pub mod Listed
+pub mod NextStep
+pub mod Numbers
+pub mod OwnCount
+pub mod RaceLaws
+pub mod Racing
+pub mod Rows
+pub mod Steps
+pub mod Taking
