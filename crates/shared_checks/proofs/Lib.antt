@@ -1,0 +1,15 @@
+pub mod AtomicTypes
+pub mod Begun
+pub mod HistoryLemmas
+pub mod Joins
+pub mod KnownLemmas
+pub mod MapLemmas
+pub mod NotedJournals
+pub mod Orders
+pub mod OwnerLemmas
+pub mod PartLemmas
+pub mod PlacedLemmas
+pub mod PlayLemmas
+pub mod PlayedLemmas
+pub mod RangeLemmas
+pub mod Released

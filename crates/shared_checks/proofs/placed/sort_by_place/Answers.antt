@@ -1,0 +1,7 @@
+use Rattle.std.proofs.Common.{rules}
+use Rattle.std.proofs.lemmas.List.Sorted.{IsNonDecreasingBy-from_sort_by_key}
+use Rattle.shared_checks.specs.declared.placed.Placed.{Placed}
+use Rattle.shared_checks.proofs.placed.sort_by_place.Goals as goal
+
+pub returns-clause-rise : goal.returns-clause-rise
+returns-clause-rise c = IsNonDecreasingBy-from_sort_by_key (λ (p : Placed). p.place) _ c.sort_unstable_by_key.ensures.sorted (λ a r q k. search rules)

@@ -1,0 +1,6 @@
+pub mod Calls
+pub mod Counts
+pub mod Edges
+pub mod Fronts
+pub mod Parts
+pub mod Placing

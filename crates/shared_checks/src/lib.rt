@@ -1,0 +1,25 @@
+//! Whether what a record tells is so: each question is the definition's own, and is decided over plain lists.
+#![tactic(auto)]
+
+pub mod begins;
+pub mod counts;
+pub mod edges;
+pub mod fronts;
+pub mod history;
+pub mod laws;
+pub mod number_map;
+pub mod objects;
+pub mod owners;
+pub mod placed;
+pub mod playing;
+
+pub use begins::steps_follow_begins;
+pub use counts::Counts;
+pub use edges::{Note, keeps_edges};
+pub use fronts::keeps_fronts;
+pub use history::{history_of, lawful_history_of};
+pub use number_map::NumberMap;
+pub use objects::Objects;
+pub use owners::owners_of;
+pub use placed::{Placed, by_place};
+pub use playing::are_placed;
