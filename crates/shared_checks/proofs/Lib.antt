@@ -13,3 +13,4 @@ pub mod PlayLemmas
 pub mod PlayedLemmas
 pub mod RangeLemmas
 pub mod Released
+pub mod StoodLemmas

@@ -89,8 +89,8 @@ fn is_at_least(front: &LinkedList<u64>, other: &LinkedList<u64>) -> bool
     true
 }
 
-// The next count of a front; 0 where it has none left.
-fn next_count(counts: &mut Iter<'_, u64>) -> u64
+/// The next count of a front; 0 where it has none left.
+pub fn next_count(counts: &mut Iter<'_, u64>) -> u64
     ensures count { result ≡ slice_index counts.old 0 }
     ensures rest { (caller : ℕ) → slice_index counts.new caller ≡ slice_index counts.old (caller + 1) }
 {
