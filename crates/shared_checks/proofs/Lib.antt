@@ -13,4 +13,5 @@ pub mod PlayLemmas
 pub mod PlayedLemmas
 pub mod RangeLemmas
 pub mod Released
+pub mod ShowingLemmas
 pub mod StoodLemmas

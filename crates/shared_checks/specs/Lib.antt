@@ -4,3 +4,4 @@ pub mod Edges
 pub mod Fronts
 pub mod Parts
 pub mod Placing
+pub mod Showing

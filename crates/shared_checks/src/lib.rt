@@ -13,6 +13,8 @@ pub mod objects;
 pub mod owners;
 pub mod placed;
 pub mod playing;
+pub mod ranges;
+pub mod shown;
 pub mod stood;
 
 pub use begins::steps_follow_begins;
@@ -26,4 +28,5 @@ pub use objects::Objects;
 pub use owners::owners_of;
 pub use placed::{Placed, by_place};
 pub use playing::are_placed;
+pub use ranges::keeps_ranges;
 pub use stood::stood_between;
