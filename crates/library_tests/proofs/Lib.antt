@@ -1,2 +1,1 @@
 mod FreshPasses
-mod Written

@@ -1,4 +1,4 @@
-//! What a call on a lock came to.
+//! What a call came to, and notes for the tests.
 use sync_model::{Answer, FrontNote};
 use sync_types::Misuse;
 
@@ -6,30 +6,30 @@ use sync_types::Misuse;
 #[derive(Clone, Copy, Debug, PartialEq, Eq)]
 pub(super) enum Made {
     Done,
-    Tried(bool),
+    Answered(bool),
     Misused(Misuse),
     Halted(Misuse),
     NoCallLeft,
 }
 
-/// What a lock came to.
-pub(super) fn locked(answer: Answer<()>) -> Made {
+/// What a call without a misuse came to.
+pub(super) fn done(answer: Answer<()>) -> Made {
     match answer {
         Answer::Done(()) => Made::Done,
         Answer::Halted(misuse) => Made::Halted(misuse),
     }
 }
 
-/// What a try came to.
-pub(super) fn tried(answer: Answer<bool>) -> Made {
+/// What a call came to that answers yes or no.
+pub(super) fn answered(answer: Answer<bool>) -> Made {
     match answer {
-        Answer::Done(acquired) => Made::Tried(acquired),
+        Answer::Done(answer) => Made::Answered(answer),
         Answer::Halted(misuse) => Made::Halted(misuse),
     }
 }
 
-/// What an unlock came to.
-pub(super) fn unlocked(answer: Answer<Result<(), Misuse>>) -> Made {
+/// What a call came to that may be a misuse.
+pub(super) fn returned(answer: Answer<Result<(), Misuse>>) -> Made {
     match answer {
         Answer::Done(Ok(())) => Made::Done,
         Answer::Done(Err(misuse)) => Made::Misused(misuse),

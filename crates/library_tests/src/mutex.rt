@@ -1,8 +1,8 @@
 //! Callers of a mutex for the tests.
-ghost use Rattle.std.specs.Prelude.{◌≡◌, ◌<◌, ◌≤◌, IfOk, All};
-ghost use Rattle.go_locks.specs.Mutexes.{mutex_callers, IsPassOfMutex};
+ghost use Rattle.std.specs.Prelude.{◌<◌, ◌≤◌, IfOk, All};
+ghost use Rattle.go_locks.specs.Mutexes.{IsPassOfMutex};
 
-use crate::made::{Made, knows, locked, tried, unlocked};
+use crate::made::{Made, answered, done, knows, returned};
 use go_locks::{Mutex, MutexPass};
 use ruled_object::MAX_CALLS;
 use std::alloc::{AllocError, Global};
@@ -16,8 +16,7 @@ pub(super) type Passes = Vec<MutexPass<FrontNote>>;
 /// A lock, and the passes of its callers.
 pub(super) fn new(alloc: Global, callers: u32) -> Result<(Mutex<FrontNote>, Passes), AllocError>
     requires { (0 < callers) × (callers ≤ 64) }
-    ensures callers { IfOk result (λ made. mutex_callers made.0 ≡ callers) }
-    ensures passes { IfOk result (λ made. All (IsPassOfMutex made.0) made.1.items) }
+    ensures { IfOk result (λ made. All (IsPassOfMutex made.0) made.1.items) }
 {
     let (lock, passes) = Mutex::new(alloc, callers, MAX_CALLS, knows(0))?;
     Ok((lock, passes))
@@ -29,10 +28,6 @@ pub(super) enum Call {
     Lock,
     TryLock,
     Unlock,
-    /// A part of a longer call.
-    LockWithin,
-    UnlockWithin,
-    SpendWithin,
     Halt(Misuse),
 }
 
@@ -40,32 +35,23 @@ pub(super) enum Call {
 #[derive(Drop)]
 pub(super) struct Member<'a> {
     lock: &'a Mutex<FrontNote>,
-    callers: u32,
     pass: MutexPass<FrontNote>,
     note: FrontNote,
-    ghost sized: { mutex_callers lock.now ≡ callers },
     ghost is: { IsPassOfMutex lock.now pass },
 }
 
 impl<'a> Member<'a> {
-    /// The caller of the last of these passes to a lock of so many callers, with this note.
+    /// The caller of the last of these passes, with this note.
     pub(super) fn last(
         lock: &'a Mutex<FrontNote>,
-        callers: u32,
         passes: &mut Passes,
         note: FrontNote,
     ) -> Option<Self>
-        requires callers { mutex_callers lock.now ≡ callers }
-        requires passes { All (IsPassOfMutex lock.now) passes.old.items }
+        requires { All (IsPassOfMutex lock.now) passes.old.items }
         ensures { All (IsPassOfMutex lock.now) passes.new.items }
     {
         let pass = passes.pop()?;
-        Some(Member {
-            lock,
-            callers,
-            pass,
-            note,
-        })
+        Some(Member { lock, pass, note })
     }
 
     /// Makes a call, where one is left.
@@ -76,15 +62,9 @@ impl<'a> Member<'a> {
         let at: At<FrontNote, C> = At { home: &(), clock };
         let (pass, note) = (&mut self.pass, &mut self.note);
         match call {
-            Call::Lock => locked(self.lock.lock(rt, &at, pass, note)),
-            Call::TryLock => tried(self.lock.try_lock(rt, &at, pass, note)),
-            Call::Unlock => unlocked(self.lock.unlock(rt, &at, pass, note)),
-            Call::LockWithin => locked(self.lock.lock_within(rt, &at, pass, note)),
-            Call::UnlockWithin => unlocked(self.lock.unlock_within(rt, &at, pass, note)),
-            Call::SpendWithin => {
-                self.lock.spend_within(pass);
-                Made::Done
-            }
+            Call::Lock => done(self.lock.lock(rt, &at, pass, note)),
+            Call::TryLock => answered(self.lock.try_lock(rt, &at, pass, note)),
+            Call::Unlock => returned(self.lock.unlock(rt, &at, pass, note)),
             Call::Halt(misuse) => {
                 self.lock.halt(rt, pass, note, misuse);
                 Made::Done
@@ -92,29 +72,9 @@ impl<'a> Member<'a> {
         }
     }
 
-    /// The misuse that halted the lock, where this is its only caller.
-    pub(super) fn first_halt(self, alloc: Global) -> Result<Option<Misuse>, AllocError> {
-        let Member {
-            lock,
-            callers,
-            pass,
-            ..
-        } = self;
-        if callers != 1 {
-            return Ok(None);
-        }
-        let mut passes = vec![in alloc; pass]?;
-        Ok(lock.first_halt(&mut passes))
-    }
-
     /// How many calls of caller 0 are known.
     pub(super) fn known(&self) -> u32 {
         self.note.count(0)
-    }
-
-    /// How many calls are left.
-    pub(super) fn left(&self) -> u64 {
-        self.pass.left()
     }
 
     /// How often the turn was taken for this caller.

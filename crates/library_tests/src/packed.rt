@@ -16,7 +16,7 @@ fn rounds<R: Wait>(rt: &R, clock: &MemClock, caller: &mut Member, times: u64) ->
     let mut right = 0u64;
     for _ in 0..times {
         let locked = caller.make(rt, clock, Call::Lock) == Made::Done;
-        let tried = caller.make(rt, clock, Call::TryLock) == Made::Tried(false);
+        let tried = caller.make(rt, clock, Call::TryLock) == Made::Answered(false);
         let unlocked = caller.make(rt, clock, Call::Unlock) == Made::Done;
         if locked && tried && unlocked {
             right = right.wrapping_add(1);
@@ -28,7 +28,7 @@ fn rounds<R: Wait>(rt: &R, clock: &MemClock, caller: &mut Member, times: u64) ->
 #[test]
 fn uncontended_rounds_take_no_turn(rt: HostRuntime) -> Result<(), Fail> {
     let (lock, mut passes) = new(rt.alloc(), 2)?;
-    let mut caller = Member::last(&lock, 2, &mut passes, knows(0)).expect(&rt, "a pass");
+    let mut caller = Member::last(&lock, &mut passes, knows(0)).expect(&rt, "a pass");
     let clock = MemClock::new(Vec::new(rt.alloc()));
     let before = caller.turns();
     assert!(rt; rounds(&rt, &clock, &mut caller, 1_000) == 1_000);
@@ -122,7 +122,7 @@ fn first_caller<R: Wait>(
     row.opens(3);
     row.expects(comes_to(&mut caller, lost));
     row.expects(caller.make(rt, clock, Call::Unlock) == Made::Done);
-    row.expects(caller.make(rt, clock, Call::TryLock) == Made::Tried(takes));
+    row.expects(caller.make(rt, clock, Call::TryLock) == Made::Answered(takes));
     if takes {
         row.expects(caller.make(rt, clock, Call::Unlock) == Made::Done);
     }
@@ -169,13 +169,13 @@ fn loses_at<R: Threads + Wait + Sync>(
     takes: bool,
 ) -> Result<(u64, usize, usize, usize), Fail> {
     let (lock, mut passes) = new(alloc, 3)?;
-    let Some(two) = Member::last(&lock, 3, &mut passes, knows(0)) else {
+    let Some(two) = Member::last(&lock, &mut passes, knows(0)) else {
         return Ok((1, 0, 0, 0));
     };
-    let Some(one) = Member::last(&lock, 3, &mut passes, knows(0)) else {
+    let Some(one) = Member::last(&lock, &mut passes, knows(0)) else {
         return Ok((1, 0, 0, 0));
     };
-    let Some(zero) = Member::last(&lock, 3, &mut passes, knows(0)) else {
+    let Some(zero) = Member::last(&lock, &mut passes, knows(0)) else {
         return Ok((1, 0, 0, 0));
     };
     let row = Row {

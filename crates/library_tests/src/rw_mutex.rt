@@ -1,8 +1,8 @@
 //! Callers of a reader/writer lock for the tests.
-ghost use Rattle.std.specs.Prelude.{◌≡◌, ◌<◌, ◌≤◌, IfOk, All};
-ghost use Rattle.go_locks.specs.RwMutexes.{rw_callers, IsPassOfRwMutex};
+ghost use Rattle.std.specs.Prelude.{◌<◌, ◌≤◌, IfOk, All};
+ghost use Rattle.go_locks.specs.RwMutexes.{IsPassOfRwMutex};
 
-use crate::made::{Made, knows, locked, tried, unlocked};
+use crate::made::{Made, answered, done, knows, returned};
 use go_locks::{RwMutex, RwPass};
 use ruled_object::MAX_CALLS;
 use std::alloc::{AllocError, Global};
@@ -16,8 +16,7 @@ pub(super) type Passes = Vec<RwPass<FrontNote>>;
 /// A lock, and the passes of its callers.
 pub(super) fn new(alloc: Global, callers: u32) -> Result<(RwMutex<FrontNote>, Passes), AllocError>
     requires { (0 < callers) × (callers ≤ 64) }
-    ensures callers { IfOk result (λ made. rw_callers made.0 ≡ callers) }
-    ensures passes { IfOk result (λ made. All (IsPassOfRwMutex made.0) made.1.items) }
+    ensures { IfOk result (λ made. All (IsPassOfRwMutex made.0) made.1.items) }
 {
     let (lock, passes) = RwMutex::new(alloc, callers, MAX_CALLS, knows(0))?;
     Ok((lock, passes))
@@ -39,32 +38,23 @@ pub(super) enum Call {
 #[derive(Drop)]
 pub(super) struct Member<'a> {
     lock: &'a RwMutex<FrontNote>,
-    callers: u32,
     pass: RwPass<FrontNote>,
     note: FrontNote,
-    ghost sized: { rw_callers lock.now ≡ callers },
     ghost is: { IsPassOfRwMutex lock.now pass },
 }
 
 impl<'a> Member<'a> {
-    /// The caller of the last of these passes to a lock of so many callers, with this note.
+    /// The caller of the last of these passes, with this note.
     pub(super) fn last(
         lock: &'a RwMutex<FrontNote>,
-        callers: u32,
         passes: &mut Passes,
         note: FrontNote,
     ) -> Option<Self>
-        requires callers { rw_callers lock.now ≡ callers }
-        requires passes { All (IsPassOfRwMutex lock.now) passes.old.items }
+        requires { All (IsPassOfRwMutex lock.now) passes.old.items }
         ensures { All (IsPassOfRwMutex lock.now) passes.new.items }
     {
         let pass = passes.pop()?;
-        Some(Member {
-            lock,
-            callers,
-            pass,
-            note,
-        })
+        Some(Member { lock, pass, note })
     }
 
     /// Makes a call, where one is left.
@@ -75,12 +65,12 @@ impl<'a> Member<'a> {
         let at: At<FrontNote, C> = At { home: &(), clock };
         let (pass, note) = (&mut self.pass, &mut self.note);
         match call {
-            Call::Lock => locked(self.lock.lock(rt, &at, pass, note)),
-            Call::TryLock => tried(self.lock.try_lock(rt, &at, pass, note)),
-            Call::Unlock => unlocked(self.lock.unlock(rt, &at, pass, note)),
-            Call::RLock => locked(self.lock.r_lock(rt, &at, pass, note)),
-            Call::TryRLock => tried(self.lock.try_r_lock(rt, &at, pass, note)),
-            Call::RUnlock => unlocked(self.lock.r_unlock(rt, &at, pass, note)),
+            Call::Lock => done(self.lock.lock(rt, &at, pass, note)),
+            Call::TryLock => answered(self.lock.try_lock(rt, &at, pass, note)),
+            Call::Unlock => returned(self.lock.unlock(rt, &at, pass, note)),
+            Call::RLock => done(self.lock.r_lock(rt, &at, pass, note)),
+            Call::TryRLock => answered(self.lock.try_r_lock(rt, &at, pass, note)),
+            Call::RUnlock => returned(self.lock.r_unlock(rt, &at, pass, note)),
             Call::Halt(misuse) => {
                 self.lock.halt(rt, pass, note, misuse);
                 Made::Done
@@ -88,28 +78,8 @@ impl<'a> Member<'a> {
         }
     }
 
-    /// The misuse that halted the lock, where this is its only caller.
-    pub(super) fn first_halt(self, alloc: Global) -> Result<Option<Misuse>, AllocError> {
-        let Member {
-            lock,
-            callers,
-            pass,
-            ..
-        } = self;
-        if callers != 1 {
-            return Ok(None);
-        }
-        let mut passes = vec![in alloc; pass]?;
-        Ok(lock.first_halt(&mut passes))
-    }
-
     /// How many calls of caller 0 are known.
     pub(super) fn known(&self) -> u32 {
         self.note.count(0)
-    }
-
-    /// How many calls are left.
-    pub(super) fn left(&self) -> u64 {
-        self.pass.left()
     }
 }

@@ -1,8 +1,8 @@
-//! Callers in threads of their own.
+//! Callers of a mutex in threads of their own.
 ghost use Rattle.std.specs.Thread.{IsSync};
 
 use crate::made::{Made, knows};
-use crate::{mutex, rw_mutex};
+use crate::mutex;
 use std::sync::Wait;
 use std::sync::atomic::{AtomicU64, Ordering};
 use std::test::Fail;
@@ -55,8 +55,8 @@ fn add_beside<C: Clock + Sync, R: Threads + Wait + Sync>(
 #[test]
 fn each_arrival_reads_the_clock(rt: HostRuntime) -> Result<(), Fail> {
     let (lock, mut passes) = mutex::new(rt.alloc(), 2)?;
-    let one = mutex::Member::last(&lock, 2, &mut passes, knows(0)).expect(&rt, "a pass");
-    let zero = mutex::Member::last(&lock, 2, &mut passes, knows(0)).expect(&rt, "a pass");
+    let one = mutex::Member::last(&lock, &mut passes, knows(0)).expect(&rt, "a pass");
+    let zero = mutex::Member::last(&lock, &mut passes, knows(0)).expect(&rt, "a pass");
     let clock = MemClock::new(Vec::from_slice(rt.alloc(), &[1, 2, 3, 4, 5, 6, 7, 8])?);
     let number = AtomicU64::new(0);
     add_beside(&rt, &clock, zero, one, &number, 2);
@@ -69,10 +69,10 @@ fn each_arrival_reads_the_clock(rt: HostRuntime) -> Result<(), Fail> {
 #[test]
 fn four_threads_lose_no_increment(rt: HostRuntime) -> Result<(), Fail> {
     let (lock, mut passes) = mutex::new(rt.alloc(), 4)?;
-    let three = mutex::Member::last(&lock, 4, &mut passes, knows(0)).expect(&rt, "a pass");
-    let two = mutex::Member::last(&lock, 4, &mut passes, knows(0)).expect(&rt, "a pass");
-    let one = mutex::Member::last(&lock, 4, &mut passes, knows(0)).expect(&rt, "a pass");
-    let zero = mutex::Member::last(&lock, 4, &mut passes, knows(0)).expect(&rt, "a pass");
+    let three = mutex::Member::last(&lock, &mut passes, knows(0)).expect(&rt, "a pass");
+    let two = mutex::Member::last(&lock, &mut passes, knows(0)).expect(&rt, "a pass");
+    let one = mutex::Member::last(&lock, &mut passes, knows(0)).expect(&rt, "a pass");
+    let zero = mutex::Member::last(&lock, &mut passes, knows(0)).expect(&rt, "a pass");
     let clock = SystemClock::new(&rt);
     let number = AtomicU64::new(0);
     join(
@@ -81,90 +81,6 @@ fn four_threads_lose_no_increment(rt: HostRuntime) -> Result<(), Fail> {
         || add_beside(&rt, &clock, two, three, &number, 10_000),
     );
     assert!(rt; number.load(Ordering::SeqCst) == 40_000);
-    Ok(())
-}
-
-// Two numbers that writers keep equal, and how often a reader saw that they weren't.
-#[derive(Drop)]
-struct Numbers {
-    first: AtomicU64,
-    second: AtomicU64,
-    torn: AtomicU64,
-}
-
-// Adds one to both numbers so many times, each time as the lock's writer.
-fn write_both<C: Clock, R: Wait>(
-    rt: &R,
-    clock: &C,
-    mut caller: rw_mutex::Member,
-    numbers: &Numbers,
-    times: u64,
-) {
-    for _ in 0..times {
-        caller.make(rt, clock, rw_mutex::Call::Lock);
-        add_one(&numbers.first);
-        add_one(&numbers.second);
-        caller.make(rt, clock, rw_mutex::Call::Unlock);
-    }
-}
-
-// Compares the numbers so many times, each time as one of the lock's readers.
-fn read_both<C: Clock, R: Wait>(
-    rt: &R,
-    clock: &C,
-    mut caller: rw_mutex::Member,
-    numbers: &Numbers,
-    times: u64,
-) {
-    for _ in 0..times {
-        caller.make(rt, clock, rw_mutex::Call::RLock);
-        if numbers.first.load(Ordering::SeqCst) != numbers.second.load(Ordering::SeqCst) {
-            numbers.torn.fetch_add(1, Ordering::SeqCst);
-        }
-        caller.make(rt, clock, rw_mutex::Call::RUnlock);
-    }
-}
-
-// A writer and a reader in threads of their own.
-fn write_beside<C: Clock + Sync, R: Threads + Wait + Sync>(
-    rt: &R,
-    clock: &C,
-    writer: rw_mutex::Member,
-    reader: rw_mutex::Member,
-    numbers: &Numbers,
-) {
-    join(
-        rt,
-        move || -> ()
-            requires { IsSync R.row × IsSync C.row }
-        { write_both(rt, clock, writer, numbers, 5_000) },
-        move || -> ()
-            requires { IsSync R.row × IsSync C.row }
-        { read_both(rt, clock, reader, numbers, 5_000) },
-    );
-}
-
-#[test]
-fn readers_see_whole_writes(rt: HostRuntime) -> Result<(), Fail> {
-    let (lock, mut passes) = rw_mutex::new(rt.alloc(), 4)?;
-    let three = rw_mutex::Member::last(&lock, 4, &mut passes, knows(0)).expect(&rt, "a pass");
-    let two = rw_mutex::Member::last(&lock, 4, &mut passes, knows(0)).expect(&rt, "a pass");
-    let one = rw_mutex::Member::last(&lock, 4, &mut passes, knows(0)).expect(&rt, "a pass");
-    let zero = rw_mutex::Member::last(&lock, 4, &mut passes, knows(0)).expect(&rt, "a pass");
-    let clock = SystemClock::new(&rt);
-    let numbers = Numbers {
-        first: AtomicU64::new(0),
-        second: AtomicU64::new(0),
-        torn: AtomicU64::new(0),
-    };
-    join(
-        &rt,
-        || write_beside(&rt, &clock, zero, one, &numbers),
-        || write_beside(&rt, &clock, two, three, &numbers),
-    );
-    assert!(rt; numbers.first.load(Ordering::SeqCst) == 10_000);
-    assert!(rt; numbers.second.load(Ordering::SeqCst) == 10_000);
-    assert!(rt; numbers.torn.load(Ordering::SeqCst) == 0);
     Ok(())
 }
 
@@ -194,10 +110,10 @@ const HALT: mutex::Call = mutex::Call::Halt(Misuse::WaitGroupReused);
 #[test]
 fn a_halt_ends_the_wait_of_three(rt: HostRuntime) -> Result<(), Fail> {
     let (lock, mut passes) = mutex::new(rt.alloc(), 4)?;
-    let three = mutex::Member::last(&lock, 4, &mut passes, knows(0)).expect(&rt, "a pass");
-    let two = mutex::Member::last(&lock, 4, &mut passes, knows(0)).expect(&rt, "a pass");
-    let one = mutex::Member::last(&lock, 4, &mut passes, knows(0)).expect(&rt, "a pass");
-    let mut zero = mutex::Member::last(&lock, 4, &mut passes, knows(0)).expect(&rt, "a pass");
+    let three = mutex::Member::last(&lock, &mut passes, knows(0)).expect(&rt, "a pass");
+    let two = mutex::Member::last(&lock, &mut passes, knows(0)).expect(&rt, "a pass");
+    let one = mutex::Member::last(&lock, &mut passes, knows(0)).expect(&rt, "a pass");
+    let mut zero = mutex::Member::last(&lock, &mut passes, knows(0)).expect(&rt, "a pass");
     let clock = MemClock::new(Vec::new(rt.alloc()));
     zero.make(&rt, &clock, mutex::Call::Lock);
     let (both, last) = join(

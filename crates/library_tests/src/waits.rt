@@ -5,11 +5,7 @@ mod cond_alone;
 #[cfg(test)]
 mod cond_setup;
 #[cfg(test)]
-mod cond_threads;
-#[cfg(test)]
 mod group_alone;
-#[cfg(test)]
-mod group_threads;
 #[cfg(test)]
 mod once_alone;
 #[cfg(test)]
@@ -18,8 +14,6 @@ mod once_setup;
 mod once_threads;
 #[cfg(test)]
 pub(crate) mod setup;
-#[cfg(test)]
-mod starts_alone;
 #[cfg(test)]
 mod starts_setup;
 #[cfg(test)]

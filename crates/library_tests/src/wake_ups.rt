@@ -50,9 +50,9 @@ fn give_back<R: Wait>(rt: &R, clock: &MemClock, mut holder: mutex::Member) {
 #[test]
 fn each_unlock_wakes_the_next_caller(rt: HostRuntime) -> Result<(), Fail> {
     let (lock, mut passes) = mutex::new(rt.alloc(), 3)?;
-    let two = mutex::Member::last(&lock, 3, &mut passes, knows(0)).expect(&rt, "a pass");
-    let one = mutex::Member::last(&lock, 3, &mut passes, knows(0)).expect(&rt, "a pass");
-    let mut zero = mutex::Member::last(&lock, 3, &mut passes, knows(0)).expect(&rt, "a pass");
+    let two = mutex::Member::last(&lock, &mut passes, knows(0)).expect(&rt, "a pass");
+    let one = mutex::Member::last(&lock, &mut passes, knows(0)).expect(&rt, "a pass");
+    let mut zero = mutex::Member::last(&lock, &mut passes, knows(0)).expect(&rt, "a pass");
     let clock = MemClock::new(Vec::new(rt.alloc()));
     zero.make(&rt, &clock, mutex::Call::Lock);
     join(
@@ -125,10 +125,10 @@ fn write_after_the_holder<R: Threads + Wait + Sync>(
 #[test]
 fn unlocks_wake_the_readers_and_then_the_writer(rt: HostRuntime) -> Result<(), Fail> {
     let (lock, mut passes) = rw_mutex::new(rt.alloc(), 4)?;
-    let three = rw_mutex::Member::last(&lock, 4, &mut passes, knows(0)).expect(&rt, "a pass");
-    let two = rw_mutex::Member::last(&lock, 4, &mut passes, knows(0)).expect(&rt, "a pass");
-    let one = rw_mutex::Member::last(&lock, 4, &mut passes, knows(0)).expect(&rt, "a pass");
-    let mut zero = rw_mutex::Member::last(&lock, 4, &mut passes, knows(0)).expect(&rt, "a pass");
+    let three = rw_mutex::Member::last(&lock, &mut passes, knows(0)).expect(&rt, "a pass");
+    let two = rw_mutex::Member::last(&lock, &mut passes, knows(0)).expect(&rt, "a pass");
+    let one = rw_mutex::Member::last(&lock, &mut passes, knows(0)).expect(&rt, "a pass");
+    let mut zero = rw_mutex::Member::last(&lock, &mut passes, knows(0)).expect(&rt, "a pass");
     let clock = MemClock::new(Vec::new(rt.alloc()));
     zero.make(&rt, &clock, rw_mutex::Call::Lock);
     join(

@@ -1,6 +1,6 @@
 //! Groups of flights for the tests, and their callers.
-ghost use Rattle.std.specs.Prelude.{◌≡◌, ◌≤◌, IfOk, All};
-ghost use Rattle.single_flight.specs.Flights.{callers_of, IsPassOf};
+ghost use Rattle.std.specs.Prelude.{◌≤◌, IfOk, All};
+ghost use Rattle.single_flight.specs.Flights.{IsPassOf};
 
 use crate::made::knows;
 use crate::waits::setup::HERE;
@@ -9,15 +9,13 @@ use single_flight::{Begun, Group, GroupPass};
 use std::alloc::{AllocError, Global};
 use std::sync::Wait;
 use sync_model::{Answer, FrontNote};
-use sync_types::Misuse;
 
 pub(super) type Passes = Vec<GroupPass<FrontNote>>;
 
 /// A group, and the passes of its callers.
 pub(super) fn new(alloc: Global, callers: u32) -> Result<(Group<FrontNote>, Passes), AllocError>
     requires { (1 ≤ callers) × (callers ≤ 64) }
-    ensures callers { IfOk result (λ made. callers_of made.0 ≡ callers) }
-    ensures passes { IfOk result (λ made. All (IsPassOf made.0) made.1.items) }
+    ensures { IfOk result (λ made. All (IsPassOf made.0) made.1.items) }
 {
     let (group, passes) = Group::new(alloc, callers, MAX_CALLS, knows(0))?;
     Ok((group, passes))
@@ -30,32 +28,23 @@ pub(super) type Flown = Option<Answer<(i64, bool)>>;
 #[derive(Drop)]
 pub(super) struct Flyer<'a> {
     group: &'a Group<FrontNote>,
-    callers: u32,
     pass: GroupPass<FrontNote>,
     note: FrontNote,
-    ghost counted: { callers_of group.now ≡ callers },
     ghost is: { IsPassOf group.now pass },
 }
 
 impl<'a> Flyer<'a> {
-    /// The caller of the last of these passes to a group of so many callers, with this note.
+    /// The caller of the last of these passes, with this note.
     pub(super) fn last(
         group: &'a Group<FrontNote>,
-        callers: u32,
         passes: &mut Passes,
         note: FrontNote,
     ) -> Option<Self>
-        requires callers { callers_of group.now ≡ callers }
-        requires passes { All (IsPassOf group.now) passes.old.items }
+        requires { All (IsPassOf group.now) passes.old.items }
         ensures { All (IsPassOf group.now) passes.new.items }
     {
         let pass = passes.pop()?;
-        Some(Flyer {
-            group,
-            callers,
-            pass,
-            note,
-        })
+        Some(Flyer { group, pass, note })
     }
 
     /// Go's `Do`, where a call is left.
@@ -77,39 +66,5 @@ impl<'a> Flyer<'a> {
             }
             Answer::Halted(misuse) => Some(Answer::Halted(misuse)),
         }
-    }
-
-    /// Makes the pass good for so many calls from now on, 1,000,000 at most.
-    pub(super) fn renew(&mut self, calls: u64) {
-        self.group.renew(&mut self.pass, calls.min(MAX_CALLS));
-    }
-
-    pub(super) fn halt<R: Wait>(&mut self, rt: &R, misuse: Misuse) {
-        self.group.halt(rt, &mut self.pass, &mut self.note, misuse);
-    }
-
-    /// The misuse that halted the group, where this is its only caller.
-    pub(super) fn first_halt(self, alloc: Global) -> Result<Option<Misuse>, AllocError> {
-        let Flyer {
-            group,
-            callers,
-            pass,
-            ..
-        } = self;
-        if callers != 1 {
-            return Ok(None);
-        }
-        let mut passes = vec![in alloc; pass]?;
-        Ok(group.first_halt(&mut passes))
-    }
-
-    /// How many calls of caller 0 are known.
-    pub(super) fn known(&self) -> u32 {
-        self.note.count(0)
-    }
-
-    /// How many calls are left.
-    pub(super) fn left(&self) -> u64 {
-        self.pass.left()
     }
 }

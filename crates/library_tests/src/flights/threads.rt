@@ -9,7 +9,6 @@ use std::sync::atomic::{AtomicU64, Ordering};
 use std::test::Fail;
 use std::thread::{Threads, join};
 use sync_model::Answer;
-use sync_types::Misuse;
 
 // How many are about to come, and how often work was done.
 #[derive(Drop)]
@@ -82,9 +81,9 @@ fn the_work_is_done_once_for_two_joiners(rt: HostRuntime) -> Result<(), Fail> {
     let mut once = false;
     for _ in 0..100 {
         let (group, mut passes) = new(rt.alloc(), 3)?;
-        let third = Flyer::last(&group, 3, &mut passes, knows(0)).expect(&rt, "a pass");
-        let second = Flyer::last(&group, 3, &mut passes, knows(0)).expect(&rt, "a pass");
-        let first = Flyer::last(&group, 3, &mut passes, knows(0)).expect(&rt, "a pass");
+        let third = Flyer::last(&group, &mut passes, knows(0)).expect(&rt, "a pass");
+        let second = Flyer::last(&group, &mut passes, knows(0)).expect(&rt, "a pass");
+        let first = Flyer::last(&group, &mut passes, knows(0)).expect(&rt, "a pass");
         let counts = Counts::new();
         let (both, last) = join(
             &rt,
@@ -99,56 +98,5 @@ fn the_work_is_done_once_for_two_joiners(rt: HostRuntime) -> Result<(), Fail> {
         }
     }
     assert!(rt; once);
-    Ok(())
-}
-
-#[test]
-fn four_threads_get_what_their_own_keys_came_to(rt: HostRuntime) -> Result<(), Fail> {
-    let (group, mut passes) = new(rt.alloc(), 4)?;
-    let fourth = Flyer::last(&group, 4, &mut passes, knows(0)).expect(&rt, "a pass");
-    let third = Flyer::last(&group, 4, &mut passes, knows(0)).expect(&rt, "a pass");
-    let second = Flyer::last(&group, 4, &mut passes, knows(0)).expect(&rt, "a pass");
-    let first = Flyer::last(&group, 4, &mut passes, knows(0)).expect(&rt, "a pass");
-    let counts = Counts::new();
-    let (left, right) = join(
-        &rt,
-        || two_come(&rt, &counts, 4, (first, 7), (second, 8)),
-        || two_come(&rt, &counts, 4, (third, 7), (fourth, 8)),
-    );
-    assert!(rt; fit(&[left.0, left.1, right.0, right.1], &[7, 8, 7, 8]));
-    Ok(())
-}
-
-// One caller waits for a flight, and another halts the group.
-fn halted_beside<R: Threads + Wait + Sync>(rt: &R, mut waits: Flyer, mut halts: Flyer) -> Flown {
-    join(
-        rt,
-        move || -> Flown
-            requires { IsSync R.row }
-        { waits.fly(rt, 7, || -> i64 { 5 }) },
-        move || -> ()
-            requires { IsSync R.row }
-        {
-            pause();
-            halts.halt(rt, Misuse::WaitGroupReused);
-        },
-    )
-    .0
-}
-
-// One caller leads a flight while another waits for it and a third halts the group; then it lands.
-#[test]
-fn callers_that_wait_and_lead_meet_the_halt(rt: HostRuntime) -> Result<(), Fail> {
-    let (group, mut passes) = new(rt.alloc(), 3)?;
-    let halts = Flyer::last(&group, 3, &mut passes, knows(0)).expect(&rt, "a pass");
-    let waits = Flyer::last(&group, 3, &mut passes, knows(0)).expect(&rt, "a pass");
-    let mut leads = Flyer::last(&group, 3, &mut passes, knows(0)).expect(&rt, "a pass");
-    let halted = Some(Answer::Halted(Misuse::WaitGroupReused));
-    let mut met = None;
-    let landed = leads.fly(&rt, 7, || -> i64 {
-        met = halted_beside(&rt, waits, halts);
-        6
-    });
-    assert!(rt; (met, landed) == (halted, halted));
     Ok(())
 }

@@ -11,63 +11,6 @@ use std::thread;
 use std::thread::{Threads, join};
 use sync_types::Misuse;
 
-// Acquires a weight, so often, and gives it back. It answers the most that was found held beside and with its own.
-fn hammer<R: Wait>(rt: &R, held: &AtomicU64, mut member: Member, weight: u64) -> u64 {
-    let mut most = 0;
-    for _ in 0..100 {
-        member.make(rt, Call::Acquire(weight));
-        let found = held
-            .fetch_add(weight, Ordering::SeqCst)
-            .wrapping_add(weight);
-        if found > most {
-            most = found;
-        }
-        thread::yield_now();
-        held.fetch_sub(weight, Ordering::SeqCst);
-        member.make(rt, Call::Release(weight));
-    }
-    most
-}
-
-// Two callers with weights of their own.
-fn two_hammer<R: Threads + Wait + Sync>(
-    rt: &R,
-    held: &AtomicU64,
-    one: (Member, u64),
-    other: (Member, u64),
-) -> (u64, u64) {
-    join(
-        rt,
-        move || -> u64
-            requires { IsSync R.row }
-        { hammer(rt, held, one.0, one.1) },
-        move || -> u64
-            requires { IsSync R.row }
-        { hammer(rt, held, other.0, other.1) },
-    )
-}
-
-// As x/sync's own test of many callers: each of four acquires its weight time and again, and all come to their ends.
-#[test]
-fn four_threads_hold_no_more_than_the_size(rt: HostRuntime) -> Result<(), Fail> {
-    let (sema, mut passes) = new(rt.alloc(), 4, 4)?;
-    let fourth = Member::last(&sema, 4, 4, &mut passes, knows(0)).expect(&rt, "a pass");
-    let third = Member::last(&sema, 4, 4, &mut passes, knows(0)).expect(&rt, "a pass");
-    let second = Member::last(&sema, 4, 4, &mut passes, knows(0)).expect(&rt, "a pass");
-    let first = Member::last(&sema, 4, 4, &mut passes, knows(0)).expect(&rt, "a pass");
-    let held = AtomicU64::new(0);
-    let (left, right) = join(
-        &rt,
-        || two_hammer(&rt, &held, (first, 1), (second, 2)),
-        || two_hammer(&rt, &held, (third, 3), (fourth, 4)),
-    );
-    for most in [left.0, left.1, right.0, right.1] {
-        assert!(rt; most <= 4);
-    }
-    assert!(rt; right.1 == 4);
-    Ok(())
-}
-
 // Has one of the weight, and gives it back and takes it again until it is told to end.
 fn keep_busy<R: Wait>(rt: &R, come: &AtomicU64, ended: &AtomicU64, mut member: Member) {
     member.make(rt, Call::Acquire(1));
@@ -114,9 +57,9 @@ fn two_keep_busy<R: Threads + Wait + Sync>(
 #[test]
 fn a_large_acquire_does_not_starve(rt: HostRuntime) -> Result<(), Fail> {
     let (sema, mut passes) = new(rt.alloc(), 3, 2)?;
-    let third = Member::last(&sema, 3, 2, &mut passes, knows(0)).expect(&rt, "a pass");
-    let second = Member::last(&sema, 3, 2, &mut passes, knows(0)).expect(&rt, "a pass");
-    let first = Member::last(&sema, 3, 2, &mut passes, knows(0)).expect(&rt, "a pass");
+    let third = Member::last(&sema, 2, &mut passes, knows(0)).expect(&rt, "a pass");
+    let second = Member::last(&sema, 2, &mut passes, knows(0)).expect(&rt, "a pass");
+    let first = Member::last(&sema, 2, &mut passes, knows(0)).expect(&rt, "a pass");
     let (come, ended) = (AtomicU64::new(0), AtomicU64::new(0));
     let ((), made) = join(
         &rt,
@@ -164,9 +107,9 @@ fn give_back<R: Wait>(rt: &R, mut member: Member) {
 #[test]
 fn releases_wake_whom_they_grant(rt: HostRuntime) -> Result<(), Fail> {
     let (sema, mut passes) = new(rt.alloc(), 3, 3)?;
-    let third = Member::last(&sema, 3, 3, &mut passes, knows(0)).expect(&rt, "a pass");
-    let second = Member::last(&sema, 3, 3, &mut passes, knows(0)).expect(&rt, "a pass");
-    let mut first = Member::last(&sema, 3, 3, &mut passes, knows(0)).expect(&rt, "a pass");
+    let third = Member::last(&sema, 3, &mut passes, knows(0)).expect(&rt, "a pass");
+    let second = Member::last(&sema, 3, &mut passes, knows(0)).expect(&rt, "a pass");
+    let mut first = Member::last(&sema, 3, &mut passes, knows(0)).expect(&rt, "a pass");
     first.make(&rt, Call::Acquire(3));
     let had = AtomicU64::new(0);
     let (both, ()) = join(
@@ -176,32 +119,5 @@ fn releases_wake_whom_they_grant(rt: HostRuntime) -> Result<(), Fail> {
     );
     assert!(rt; both == (Made::Done, Made::Done));
     assert!(rt; had.load(Ordering::SeqCst) == 2);
-    Ok(())
-}
-
-// One caller sleeps, and another halts the semaphore.
-fn halted_beside<R: Threads + Wait + Sync>(rt: &R, mut waits: Member, mut halts: Member) -> Made {
-    join(
-        rt,
-        move || -> Made
-            requires { IsSync R.row }
-        { waits.make(rt, Call::Acquire(1)) },
-        move || -> ()
-            requires { IsSync R.row }
-        {
-            pause();
-            halts.make(rt, Call::Halt(Misuse::WaitGroupReused));
-        },
-    )
-    .0
-}
-
-#[test]
-fn a_caller_that_waits_meets_the_halt(rt: HostRuntime) -> Result<(), Fail> {
-    let (sema, mut passes) = new(rt.alloc(), 2, 3)?;
-    let second = Member::last(&sema, 2, 3, &mut passes, knows(0)).expect(&rt, "a pass");
-    let mut first = Member::last(&sema, 2, 3, &mut passes, knows(0)).expect(&rt, "a pass");
-    first.make(&rt, Call::Acquire(3));
-    assert!(rt; halted_beside(&rt, second, first) == Made::Halted(Misuse::WaitGroupReused));
     Ok(())
 }

@@ -3,14 +3,14 @@ ghost use Rattle.std.specs.Prelude.{◌≤◌, IfOk, All};
 ghost use Rattle.go_locks.specs.Mutexes.{IsPassOfMutex};
 ghost use Rattle.go_waits.specs.Conds.{IsPassOf};
 
-use super::setup::{HERE, knows};
+use super::setup::HERE;
+use crate::made::{Made, done, knows, returned};
 use go_locks::{Mutex, MutexPass};
 use go_waits::{Cond, CondPass};
 use ruled_object::MAX_CALLS;
 use std::alloc::{AllocError, Global};
 use std::sync::Wait;
-use sync_model::{Answer, FrontNote};
-use sync_types::Misuse;
+use sync_model::FrontNote;
 
 pub(super) type Locked = Mutex<FrontNote>;
 
@@ -46,33 +46,6 @@ pub(super) enum Call {
     Wait,
     Signal,
     Broadcast,
-    HaltCond(Misuse),
-}
-
-/// What a call came to, whichever it was.
-#[derive(Clone, Copy, Debug, PartialEq, Eq)]
-pub(super) enum Made {
-    Done,
-    Misused(Misuse),
-    Halted(Misuse),
-    NoCallLeft,
-}
-
-// What a call without a misuse came to.
-fn done(answer: Answer<()>) -> Made {
-    match answer {
-        Answer::Done(()) => Made::Done,
-        Answer::Halted(misuse) => Made::Halted(misuse),
-    }
-}
-
-// What a call came to that may be a misuse.
-fn returned(answer: Answer<Result<(), Misuse>>) -> Made {
-    match answer {
-        Answer::Done(Ok(())) => Made::Done,
-        Answer::Done(Err(misuse)) => Made::Misused(misuse),
-        Answer::Halted(misuse) => Made::Halted(misuse),
-    }
 }
 
 /// A caller of a cond and its mutex, with its passes and its note.
@@ -131,20 +104,6 @@ impl<'a> Waiter<'a> {
             Call::Wait => returned(cond.wait(rt, &HERE, pass, note, mutex, lock)),
             Call::Signal => done(cond.signal(rt, &HERE, pass, note)),
             Call::Broadcast => done(cond.broadcast(rt, &HERE, pass, note)),
-            Call::HaltCond(misuse) => {
-                cond.halt(rt, pass, note, misuse);
-                Made::Done
-            }
         }
-    }
-
-    /// How many calls of caller 0 are known.
-    pub(super) fn known(&self) -> u32 {
-        self.note.count(0)
-    }
-
-    /// How many calls are left on the cond, and on the mutex.
-    pub(super) fn left(&self) -> (u64, u64) {
-        (self.pass.left(), self.lock.left())
     }
 }

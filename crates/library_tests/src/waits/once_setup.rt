@@ -4,13 +4,13 @@ ghost use Rattle.library_tests.specs.Fresh.{IsFresh, AreFresh};
 ghost use Rattle.go_waits.specs.OnceValues.{once_of, function_of};
 ghost use Rattle.go_waits.specs.Onces.{IsPassOf};
 
-use super::setup::{HERE, knows};
-use go_waits::{Once, OnceBegun, OncePass, OnceRun, OnceValue};
+use super::setup::HERE;
+use crate::made::knows;
+use go_waits::{Once, OncePass, OnceRun, OnceValue};
 use ruled_object::MAX_CALLS;
 use std::alloc::{AllocError, Global};
 use std::sync::Wait;
 use sync_model::{Answer, FrontNote};
-use sync_types::Misuse;
 
 pub(super) type Shared = Once<(), FrontNote>;
 
@@ -63,40 +63,6 @@ impl<'a> Runner<'a> {
             self.once
                 .do_once(rt, &HERE, &mut self.pass, &mut self.note, function),
         )
-    }
-
-    /// Begins to run the function, does what is given in between, and ends it. None where the function isn't this
-    /// caller's to run.
-    pub(super) fn run_around<R: Wait, T, F: FnOnce() -> T>(
-        &mut self,
-        rt: &R,
-        between: F,
-    ) -> Option<(T, Answer<()>)>
-        requires { F.pre between }
-    {
-        if self.pass.left() == 0 {
-            return None;
-        }
-        match self.once.begin(rt, &HERE, &mut self.pass, &mut self.note) {
-            Answer::Done(OnceBegun::Run(running)) => {
-                let found = between();
-                let end = self
-                    .once
-                    .end(running, rt, &HERE, &mut self.pass, &mut self.note, ());
-                Some((found, end))
-            }
-            Answer::Done(OnceBegun::Already(())) => None,
-            Answer::Halted(_) => None,
-        }
-    }
-
-    pub(super) fn halt<R: Wait>(&mut self, rt: &R, misuse: Misuse) {
-        self.once.halt(rt, &mut self.pass, &mut self.note, misuse);
-    }
-
-    /// How many calls of caller 0 are known.
-    pub(super) fn known(&self) -> u32 {
-        self.note.count(0)
     }
 }
 

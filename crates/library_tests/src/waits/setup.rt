@@ -1,7 +1,8 @@
 //! Wait groups for the tests, and their callers.
-ghost use Rattle.std.specs.Prelude.{◌≡◌, ◌≤◌, ◌≤ℤ◌, pos, IfOk};
-ghost use Rattle.go_waits.specs.Groups.{callers_of, AreGroupPasses, IsPassOf};
+ghost use Rattle.std.specs.Prelude.{◌≤◌, ◌≤ℤ◌, pos, IfOk};
+ghost use Rattle.go_waits.specs.Groups.{AreGroupPasses, IsPassOf};
 
+use crate::made::knows;
 use go_waits::{GroupPass, WaitGroup};
 use std::alloc::{AllocError, Global};
 use std::sync::Wait;
@@ -27,13 +28,6 @@ pub(crate) const HERE: At<'static, FrontNote, NoClock> = At {
     home: &(),
     clock: &NoClock,
 };
-
-/// A note that knows this many calls of caller 0.
-pub(super) fn knows(count: u32) -> FrontNote {
-    let mut counts = [0; 64];
-    counts[0] = count;
-    FrontNote::new(counts)
-}
 
 /// Gives the others the time to fall asleep. The tests hold however long that takes.
 pub(crate) fn pause() {
@@ -63,8 +57,7 @@ pub(super) fn group(
     requires callers { (1 ≤ callers) × (callers ≤ 64) }
     requires calls { calls ≤ 1000000 }
     requires start { (pos 0 ≤ℤ start) × (start ≤ℤ pos 10000) }
-    ensures callers { IfOk result (λ made. callers_of made.0 ≡ callers) }
-    ensures passes { IfOk result (λ made. AreGroupPasses made.0 made.1.items) }
+    ensures { IfOk result (λ made. AreGroupPasses made.0 made.1.items) }
 {
     let (group, passes) = WaitGroup::new(alloc, callers, calls, start, knows(0))?;
     Ok((group, passes))
@@ -74,32 +67,23 @@ pub(super) fn group(
 #[derive(Drop)]
 pub(super) struct Member<'a> {
     group: &'a WaitGroup<FrontNote>,
-    callers: u32,
     pass: GroupPass<FrontNote>,
     note: FrontNote,
-    ghost sized: { callers_of group.now ≡ callers },
     ghost is: { IsPassOf group.now pass },
 }
 
 impl<'a> Member<'a> {
-    /// The caller of the last of these passes to a group of so many callers, with this note.
+    /// The caller of the last of these passes, with this note.
     pub(super) fn last(
         group: &'a WaitGroup<FrontNote>,
-        callers: u32,
         passes: &mut Vec<GroupPass<FrontNote>>,
         note: FrontNote,
     ) -> Option<Self>
-        requires callers { callers_of group.now ≡ callers }
-        requires passes { AreGroupPasses group.now passes.old.items }
+        requires { AreGroupPasses group.now passes.old.items }
         ensures { AreGroupPasses group.now passes.new.items }
     {
         let pass = passes.pop()?;
-        Some(Member {
-            group,
-            callers,
-            pass,
-            note,
-        })
+        Some(Member { group, pass, note })
     }
 
     /// An add, where a call is left.
@@ -131,29 +115,5 @@ impl<'a> Member<'a> {
             return None;
         }
         Some(self.group.wait(rt, &HERE, &mut self.pass, &mut self.note))
-    }
-
-    pub(super) fn halt<R: Wait>(&mut self, rt: &R, misuse: Misuse) {
-        self.group.halt(rt, &mut self.pass, &mut self.note, misuse);
-    }
-
-    /// The misuse that halted the group, where this is its only caller.
-    pub(super) fn first_halt(self, alloc: Global) -> Result<Option<Misuse>, AllocError> {
-        let Member {
-            group,
-            callers,
-            pass,
-            ..
-        } = self;
-        if callers != 1 {
-            return Ok(None);
-        }
-        let mut passes = vec![in alloc; pass]?;
-        Ok(group.first_halt(&mut passes))
-    }
-
-    /// How many calls of caller 0 are known.
-    pub(super) fn known(&self) -> u32 {
-        self.note.count(0)
     }
 }

@@ -3,12 +3,13 @@ ghost use Rattle.std.specs.Prelude.{◌≡◌, ◌≤◌, IfOk, All, length};
 ghost use Rattle.go_waits.specs.Groups as groups;
 ghost use Rattle.go_waits.specs.Startings as startings;
 
-use super::setup::{HERE, knows};
+use super::setup::HERE;
+use crate::made::{Made, answered, done, knows, returned};
 use go_waits::{GroupPass, Starts, StartsPass, WaitGroup};
 use ruled_object::MAX_CALLS;
 use std::alloc::{AllocError, Global};
 use std::sync::Wait;
-use sync_model::{Answer, FrontNote};
+use sync_model::FrontNote;
 use sync_types::Misuse;
 
 pub(super) type Group = WaitGroup<FrontNote>;
@@ -45,50 +46,12 @@ pub(super) fn workers(
 /// A call of a worker.
 #[derive(Clone, Copy, Debug)]
 pub(super) enum Call {
-    Start(u32),
     End,
     WaitStart,
     HaltStarts(Misuse),
     Go(u32),
-    Add(i32),
     Done,
     Wait,
-    HaltGroup(Misuse),
-}
-
-/// What a call came to, whichever it was.
-#[derive(Clone, Copy, Debug, PartialEq, Eq)]
-pub(super) enum Made {
-    Done,
-    Started(bool),
-    Misused(Misuse),
-    Halted(Misuse),
-    NoCallLeft,
-}
-
-// What a call without a misuse came to.
-fn done(answer: Answer<()>) -> Made {
-    match answer {
-        Answer::Done(()) => Made::Done,
-        Answer::Halted(misuse) => Made::Halted(misuse),
-    }
-}
-
-// What a wait to be started came to.
-fn started(answer: Answer<bool>) -> Made {
-    match answer {
-        Answer::Done(started) => Made::Started(started),
-        Answer::Halted(misuse) => Made::Halted(misuse),
-    }
-}
-
-// What a call came to that may be a misuse.
-fn returned(answer: Answer<Result<(), Misuse>>) -> Made {
-    match answer {
-        Answer::Done(Ok(())) => Made::Done,
-        Answer::Done(Err(misuse)) => Made::Misused(misuse),
-        Answer::Halted(misuse) => Made::Halted(misuse),
-    }
 }
 
 /// A worker that is a caller of a group, with its passes and its note.
@@ -142,31 +105,15 @@ impl<'a> Worker<'a> {
             ..
         } = self;
         match call {
-            Call::Start(worker) => done(starts.start(rt, &HERE, pass, note, worker)),
             Call::End => done(starts.end(rt, &HERE, pass, note)),
-            Call::WaitStart => started(starts.wait_start(rt, &HERE, pass, note)),
+            Call::WaitStart => answered(starts.wait_start(rt, &HERE, pass, note)),
             Call::HaltStarts(misuse) => {
                 starts.halt(rt, pass, note, misuse);
                 Made::Done
             }
             Call::Go(worker) => returned(group.go(rt, &HERE, member, note, starts, pass, worker)),
-            Call::Add(delta) => returned(group.add(rt, &HERE, member, note, delta)),
             Call::Done => returned(group.done(rt, &HERE, member, note)),
             Call::Wait => returned(group.wait(rt, &HERE, member, note)),
-            Call::HaltGroup(misuse) => {
-                group.halt(rt, member, note, misuse);
-                Made::Done
-            }
         }
-    }
-
-    /// How many calls of caller 0 are known.
-    pub(super) fn known(&self) -> u32 {
-        self.note.count(0)
-    }
-
-    /// How many calls are left on the group, and on the starts.
-    pub(super) fn left(&self) -> (u64, u64) {
-        (self.member.left(), self.pass.left())
     }
 }

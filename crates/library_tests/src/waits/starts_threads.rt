@@ -1,8 +1,9 @@
 //! Workers that wait to be started, in threads of their own.
 ghost use Rattle.std.specs.Thread.{IsSync};
 
-use super::setup::{knows, pause};
-use super::starts_setup::{Call, Made, Worker, group, workers};
+use super::setup::pause;
+use super::starts_setup::{Call, Worker, group, workers};
+use crate::made::{Made, knows};
 use std::sync::Wait;
 use std::sync::atomic::{AtomicU64, Ordering};
 use std::test::Fail;
@@ -14,7 +15,7 @@ const REUSED: Misuse = Misuse::WaitGroupReused;
 // Waits to be started, and then counts itself, is done, and ends.
 fn work<R: Wait>(rt: &R, mut worker: Worker, counted: &AtomicU64) -> Made {
     let started = worker.make(rt, Call::WaitStart);
-    if started == Made::Started(true) {
+    if started == Made::Answered(true) {
         counted.fetch_add(1, Ordering::SeqCst);
         worker.make(rt, Call::Done);
         worker.make(rt, Call::End);
@@ -72,9 +73,9 @@ fn lead_beside<R: Threads + Wait + Sync>(
 // What a leader calls, what comes of its last call with how many are counted then, and what comes of the three workers.
 type Led = (&'static [Call], (Made, u64), [Made; 3]);
 
-const GO: Made = Made::Started(true);
+const GO: Made = Made::Answered(true);
 
-const NEVER: Made = Made::Started(false);
+const NEVER: Made = Made::Answered(false);
 
 const ALL_STARTED: Led = (
     &[Call::Go(1), Call::Go(2), Call::Go(3), Call::Wait],

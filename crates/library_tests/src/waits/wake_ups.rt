@@ -1,8 +1,9 @@
 //! Callers that are asleep, and whom only the one call lets go on that concerns them.
 ghost use Rattle.std.specs.Thread.{IsSync};
 
-use super::cond_setup::{Call, Made, Waiter, cond, mutex};
-use super::setup::{HERE, Member, group, knows, pause, until};
+use super::cond_setup::{Call, Waiter, cond, mutex};
+use super::setup::{Member, group, pause, until};
+use crate::made::{Made, knows};
 use std::sync::Wait;
 use std::sync::atomic::{AtomicU64, Ordering};
 use std::test::Fail;
@@ -38,9 +39,9 @@ fn done_late<R: Wait>(rt: &R, mut member: Member) -> Option<Waited> {
 #[test]
 fn one_done_wakes_all_who_wait(rt: HostRuntime) -> Result<(), Fail> {
     let (group, mut passes) = group(rt.alloc(), 3, 1, 1)?;
-    let third = Member::last(&group, 3, &mut passes, knows(0)).expect(&rt, "a pass");
-    let second = Member::last(&group, 3, &mut passes, knows(0)).expect(&rt, "a pass");
-    let first = Member::last(&group, 3, &mut passes, knows(0)).expect(&rt, "a pass");
+    let third = Member::last(&group, &mut passes, knows(0)).expect(&rt, "a pass");
+    let second = Member::last(&group, &mut passes, knows(0)).expect(&rt, "a pass");
+    let first = Member::last(&group, &mut passes, knows(0)).expect(&rt, "a pass");
     let (both, done) = join(
         &rt,
         || two_wait(&rt, first, second),
