@@ -1,9 +1,7 @@
-//! Tests of what stands below Go's types: plain types, notes, words, the machines event by event, one machine shared by its
-//! callers, the nodes of a trie, the races of a trace, and the outside world, faked and real.
+//! Tests of what stands below Go's types, where no clause says it: words of numbers and paths of keys, whom an event of a machine
+//! lets go on, worked runs of machines, the races of worked traces, and the outside world, faked and real.
 #![tactic(auto)]
 
-#[cfg(test)]
-mod calls;
 #[cfg(test)]
 mod flights;
 #[cfg(test)]
@@ -11,13 +9,7 @@ mod mutex;
 #[cfg(test)]
 mod nodes;
 #[cfg(test)]
-mod notes;
-#[cfg(test)]
-mod objects;
-#[cfg(test)]
 mod outside;
-#[cfg(test)]
-mod plain;
 #[cfg(test)]
 mod pool;
 #[cfg(test)]

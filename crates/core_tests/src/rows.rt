@@ -5,9 +5,6 @@ use sync_model::{Callers, Machine};
 /// An event of a caller, and what it should be answered.
 pub type Row<E, R> = (u32, E, R);
 
-/// An event of a caller, what it should be answered, and whether that releases and whether it acquires.
-pub type EdgeRow<E, R> = (u32, E, R, bool, bool);
-
 /// An event of a caller, and whom it should let go on, from the lowest number up.
 pub type WakeRow<E> = (u32, E, [Option<u32>; 3]);
 
@@ -24,24 +21,6 @@ where
 {
     for (at, &(caller, event, reply)) in rows.iter().enumerate() {
         if M::step(state, caller, event) != reply {
-            return Some(at);
-        }
-    }
-    None
-}
-
-/// The first event that is answered, releases or acquires otherwise than its row says.
-pub fn first_other_edge<M: Machine>(
-    state: &mut M::State,
-    rows: &[EdgeRow<M::Event, M::Reply>],
-) -> Option<usize>
-where
-    M::Reply: PartialEq,
-{
-    for (at, &(caller, event, wanted, releases, acquires)) in rows.iter().enumerate() {
-        let reply = M::step(state, caller, event);
-        let edges = (M::releases(&event, &reply), M::acquires(&event, &reply));
-        if reply != wanted || edges != (releases, acquires) {
             return Some(at);
         }
     }
@@ -70,9 +49,4 @@ pub fn first_other_wake<M: Machine>(
         }
     }
     None
-}
-
-/// Whether a machine may be halted by a misuse.
-pub fn halts<M: Machine>() -> bool {
-    M::HALTS
 }

@@ -1,11 +1,8 @@
-//! Worked runs of the RWMutex machine, event by event.
-use crate::rows::{self, NOBODY, first_other_edge, first_other_wake, halts};
-use rw_core::{Arrival, Place, Resumption, RwCore, RwEvent, RwReply, Unlocking};
+//! A worked run of the RWMutex machine, event by event, and whom each event lets go on.
+use crate::rows::{self, NOBODY, first_other_wake};
+use rw_core::{Arrival, Place, RwCore, RwEvent, RwReply, Unlocking};
 use std::test::Fail;
 use sync_model::Machine;
-use sync_types::Misuse;
-
-type EdgeRow = rows::EdgeRow<RwEvent, RwReply>;
 
 type WakeRow = rows::WakeRow<RwEvent>;
 
@@ -81,140 +78,6 @@ fn a_waiting_writer_holds_back_new_readers(rt: HostRuntime) -> Result<(), Fail> 
     assert!(rt; first_other(&mut lock, &HELD_BACK[5..7]) == None);
     assert!(rt; place(&lock, 2) == Place::Admitted);
     assert!(rt; first_other(&mut lock, &HELD_BACK[7..]) == None);
-    Ok(())
-}
-
-const AT_THE_INNER_MUTEX: [Row; 12] = [
-    (0, RwEvent::ReadTry, RwReply::Tried(true), Place::Out),
-    (1, RwEvent::WriteTry, RwReply::Tried(false), Place::Out),
-    (
-        0,
-        RwEvent::WriteUnlock,
-        RwReply::Unlocked(Unlocking::Misuse(Misuse::UnlockOfUnlockedRwMutex)),
-        Place::Out,
-    ),
-    (
-        2,
-        RwEvent::ReadUnlock,
-        RwReply::Unlocked(Unlocking::Done),
-        Place::Out,
-    ),
-    (1, RwEvent::WriteTry, RwReply::Tried(true), Place::Out),
-    (
-        2,
-        RwEvent::ReadUnlock,
-        RwReply::Unlocked(Unlocking::Misuse(Misuse::RUnlockOfUnlockedRwMutex)),
-        Place::Out,
-    ),
-    (
-        2,
-        RwEvent::WriteArrive { now: 0 },
-        RwReply::Arrived(Arrival::Queued),
-        Place::Queued,
-    ),
-    (2, RwEvent::Leave, RwReply::Still, Place::Queued),
-    (
-        0,
-        RwEvent::WriteUnlock,
-        RwReply::Unlocked(Unlocking::Done),
-        Place::Out,
-    ),
-    (
-        0,
-        RwEvent::ReadArrive,
-        RwReply::Arrived(Arrival::Acquired),
-        Place::Out,
-    ),
-    (
-        2,
-        RwEvent::WriteWoken { now: 0 },
-        RwReply::Resumed(Resumption::Queued),
-        Place::Waiting,
-    ),
-    (
-        0,
-        RwEvent::ReadUnlock,
-        RwReply::Unlocked(Unlocking::Done),
-        Place::Out,
-    ),
-];
-
-#[test]
-fn writers_queue_at_the_inner_mutex(rt: HostRuntime) -> Result<(), Fail> {
-    let mut lock = RwCore::new(rt.alloc(), 3)?;
-    assert!(rt; first_other(&mut lock, &AT_THE_INNER_MUTEX) == None);
-    assert!(rt; place(&lock, 2) == Place::Granted);
-    Ok(())
-}
-
-const EDGES: [EdgeRow; 12] = [
-    (
-        0,
-        RwEvent::ReadArrive,
-        RwReply::Arrived(Arrival::Acquired),
-        false,
-        true,
-    ),
-    (
-        1,
-        RwEvent::WriteArrive { now: 0 },
-        RwReply::Arrived(Arrival::Queued),
-        false,
-        false,
-    ),
-    (2, RwEvent::ReadTry, RwReply::Tried(false), false, false),
-    (
-        0,
-        RwEvent::ReadUnlock,
-        RwReply::Unlocked(Unlocking::Done),
-        true,
-        false,
-    ),
-    (1, RwEvent::Leave, RwReply::Left, false, true),
-    (
-        0,
-        RwEvent::ReadUnlock,
-        RwReply::Unlocked(Unlocking::Misuse(Misuse::RUnlockOfUnlockedRwMutex)),
-        false,
-        false,
-    ),
-    (
-        1,
-        RwEvent::WriteUnlock,
-        RwReply::Unlocked(Unlocking::Done),
-        true,
-        false,
-    ),
-    (2, RwEvent::WriteTry, RwReply::Tried(true), false, true),
-    (
-        0,
-        RwEvent::WriteArrive { now: 0 },
-        RwReply::Arrived(Arrival::Queued),
-        false,
-        false,
-    ),
-    (
-        2,
-        RwEvent::WriteUnlock,
-        RwReply::Unlocked(Unlocking::Done),
-        true,
-        false,
-    ),
-    (
-        0,
-        RwEvent::WriteWoken { now: 0 },
-        RwReply::Resumed(Resumption::Acquired),
-        false,
-        true,
-    ),
-    (0, RwEvent::Leave, RwReply::Still, false, false),
-];
-
-#[test]
-fn unlocks_release_and_what_completes_a_lock_acquires(rt: HostRuntime) -> Result<(), Fail> {
-    let mut lock = RwCore::new(rt.alloc(), 3)?;
-    assert!(rt; first_other_edge::<RwCore>(&mut lock, &EDGES) == None);
-    assert!(rt; halts::<RwCore>());
     Ok(())
 }
 
