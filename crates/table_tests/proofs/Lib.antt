@@ -1,5 +1,3 @@
-mod Beside
-mod FirstCallers
 mod AllCallers
 mod Callers
 mod Pairs

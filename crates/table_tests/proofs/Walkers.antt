@@ -6,13 +6,12 @@ use Rattle.sync_model.specs.declared.item.SharedCall.TheVariants as calls
 use Rattle.sync_model.specs.declared.item.SharedReply.{SharedReply}
 use Rattle.sync_types.specs.declared.map_object.MapCall.{MapCall}
 use Rattle.sync_types.specs.declared.map_object.MapReply.{MapReply}
-use Rattle.sync_model.specs.Note.{Holding, SameHome}
-use Rattle.sync_model.specs.Shared.{Called, IsCallerAt, state_of}
-use Rattle.sync_model.specs.SharedHistory.{Contents}
+use Rattle.sync_model.specs.Note.{Holding}
+use Rattle.sync_model.specs.Shared.{IsCallerAt}
 use Rattle.shared_table.specs.declared.note.SharedNote.{SharedNote}
 use Rattle.shared_table.specs.declared.table.SharedTable.{SharedTable}
 use Rattle.shared_table.specs.CursorStays as still
-use Rattle.shared_table.specs.Notes.{front_by, own_by, seen_by, IsNoteOf}
+use Rattle.shared_table.specs.Notes.{own_by, IsNoteOf}
 use Rattle.shared_table.specs.Ranging.{IsCursor}
 use Rattle.go_map.specs.declared.cursor.Cursor.{Cursor}
 use Rattle.go_map.specs.Maps.{MakesCall}
@@ -44,8 +43,3 @@ walks_on table other cursor m call reply old new same walking makes =
   where
     differ : (b : ℕ) → calls.Map m call ≡ calls.Next b → ⊥
     differ b e = absurd (cc)
-
--- a shared call leaves a caller a caller
-pub still_caller : (table : SharedTable) (start : Contents) (call : SharedCall) (reply : SharedReply) (cost : ℕ) (old new : SharedNote) → IsNoteOf table old → SameHome IsNoteOf old new
-    → Called start call reply cost (state_of own_by front_by seen_by old) (state_of own_by front_by seen_by new) → IsCallerAt IsNoteOf own_by table (record { note = new })
-still_caller table start call reply cost old new is home called = (home table is, subst (λ (o : Option Holding). IsSome o) (sym called.own_new) refl)

@@ -1,6 +1,4 @@
-//! Tests of Go's types that share a table, by public calls: Map and the typed atomics in `maps`, and maps and atomics whose callers
-//! take turns in `plain`.
+//! Tests of Go's types that share a table, by public calls, where no clause says it: Map and the typed atomics.
 #![tactic(auto)]
 
 mod maps;
-mod plain;

@@ -1,4 +1,3 @@
 //! The typed atomics by two callers, in one thread and in two.
-mod answers;
 mod pair;
 mod threads;

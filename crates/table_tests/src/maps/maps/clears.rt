@@ -1,4 +1,4 @@
-//! A map is cleared: what was stored is gone, for every caller, and what is stored afterwards is there.
+//! A map is cleared: what was stored is gone, and what is stored afterwards is there.
 ghost use Rattle.std.specs.Prelude.{◌≡◌, ◌<◌};
 ghost use Rattle.sync_model.specs.Shared.{IsCallerAt};
 ghost use Rattle.shared_table.specs.Notes.{own_by, IsNoteOf};
@@ -10,7 +10,7 @@ use std::marker::Brand;
 use std::sync::Wait;
 use std::sync::ledger::{Blank, Ledger};
 use std::test::Fail;
-use sync_model::{Caller, Note};
+use sync_model::Caller;
 
 const NEAR: u32 = 0;
 
@@ -73,37 +73,5 @@ fn a_clear_of_an_empty_map_takes_a_spare_unit(rt: HostRuntime) -> Result<(), Fai
     let mut caller = take(&table, &mut callers).expect(&rt, "a caller");
     assert!(&rt; cleared(&rt, &table, &mut caller));
     assert!(&rt; caller.spare() == 0);
-    Ok(())
-}
-
-// One caller stores a key and clears the map. Another, which has merged its note, loads the key.
-fn clear_then_load<R: Wait, L: Ledger>(
-    rt: &R,
-    table: &SharedTable,
-    first: &mut Caller<SharedNote>,
-    second: &mut Caller<SharedNote>,
-    blank: Blank,
-) -> Option<u64>
-    requires map { 0 < maps_of table.now }
-    requires first { IsCallerAt IsNoteOf own_by table.now first.old }
-    requires second { IsCallerAt IsNoteOf own_by table.now second.old }
-    requires ledger { (blank.name ≡ L.name) × (blank.parts ≡ L.parts) × (0 < L.parts) }
-{
-    let mut steps = Steps::<L>::new(rt, blank);
-    if !stored(rt, table, first, 5, 6) || !cleared(rt, table, first) {
-        return Some(0);
-    }
-    let copy = first.note.copy(table);
-    second.note.merge(table, copy);
-    loaded(table, second, 5, &mut steps)
-}
-
-#[test]
-fn a_caller_that_merged_a_note_finds_the_map_cleared(rt: HostRuntime) -> Result<(), Fail> {
-    let (table, mut callers) = SharedTable::new(rt.alloc(), &[], 1, 7, &[2, 0])?;
-    let mut second = take(&table, &mut callers).expect(&rt, "caller 1");
-    let mut first = take(&table, &mut callers).expect(&rt, "caller 0");
-    let found = clear_then_load::<_, Brand>(&rt, &table, &mut first, &mut second, Blank::new(1));
-    assert!(&rt; found.is_none());
     Ok(())
 }

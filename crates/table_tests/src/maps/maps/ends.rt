@@ -9,7 +9,6 @@ use shared_table::{SharedNote, SharedTable};
 use std::sync::Wait;
 use std::test::Fail;
 use sync_model::Caller;
-use sync_types::{AtomicKind, End, Number};
 
 // The path of key 268435456 goes with that of key 0 down to the last nibble, and that of key 16 to the first. A walk by slots
 // finds keys 0, 268435456, 16 and 1 in this order.
@@ -68,56 +67,6 @@ fn stored_keys_are_there_at_the_end(rt: HostRuntime) -> Result<(), Fail> {
         .zip([(0, 1), (1, 3), (16, 4), (268_435_456, 2)])
     {
         assert!(&rt; pair.0 == wanted.0 && pair.1 == wanted.1);
-    }
-    Ok(())
-}
-
-#[test]
-fn new_maps_and_atomics_end_empty(rt: HostRuntime) -> Result<(), Fail> {
-    let kinds = [AtomicKind::Bool, AtomicKind::Uint64];
-    let (table, mut callers) = SharedTable::new(rt.alloc(), &kinds, 2, 7, &[1, 1])?;
-    table.settle(&mut callers);
-    let ends = table.ends(callers);
-    assert!(rt; ends.number(0) == Some(Number::Bool(false)));
-    assert!(rt; ends.number(1) == Some(Number::Uint64(0)));
-    assert!(rt; ends.number(2) == None);
-    assert!(rt; ends.value(1, 268_435_456) == None);
-    assert!(rt; ends.count(0) == 0);
-    Ok(())
-}
-
-#[test]
-fn ends_stand_in_the_order_of_their_objects_and_keys(rt: HostRuntime) -> Result<(), Fail> {
-    let kinds = [AtomicKind::Int32, AtomicKind::Bool];
-    let (table, mut callers) = SharedTable::new(rt.alloc(), &kinds, 2, 0, &[4])?;
-    assert!(&rt; store_all(&rt, &table, &mut callers, &KEYS));
-    let ends = table.ends(callers);
-    let wanted = [
-        End::Number {
-            object: 4,
-            number: Number::Int32(0),
-        },
-        End::Number {
-            object: 1,
-            number: Number::Bool(false),
-        },
-        End::Pair {
-            object: 3,
-            key: 16,
-            value: 4,
-        },
-        End::Pair {
-            object: 3,
-            key: 0,
-            value: 1,
-        },
-    ];
-    let mut list = Vec::with_capacity(rt.alloc(), 8)?;
-    ends.push_ends(&[4, 1], &[0, 3], &[16, 2, 0], &mut list);
-    assert!(rt; list.len() == 4);
-    for (end, wanted) in list.iter().zip(wanted) {
-        let wanted = format!(in rt.alloc(); "{:?}", wanted)?;
-        assert!(rt; format!(in rt.alloc(); "{:?}", end)? == wanted);
     }
     Ok(())
 }

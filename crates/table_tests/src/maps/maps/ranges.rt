@@ -7,7 +7,7 @@ ghost use Rattle.table_tests.specs.Walking.{IsWalking};
 
 use super::crew::{cleared, deleted, loaded, stored, take};
 use go_map::{Cursor, Map};
-use shared_table::{SharedNote, SharedTable, Steps};
+use shared_table::{SharedNote, SharedTable, Steps, TableCursor};
 use std::marker::Brand;
 use std::sync::Wait;
 use std::sync::ledger::{Blank, Ledger};
@@ -150,5 +150,14 @@ fn a_walk_goes_on_in_what_was_cut_off(rt: HostRuntime) -> Result<(), Fail> {
         assert!(&rt; shown == [Some((NEAR, 1)), second, None]);
         assert!(&rt; found == Some(9));
     }
+    Ok(())
+}
+
+// A cursor may be sent to another thread.
+fn is_sent<T: Send>() {}
+
+#[test]
+fn a_cursor_may_be_sent(_rt: HostRuntime) -> Result<(), Fail> {
+    is_sent::<TableCursor>();
     Ok(())
 }
