@@ -3,7 +3,7 @@ use sync_model::{Answer, FrontNote};
 use sync_types::Misuse;
 
 /// What a call came to, whichever it was.
-#[derive(Clone, Copy, Debug, PartialEq, Eq)]
+#[derive(Clone, Copy, PartialEq, Eq)]
 pub(super) enum Made {
     Done,
     Answered(bool),

@@ -23,7 +23,7 @@ pub(super) fn new(alloc: Global, callers: u32) -> Result<(Mutex<FrontNote>, Pass
 }
 
 /// A call of a caller.
-#[derive(Clone, Copy, Debug)]
+#[derive(Clone, Copy)]
 pub(super) enum Call {
     Lock,
     TryLock,

@@ -28,13 +28,13 @@ fn two_callers_by_turns_and_a_halt(rt: HostRuntime) -> Result<(), Fail> {
     let mut one = mutex::Member::last(&lock, &mut passes, knows(0)).expect(&rt, "a pass");
     let mut zero = mutex::Member::last(&lock, &mut passes, knows(7)).expect(&rt, "a pass");
     let clock = MemClock::new(Vec::new(rt.alloc()));
-    for &(by_zero, call, made, known) in &BY_TURNS {
+    for (number, (by_zero, call, made, known)) in BY_TURNS.into_iter().enumerate() {
         let came_to = if by_zero {
             zero.make(&rt, &clock, call)
         } else {
             one.make(&rt, &clock, call)
         };
-        assert!(rt; (came_to, one.known()) == (made, known), "{call:?}");
+        assert!(rt; (came_to, one.known()) == (made, known), "call {number}");
     }
     Ok(())
 }
@@ -76,13 +76,13 @@ fn readers_share_and_keep_a_writer_out(rt: HostRuntime) -> Result<(), Fail> {
     let mut one = rw_mutex::Member::last(&lock, &mut passes, knows(0)).expect(&rt, "a pass");
     let mut zero = rw_mutex::Member::last(&lock, &mut passes, knows(3)).expect(&rt, "a pass");
     let clock = MemClock::new(Vec::new(rt.alloc()));
-    for &(by_zero, call, made, known) in &READERS {
+    for (number, (by_zero, call, made, known)) in READERS.into_iter().enumerate() {
         let came_to = if by_zero {
             zero.make(&rt, &clock, call)
         } else {
             one.make(&rt, &clock, call)
         };
-        assert!(rt; (came_to, one.known()) == (made, known), "{call:?}");
+        assert!(rt; (came_to, one.known()) == (made, known), "call {number}");
     }
     Ok(())
 }

@@ -3,13 +3,13 @@ ghost use Rattle.std.specs.Thread.{IsSync};
 
 use crate::made::{Made, knows};
 use crate::mutex;
+use crate::waits::setup::pause;
 use std::sync::Wait;
 use std::sync::atomic::{AtomicU64, Ordering};
 use std::test::Fail;
 use std::thread::{Threads, join};
 use sync_outside::{Clock, MemClock};
 use sync_types::Misuse;
-use system_io::SystemClock;
 
 // Reads the number and stores one more. Two callers that do this at once lose one of the two.
 fn add_one(number: &AtomicU64) {
@@ -53,75 +53,58 @@ fn add_beside<C: Clock + Sync, R: Threads + Wait + Sync>(
 }
 
 #[test]
-fn each_arrival_reads_the_clock(rt: HostRuntime) -> Result<(), Fail> {
+fn two_threads_lose_no_increment(rt: HostRuntime) -> Result<(), Fail> {
     let (lock, mut passes) = mutex::new(rt.alloc(), 2)?;
     let one = mutex::Member::last(&lock, &mut passes, knows(0)).expect(&rt, "a pass");
     let zero = mutex::Member::last(&lock, &mut passes, knows(0)).expect(&rt, "a pass");
     let clock = MemClock::new(Vec::from_slice(rt.alloc(), &[1, 2, 3, 4, 5, 6, 7, 8])?);
     let number = AtomicU64::new(0);
-    add_beside(&rt, &clock, zero, one, &number, 2);
-    assert!(rt; number.load(Ordering::SeqCst) == 4);
-    // Four arrivals took four moments, and each going on took one more.
-    assert!(rt; clock.now() > 4);
+    add_beside(&rt, &clock, zero, one, &number, 10_000);
+    assert!(rt; number.load(Ordering::SeqCst) == 20_000);
+    // Arrivals took the clock's moments.
+    assert!(rt; clock.now() == 8);
     Ok(())
 }
 
-#[test]
-fn four_threads_lose_no_increment(rt: HostRuntime) -> Result<(), Fail> {
-    let (lock, mut passes) = mutex::new(rt.alloc(), 4)?;
-    let three = mutex::Member::last(&lock, &mut passes, knows(0)).expect(&rt, "a pass");
-    let two = mutex::Member::last(&lock, &mut passes, knows(0)).expect(&rt, "a pass");
-    let one = mutex::Member::last(&lock, &mut passes, knows(0)).expect(&rt, "a pass");
-    let zero = mutex::Member::last(&lock, &mut passes, knows(0)).expect(&rt, "a pass");
-    let clock = SystemClock::new(&rt);
-    let number = AtomicU64::new(0);
-    join(
-        &rt,
-        || add_beside(&rt, &clock, zero, one, &number, 10_000),
-        || add_beside(&rt, &clock, two, three, &number, 10_000),
-    );
-    assert!(rt; number.load(Ordering::SeqCst) == 40_000);
-    Ok(())
-}
-
-// Two callers make a call each, in threads of their own.
-fn make_beside<R: Threads + Wait + Sync>(
+// Two callers lock, in threads of their own.
+fn lock_beside<R: Threads + Wait + Sync>(
     rt: &R,
     clock: &MemClock,
     mut first: mutex::Member,
     mut second: mutex::Member,
-    call: mutex::Call,
-    other: mutex::Call,
 ) -> (Made, Made) {
     join(
         rt,
         move || -> Made
             requires { IsSync R.row }
-        { first.make(rt, clock, call) },
+        { first.make(rt, clock, mutex::Call::Lock) },
         move || -> Made
             requires { IsSync R.row }
-        { second.make(rt, clock, other) },
+        { second.make(rt, clock, mutex::Call::Lock) },
     )
 }
 
-const HALT: mutex::Call = mutex::Call::Halt(Misuse::WaitGroupReused);
+// Halts the mutex while the others sleep.
+fn halt_late<R: Wait>(rt: &R, clock: &MemClock, mut holder: mutex::Member) {
+    pause();
+    holder.make(rt, clock, mutex::Call::Halt(Misuse::WaitGroupReused));
+}
 
-// Three callers wait, and the holder halts the mutex.
+// Two callers wait, and the holder halts the mutex.
 #[test]
-fn a_halt_ends_the_wait_of_three(rt: HostRuntime) -> Result<(), Fail> {
-    let (lock, mut passes) = mutex::new(rt.alloc(), 4)?;
-    let three = mutex::Member::last(&lock, &mut passes, knows(0)).expect(&rt, "a pass");
+fn a_halt_ends_the_wait_of_two(rt: HostRuntime) -> Result<(), Fail> {
+    let (lock, mut passes) = mutex::new(rt.alloc(), 3)?;
     let two = mutex::Member::last(&lock, &mut passes, knows(0)).expect(&rt, "a pass");
     let one = mutex::Member::last(&lock, &mut passes, knows(0)).expect(&rt, "a pass");
     let mut zero = mutex::Member::last(&lock, &mut passes, knows(0)).expect(&rt, "a pass");
     let clock = MemClock::new(Vec::new(rt.alloc()));
     zero.make(&rt, &clock, mutex::Call::Lock);
-    let (both, last) = join(
+    let (both, ()) = join(
         &rt,
-        || make_beside(&rt, &clock, one, two, mutex::Call::Lock, mutex::Call::Lock),
-        || make_beside(&rt, &clock, zero, three, HALT, mutex::Call::Lock),
+        || lock_beside(&rt, &clock, one, two),
+        || halt_late(&rt, &clock, zero),
     );
     let halted = Made::Halted(Misuse::WaitGroupReused);
-    assert!(rt; (both.0, both.1, last.1) == (halted, halted, halted));
+    assert!(rt; both == (halted, halted));
     Ok(())
 }

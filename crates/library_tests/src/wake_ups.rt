@@ -2,19 +2,12 @@
 ghost use Rattle.std.specs.Thread.{IsSync};
 
 use crate::made::knows;
+use crate::waits::setup::pause;
 use crate::{mutex, rw_mutex};
 use std::sync::Wait;
 use std::test::Fail;
-use std::thread;
 use std::thread::{Threads, join};
 use sync_outside::MemClock;
-
-// Gives the others the time to queue and to fall asleep. The tests hold however long that takes.
-fn pause() {
-    for _ in 0..5_000 {
-        thread::yield_now();
-    }
-}
 
 // Locks and unlocks.
 fn go_through<R: Wait>(rt: &R, clock: &MemClock, mut caller: mutex::Member) {

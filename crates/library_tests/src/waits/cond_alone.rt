@@ -24,13 +24,13 @@ fn a_wait_without_its_mutex_is_a_misuse(rt: HostRuntime) -> Result<(), Fail> {
     let mut first = Waiter::last(&mutex, &cond, &mut locks, &mut passes, knows(0)).expect(
         &rt, "passes",
     );
-    for &(is_first, call, made) in &WITHOUT_THE_MUTEX {
+    for (number, (is_first, call, made)) in WITHOUT_THE_MUTEX.into_iter().enumerate() {
         let came_to = if is_first {
             first.make(&rt, call)
         } else {
             second.make(&rt, call)
         };
-        assert!(rt; came_to == made, "{call:?}");
+        assert!(rt; came_to == made, "call {number}");
     }
     Ok(())
 }

@@ -39,7 +39,7 @@ pub(super) fn cond(alloc: Global, callers: u32) -> Result<(Notified, Vec<Notifie
 }
 
 /// A call of a caller on its cond or its mutex.
-#[derive(Clone, Copy, Debug)]
+#[derive(Clone, Copy)]
 pub(super) enum Call {
     Lock,
     Unlock,

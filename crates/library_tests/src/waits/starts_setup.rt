@@ -44,7 +44,7 @@ pub(super) fn workers(
 }
 
 /// A call of a worker.
-#[derive(Clone, Copy, Debug)]
+#[derive(Clone, Copy)]
 pub(super) enum Call {
     End,
     WaitStart,
