@@ -156,7 +156,7 @@ fn a_gate_that_nobody_opens_gives_up(rt: HostRuntime) -> Result<(), Fail> {
 }
 
 // So many jobs, each of which adds 1 to the shared number.
-fn adding<'a>(
+fn jobs_that_add<'a>(
     alloc: Global,
     jobs: u32,
     shared: &'a AtomicU64,
@@ -172,7 +172,7 @@ fn adding<'a>(
 fn any_number_of_jobs_is_done(rt: HostRuntime) -> Result<(), Fail> {
     for count in [0, 1, 2, 32] {
         let shared = AtomicU64::new(0);
-        let jobs = adding(rt.alloc(), count, &shared)?;
+        let jobs = jobs_that_add(rt.alloc(), count, &shared)?;
         let done = match ThreadSpawner::new().start_all(&rt, rt.alloc(), jobs) {
             Started::Done(results) => results.len(),
             Started::Refused(_) | Started::Memory(_) => usize::MAX
@@ -186,7 +186,7 @@ fn any_number_of_jobs_is_done(rt: HostRuntime) -> Result<(), Fail> {
 #[test]
 fn no_job_works_where_the_last_start_is_refused(rt: HostRuntime) -> Result<(), Fail> {
     let shared = AtomicU64::new(0);
-    let jobs = adding(rt.alloc(), 32, &shared)?;
+    let jobs = jobs_that_add(rt.alloc(), 32, &shared)?;
     let back = match RefuseStart::new(32).start_all(&rt, rt.alloc(), jobs) {
         Started::Refused(back) => back.len(),
         Started::Done(_) | Started::Memory(_) => 0
