@@ -5,8 +5,7 @@ use Rattle.record_clauses.specs.declared.clause.Clause.{Clause}
 use Rattle.record_clauses.specs.declared.clause.Clause.TheVariants.{Spell, Legal, Front, Range, Machine, Edge, End, Stop, Report}
 use Rattle.record_clauses.specs.declared.clause.Verdict.{Verdict}
 use Rattle.record_clauses.specs.declared.clause.Verdict.TheVariants.{Yes, No}
-use Rattle.record_clauses.specs.Account.{Claim, Account}
-use Rattle.record_clauses.specs.Clauses.{Holds}
+use Rattle.record_clauses.specs.Account.{Claim}
 use Rattle.record_clauses.specs.Verdicts.{place_of, Before, UpTo, ComesTo}
 
 abbrev clause_at : ℕ → Clause

@@ -5,7 +5,7 @@ use Rattle.sync_model.specs.SharedHistory.{contents_after}
 use Rattle.sync_types.specs.declared.misuse.Misuse.{Misuse}
 use Rattle.workload.specs.declared.object.ObjectKind.TheVariants.{Pool}
 use Rattle.workload.specs.declared.object.ObjectLine.{ObjectLine}
-use Rattle.workload.specs.Plan.{Plan, has_dormant}
+use Rattle.workload.specs.Plan.{has_dormant}
 use Rattle.workload.specs.Puts.{puts_at}
 use Rattle.run_record.specs.Calls.{IsJournalOf}
 use Rattle.run_record.specs.Edges.{frees, takes}
@@ -30,11 +30,19 @@ abbrev pub halts_aside : Record → Record
 halts_aside r = record r { lists = map without_halts r.lists }
 
 module _ (claim : Claim) (account : Account) where
-  -- `spell`: Each list, its halts set aside, is a line of its worker, and the replies are those of the completed calls. Each item is told to be of the call that it is of; a halt is of none
-  pub record IsSpelt : Type 0 where
-    pub lines : AreLines claim.plan (halts_aside (record_of claim account)) (outcome_of claim account) (map before_halts account.lines)
+  -- each item is told to be of the call that it is of; a halt is of none
+  pub record TellsCalls : Type 0 where
     pub calls : (worker : ℕ) (list : List ToldItem) (line : Line) → slice_get claim.lists worker ≡ Some list → slice_get account.lines worker ≡ Some line → calls_told list ≡ calls_along (get_or claim.plan.scripts worker []) line
     pub halts : (worker i : ℕ) (list : List ToldItem) (x : ToldItem) → slice_get claim.lists worker ≡ Some list → slice_get list i ≡ Some x → is_halt x.made ≡ true → x.call ≡ None
+
+  -- the entries in a worker's list are its own in the journals, in their order, and each is told its number there
+  abbrev pub TellsNumbers : Type 0
+  TellsNumbers = (worker object : ℕ) → numbered_in object (get_or claim.lists worker []) ≡ numbered_by worker (journal_of (record_of claim account) object)
+
+  -- `spell`: Each list, its halts set aside, is a line of its worker, and the replies are those of the completed calls
+  pub record IsSpelt : Type 0 where
+    pub lines : AreLines claim.plan (halts_aside (record_of claim account)) (outcome_of claim account) (map before_halts account.lines)
+    pub told : TellsCalls
 
   -- `legal`: The history is legal, and it is that of the calls on maps and atomics: each is answered as by the objects for one thread at its place
   abbrev pub IsLegallyPlaced : Type 0
@@ -50,7 +58,7 @@ module _ (claim : Claim) (account : Account) where
     pub begun : LawfulBegins (calls_of (record_of claim account))
     pub shown : LawfulRanges (contents_of claim.plan) account.history (calls_of (record_of claim account))
 
-  -- `machine`: Each journal, its fronts set aside, follows its object's machine from the declared start. The entries in a worker's list are its own in the journals, in their order, and each is told its number there
+  -- `machine`: Each journal, its fronts set aside, follows its object's machine from the declared start. The lists have the entries of the journals, each once and with its number
   pub record HasJournals : Type 0 where
     pub objects : length account.journals ≡ object_count claim.plan
     pub stops : IsStops (journal_of (record_of claim account) stop)
@@ -59,7 +67,7 @@ module _ (claim : Claim) (account : Account) where
     pub parts : (place part : ℕ) (object : ObjectLine) → slice_get claim.plan.objects place ≡ Some object → object.kind ≡ Pool → part < claim.plan.workers
         → IsPartJournal (puts_at place claim.plan.scripts) (without_fronts (journal_of (record_of claim account) (first_part claim.plan place + part)))
     pub starts : has_dormant claim.plan ≡ true → IsStartsJournal claim.plan.dormant (without_fronts (journal_of (record_of claim account) (starts_number claim.plan)))
-    pub numbers : (worker object : ℕ) → numbered_in object (get_or claim.lists worker []) ≡ numbered_by worker (journal_of (record_of claim account) object)
+    pub told : TellsNumbers
 
   -- `edge`: In each journal who acquires knows what each earlier entry knew that releases
   abbrev pub HasEdges : Type 0

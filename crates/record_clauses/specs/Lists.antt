@@ -1,5 +1,5 @@
 -- What is told along a list: which items are halts, of which calls of the script the others are, and which numbers entries have.
-use Rattle.std.specs.Prelude.{ℕ, ◌-◌, ◌==◌, Bool, true, false, cond, List, [], ◌∷◌, ◌++◌, map, length, replicate, zip, Option, Some, None}
+use Rattle.std.specs.Prelude.{ℕ, ◌-◌, ◌==◌, Bool, true, false, cond, List, [], ◌∷◌, ◌++◌, length, replicate, zip, Option, Some, None}
 use Rattle.std.specs.List.{flat_map}
 use Rattle.script_calls.specs.declared.call.Call.{Call}
 use Rattle.script_calls.specs.Runs.{places_from}

@@ -1,12 +1,30 @@
 //! What the clauses come to together. Each law is the contract of a function that does nothing.
-ghost use Rattle.std.specs.Prelude.{◌≡◌, ◌↔◌};
+ghost use Rattle.std.specs.Prelude.{◌≡◌};
 ghost use Rattle.run_record.specs.Explains.{Explains};
 ghost use Rattle.run_report.specs.ReportText.{report_text};
 ghost use Rattle.record_clauses.specs.Account.{Claim, Account, record_of, outcome_of};
-ghost use Rattle.record_clauses.specs.Clauses.{Holds};
+ghost use Rattle.record_clauses.specs.Clauses.{TellsCalls, TellsNumbers, Holds};
 ghost use Rattle.record_clauses.specs.Verdicts.{ComesTo};
 
 use crate::clause::{Clause, Verdict};
+use run_record::laws::edges::each_journal_keeps_the_edge_law;
+use run_record::laws::endings::halts_stand_behind_all_else;
+use shared_checks::laws::the_law_is_its_parts;
+
+/// All nine clauses of an account together say that its record explains the outcome, and that the report is that of the outcome. And
+/// all of them hold where the record explains the outcome by these lines, each item is told to be of the call that it is of, each
+/// entry is told its number, and the report is that of the outcome.
+pub fn the_clauses_say_that_the_record_explains_the_outcome()
+    ensures explains { (claim : Claim) (account : Account) → ((clause : Clause) → Holds claim account clause)
+        → Explains claim.plan (outcome_of claim account) (record_of claim account) × (claim.report ≡ report_text claim.plan (outcome_of claim account)) }
+    ensures holds { (claim : Claim) (account : Account) (explained : Explains claim.plan (outcome_of claim account) (record_of claim account)) (clause : Clause)
+        → explained.lines ≡ account.lines → TellsCalls claim account → TellsNumbers claim account → claim.report ≡ report_text claim.plan (outcome_of claim account)
+        → Holds claim account clause }
+{
+    the_law_is_its_parts();
+    each_journal_keeps_the_edge_law();
+    halts_stand_behind_all_else();
+}
 
 /// What is told of a run comes to one verdict: not to two, and not to none.
 pub fn a_claim_comes_to_one_verdict()
