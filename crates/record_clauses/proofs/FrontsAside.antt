@@ -18,13 +18,13 @@ use Rattle.record_clauses.specs.Journals.{without_fronts}
 abbrev with_front : {E R : Type 0} → List ℕ → Entry E R → Entry E R
 with_front front x = record x { front = front }
 
-first_same : {A : Type 0} (x y : A) (xs ys : List A) → x ∷ xs ≡ y ∷ ys → x ≡ y
+pub first_same : {A : Type 0} (x y : A) (xs ys : List A) → x ∷ xs ≡ y ∷ ys → x ≡ y
 first_same {A} x y xs ys same = same_Some x y (ap (λ (l : List A). slice_get l 0) same)
 
-rest_same : {A : Type 0} (x y : A) (xs ys : List A) → x ∷ xs ≡ y ∷ ys → xs ≡ ys
+pub rest_same : {A : Type 0} (x y : A) (xs ys : List A) → x ∷ xs ≡ y ∷ ys → xs ≡ ys
 rest_same {A} x y xs ys same = ap (λ (l : List A). drop 1 l) same
 
-no_more : {A : Type 0} (x : A) (xs : List A) → x ∷ xs ≡ [] → ⊥
+pub no_more : {A : Type 0} (x : A) (xs : List A) → x ∷ xs ≡ [] → ⊥
 no_more {A} x xs same = let long = ap (λ (l : List A). length l) same in omega (arith, long)
 
 -- an empty journal stays empty

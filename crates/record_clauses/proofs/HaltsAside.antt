@@ -71,7 +71,7 @@ aside_append (Entered object entry ∷ xs) ys = by_halt (halts entry.deed) (asid
 abbrev pub calm_part : Line → List Made
 calm_part line = line.first ++ (flat_map (λ spelt. spelt.items) line.spelt ++ line.last)
 
-cut_at : (line : Line) (behind : List Made) → line.first ++ (flat_map (λ spelt. spelt.items) line.spelt ++ (line.last ++ behind)) ≡ calm_part line ++ behind
+pub cut_at : (line : Line) (behind : List Made) → line.first ++ (flat_map (λ spelt. spelt.items) line.spelt ++ (line.last ++ behind)) ≡ calm_part line ++ behind
 cut_at line behind =
     let calls = flat_map (λ spelt. spelt.items) line.spelt in
     ap (λ (l : List Made). line.first ++ l) (sym (append_assoc calls line.last behind)) ∙ sym (append_assoc line.first (calls ++ line.last) behind)

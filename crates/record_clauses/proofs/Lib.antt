@@ -1,6 +1,9 @@
+pub mod Claims
+pub mod Determined
 pub mod Explaining
 pub mod FrontsAside
 pub mod HaltsAside
 pub mod Journals
+pub mod Telling
 pub mod ToldLists
 pub mod VerdictLemmas

@@ -8,7 +8,7 @@ use Rattle.record_clauses.specs.Account.{ToldItem, made_in}
 use Rattle.record_clauses.specs.Journals.{numbered_from, numbered_by}
 use Rattle.record_clauses.specs.Lists.{numbered, numbered_in}
 
-abbrev entries_of : List (ℕ × ObjectEntry) → List ObjectEntry
+abbrev pub entries_of : List (ℕ × ObjectEntry) → List ObjectEntry
 entries_of pairs = map (λ (pair : ℕ × ObjectEntry). pair.1) pairs
 
 in_list : (object : ℕ) (list : List ToldItem) → entries_of (numbered_in object list) ≡ entries_in object (made_in list)
@@ -23,7 +23,7 @@ in_list object (x ∷ list) = by_item x.made (in_list object list) where
   by_item (Shared y) rest = rest
   by_item (Entered other entry) rest = chosen (other == object) entry rest
 
-in_journal : (n c : ℕ) (journal : List ObjectEntry) → entries_of (numbered_from n c journal) ≡ by c journal
+pub in_journal : (n c : ℕ) (journal : List ObjectEntry) → entries_of (numbered_from n c journal) ≡ by c journal
 in_journal n c [] = refl
 in_journal n c (x ∷ xs) = chosen (x.caller == c) (in_journal (n + 1) c xs) where
   chosen : (b : Bool) → entries_of (numbered_from (n + 1) c xs) ≡ by c xs → entries_of (cond b ((n, x) ∷ numbered_from (n + 1) c xs) (numbered_from (n + 1) c xs)) ≡ cond b (x ∷ by c xs) (by c xs)

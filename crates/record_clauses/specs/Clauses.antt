@@ -32,7 +32,7 @@ halts_aside r = record r { lists = map without_halts r.lists }
 module _ (claim : Claim) (account : Account) where
   -- each item is told to be of the call that it is of; a halt is of none
   pub record TellsCalls : Type 0 where
-    pub calls : (worker : ℕ) (list : List ToldItem) (line : Line) → slice_get claim.lists worker ≡ Some list → slice_get account.lines worker ≡ Some line → calls_told list ≡ calls_along (get_or claim.plan.scripts worker []) line
+    pub calls : (worker : ℕ) (list : List ToldItem) (line : Line) → slice_get claim.lists worker ≡ Some list → slice_get account.lines worker ≡ Some line → calls_told list ≡ calls_along line
     pub halts : (worker i : ℕ) (list : List ToldItem) (x : ToldItem) → slice_get claim.lists worker ≡ Some list → slice_get list i ≡ Some x → is_halt x.made ≡ true → x.call ≡ None
 
   -- the entries in a worker's list are its own in the journals, in their order, and each is told its number there

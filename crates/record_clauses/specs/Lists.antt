@@ -1,15 +1,14 @@
 -- What is told along a list: which items are halts, of which calls of the script the others are, and which numbers entries have.
-use Rattle.std.specs.Prelude.{ℕ, ◌-◌, ◌==◌, Bool, true, false, cond, List, [], ◌∷◌, ◌++◌, length, replicate, zip, Option, Some, None}
-use Rattle.std.specs.List.{flat_map}
+use Rattle.std.specs.Prelude.{ℕ, ◌+◌, ◌==◌, Bool, true, false, cond, List, [], ◌∷◌, ◌++◌, length, replicate, Option, Some, None}
 use Rattle.script_calls.specs.declared.call.Call.{Call}
-use Rattle.script_calls.specs.Runs.{places_from}
+use Rattle.script_calls.specs.Runs.{passed_over}
 use Rattle.sync_model.specs.declared.journal.Deed.{Deed}
 use Rattle.sync_model.specs.declared.journal.Deed.TheVariants.{Event, Refused, Halt}
 use Rattle.run_record.specs.declared.entered.ObjectEvent.{ObjectEvent}
 use Rattle.run_record.specs.declared.entered.ObjectReply.{ObjectReply}
 use Rattle.run_record.specs.declared.made.Made.{Made}
 use Rattle.run_record.specs.declared.made.Made.TheVariants.{Shared, Entered}
-use Rattle.run_record.specs.Lines.{Line, replies_of}
+use Rattle.run_record.specs.Lines.{Line, SpeltCall}
 use Rattle.run_record.specs.Record.{ObjectEntry}
 use Rattle.record_clauses.specs.Account.{ToldItem}
 
@@ -32,16 +31,19 @@ without_halts (item ∷ list) = cond (is_halt item) (without_halts list) (item �
 abbrev pub before_halts : Line → Line
 before_halts line = record line { halts = [] }
 
--- the place of the next call of a script of which this is left; none, where it is at its end
-abbrev pub next_place : List Call → List Call → Option ℕ
-next_place script [] = None
-next_place script (call ∷ rest) = Some (length script - length (call ∷ rest))
+-- of which call the items behind the completed calls are, whose place is this: of none, where nothing is left of the script
+abbrev pub next_call : ℕ → List Call → Option ℕ
+next_call place [] = None
+next_call place (call ∷ rest) = Some place
+
+-- of which call each item is from a completed call on, which stands at this place of the script; the next call stands behind it and those that it passes over
+abbrev pub calls_from : ℕ → List SpeltCall → List Call → List Made → List (Option ℕ)
+calls_from place [] rest last = replicate (length last) (next_call place rest)
+calls_from place (spelt ∷ later) rest last = replicate (length spelt.items) (Some place) ++ calls_from (place + 1 + passed_over spelt.call spelt.reply) later rest last
 
 -- of which call of the script each item of a line is, up to its halts: of none, where it stands before the script or behind it
-abbrev pub calls_along : List Call → Line → List (Option ℕ)
-calls_along script line = replicate (length line.first) None
-    ++ (flat_map (λ one. replicate (length one.0.items) (Some one.1)) (zip line.spelt (places_from 0 script (replies_of line)))
-    ++ replicate (length line.last) (next_place script line.rest))
+abbrev pub calls_along : Line → List (Option ℕ)
+calls_along line = replicate (length line.first) None ++ calls_from 0 line.spelt line.rest line.last
 
 -- of which calls the items of a list are told to be, up to its halts
 abbrev pub calls_told : List ToldItem → List (Option ℕ)
