@@ -4,6 +4,7 @@ pub mod Explaining
 pub mod FrontsAside
 pub mod HaltsAside
 pub mod Journals
+pub mod OneAccount
 pub mod Telling
 pub mod ToldLists
 pub mod VerdictLemmas

@@ -1,14 +1,18 @@
 //! What the clauses come to together. Each law is the contract of a function that does nothing.
-ghost use Rattle.std.specs.Prelude.{◌≡◌};
+ghost use Rattle.std.specs.Prelude.{◌≡◌, true, map, All};
+ghost use Rattle.std.specs.List.{list_all};
 ghost use Rattle.workload.specs.Plan.{Plan};
-ghost use Rattle.run_record.specs.Explains.{Explains};
+ghost use Rattle.run_cuts.specs.CallCuts.{is_told};
+ghost use Rattle.run_record.specs.Explains.{HasEnded, Explains};
 ghost use Rattle.run_record.specs.Record.{Record};
 ghost use Rattle.run_report.specs.ReportText.{report_text};
 ghost use Rattle.record_clauses.specs.Account.{Claim, Account, record_of, outcome_of};
-ghost use Rattle.record_clauses.specs.Clauses.{TellsCalls, TellsNumbers, IsLegallyPlaced, HasJournals, Holds};
+ghost use Rattle.record_clauses.specs.Clauses.{TellsCalls, TellsNumbers, IsSpelt, IsLegallyPlaced, HasJournals, Holds};
+ghost use Rattle.record_clauses.specs.Lists.{before_halts};
 ghost use Rattle.record_clauses.specs.Verdicts.{ComesTo};
 
 use crate::clause::{Clause, Verdict};
+use run_cuts::laws::a_list_is_cut_into_one_line;
 use run_record::laws::edges::each_journal_keeps_the_edge_law;
 use run_record::laws::endings::halts_stand_behind_all_else;
 use script_calls::Outcome;
@@ -39,12 +43,21 @@ pub fn whatever_explains_can_be_told()
     halts_stand_behind_all_else();
 }
 
-/// What is told determines the parts of an account, by one clause after the other: `legal` the history, and `machine` the journals.
+/// What is told determines the parts of an account, by one clause after the other: `legal` the history, and `machine` the journals. Where
+/// no script has a `range`, and all workers have ended, `spell` determines the lines, but for the halts behind them. So where all clauses
+/// hold of two accounts, both are one, and the outcome is. The items of a `range` leave open in which order it replies the pairs of two
+/// keys with one name.
 pub fn the_parts_of_an_account_are_determined()
     ensures history { (claim : Claim) (one other : Account) → IsLegallyPlaced claim one → IsLegallyPlaced claim other → one.history ≡ other.history }
     ensures journals { (claim : Claim) (one other : Account) → HasJournals claim one → HasJournals claim other → one.journals ≡ other.journals }
+    ensures lines { (claim : Claim) (one other : Account) → list_all (λ script. list_all (λ call. is_told call.operation) script) claim.plan.scripts ≡ true
+        → IsSpelt claim one → IsSpelt claim other → All (λ line. HasEnded line.ending) one.lines → All (λ line. HasEnded line.ending) other.lines
+        → map before_halts one.lines ≡ map before_halts other.lines }
+    ensures all { (claim : Claim) (one other : Account) → list_all (λ script. list_all (λ call. is_told call.operation) script) claim.plan.scripts ≡ true
+        → ((clause : Clause) → Holds claim one clause) → ((clause : Clause) → Holds claim other clause) → one ≡ other }
 {
     calls_have_one_history();
+    a_list_is_cut_into_one_line();
 }
 
 /// What is told of a run comes to one verdict: not to two, and not to none.
