@@ -63,7 +63,7 @@ module _ (claim : Claim) (account : Account) where
     fronts = fronts.items;
   }
 
-  agreed : (misused : Option Misuse) → HasEnds claim account misused → IsStoppedBy claim account misused → Agrees claim.plan r account.lines (outcome_by misused account.left)
+  pub agreed : (misused : Option Misuse) → HasEnds claim account misused → IsStoppedBy claim account misused → Agrees claim.plan r account.lines (outcome_by misused account.left)
   agreed None ends stopped = ends
   agreed (Some misuse) ends stopped = (stopped.0, ends, stopped.1)
 
@@ -107,7 +107,7 @@ module _ (claim : Claim) (account : Account) where
     halts_of stopped = record { lists = are.lists; halts = λ worker line at. (are.each worker line at).halts; stopped = stopped }
 
   module _ (parts : LawIsItsParts) (lawful : IsRecordOf claim.plan r) where
-    parts_of : AllParts (contents_of claim.plan) account.history (calls_of r)
+    pub parts_of : AllParts (contents_of claim.plan) account.history (calls_of r)
     parts_of = (parts (contents_of claim.plan) account.history (calls_of r)).0 lawful.shared
 
     pub fronts_of : HasFronts claim account
@@ -126,7 +126,7 @@ module _ (claim : Claim) (account : Account) where
       told = told;
     }
 
-  ended : (misused : Option Misuse) → Agrees claim.plan r account.lines (outcome_by misused account.left) → HasEnds claim account misused × IsStoppedBy claim account misused
+  pub ended : (misused : Option Misuse) → Agrees claim.plan r account.lines (outcome_by misused account.left) → HasEnds claim account misused × IsStoppedBy claim account misused
   ended None agrees = (agrees, tt)
   ended (Some misuse) agrees = (agrees.1, (agrees.0, agrees.2))
 

@@ -107,3 +107,13 @@ module _ {E R : Type 0} where
       put_back frees takes some other journal is keeps =
           let same = all_fronted journal is.0 is.1 in
           (fronted journal is.0, same, follows_fronted next start None journal is.0 is.2, own_edges frees takes (fronted journal is.0) (subst (KeepsEdges frees takes) same keeps))
+
+      -- what a machine sees of a journal without its fronts, and of one with them, is the same
+      abbrev pub FollowsMachine : List ObjectEntry → Type 0
+      FollowsMachine journal = (own : List (Entry E R)) × (journal ≡ map (lifted event reply) own) × Follows next true start None own
+
+      pub seen : (frees takes : E → R → Bool) (journal : List ObjectEntry) → FollowsFrom event reply next frees takes start (without_fronts journal) → FollowsMachine journal
+      seen frees takes journal is = (fronted journal is.0, all_fronted journal is.0 is.1, follows_fronted next start None journal is.0 is.2)
+
+      pub unseen : (frees takes : E → R → Bool) (journal : List ObjectEntry) → FollowsMachine journal → FollowsFrom event reply next frees takes start (without_fronts journal)
+      unseen frees takes journal is = (bare is.0, ap (λ (es : List ObjectEntry). without_fronts es) is.1 ∙ all_bare is.0, follows_bare next start None is.0 is.2, bare_edges frees takes is.0)

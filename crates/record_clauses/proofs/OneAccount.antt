@@ -1,5 +1,5 @@
 -- That a claim without ranges has one account.
-use Rattle.std.proofs.Common.{◌≡◌, ℕ, zero, suc, ◌<◌, Bool, true, List, [], ◌∷◌, ◌++◌, map, length, get_or, Option, None, Some, slice_get, refl, sym, ap, ◌∙◌, subst, arith}
+use Rattle.std.proofs.Common.{◌≡◌, ℕ, zero, suc, Bool, true, List, [], ◌∷◌, ◌++◌, map, get_or, Option, None, Some, slice_get, refl, sym, ap, ◌∙◌, subst}
 use Rattle.std.specs.Prelude.{All}
 use Rattle.std.specs.List.{list_all}
 use Rattle.std.proofs.lemmas.Bool.{and_parts}
@@ -17,7 +17,7 @@ use Rattle.sync_model.specs.SharedHistory.{contents_after}
 use Rattle.workload.specs.Plan.{Plan}
 use Rattle.run_record.specs.declared.made.Made.{Made}
 use Rattle.run_record.specs.Explains.{HasEnded, IsAtEnd}
-use Rattle.run_record.specs.Lines.{Line, LineEnd, whole, misused, halted, unfinished, stayed, Stay, never, stopped, waits, calls_made, items_of, replies_of, IsLineOf}
+use Rattle.run_record.specs.Lines.{Line, LineEnd, whole, misused, halted, unfinished, stayed, never, stopped, waits, calls_made, items_of, replies_of, IsLineOf}
 use Rattle.run_record.specs.Objects.{contents_of, ends_in}
 use Rattle.run_record.specs.Record.{ObjectEntry}
 use Rattle.run_cuts.specs.CallCuts.{call_cut, is_told}
@@ -26,7 +26,7 @@ use Rattle.run_cuts.specs.OneLine.{CutsLines}
 use Rattle.run_cuts.specs.StartsCuts.{opening_cut, closing_cut}
 use Rattle.record_clauses.specs.declared.clause.Clause.{Clause}
 use Rattle.record_clauses.specs.declared.clause.Clause.TheVariants as clause
-use Rattle.record_clauses.specs.Account.{Claim, Account, outcome_by}
+use Rattle.record_clauses.specs.Account.{Claim, Account, outcome_by, has_no_range}
 use Rattle.record_clauses.specs.Clauses.{IsSpelt, IsLegallyPlaced, HasEnds, IsStoppedBy, HasHalts, Holds}
 use Rattle.record_clauses.specs.Lists.{before_halts}
 use Rattle.record_clauses.proofs.Determined.{same_list, journals_once}
@@ -69,9 +69,6 @@ script_told p (script ∷ scripts) (suc worker) is = script_told p scripts worke
 abbrev pub ListsAreCut : Type 0
 ListsAreCut = (plan : Plan) (worker : ℕ) → CutsLines plan worker (opening_cut plan worker) (closing_cut plan worker) (λ call. is_told call.operation) (λ before call. call_cut plan worker call)
 
-abbrev pub HasNoRanges : Plan → Type 0
-HasNoRanges plan = list_all (λ script. list_all (λ call. is_told call.operation) script) plan.scripts ≡ true
-
 abbrev pub AllEnded : Account → Type 0
 AllEnded account = All (λ line. HasEnded line.ending) account.lines
 
@@ -84,7 +81,7 @@ at_end (stayed never) is = tt
 at_end (stayed (stopped misuse)) is = tt
 at_end (stayed waits) is = is
 
-module _ (claim : Claim) (cuts : ListsAreCut) (told : HasNoRanges claim.plan) where
+module _ (claim : Claim) (cuts : ListsAreCut) (told : has_no_range claim.plan ≡ true) where
   -- a line that has ended is what its items and its script are cut into
   cut_of : (worker : ℕ) (line : Line) → RunsAlong (get_or claim.plan.scripts worker []) (calls_made line) line.rest → HasEnded line.ending → IsLineOf claim.plan worker line
       → line_cut (opening_cut claim.plan worker) (closing_cut claim.plan worker) (λ before call. call_cut claim.plan worker call) 0 (get_or claim.plan.scripts worker []) (items_of line) ≡ Some line

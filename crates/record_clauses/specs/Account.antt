@@ -1,11 +1,13 @@
 -- What is told of a run, and an account of it: what a checker has to find in order to believe it.
-use Rattle.std.specs.Prelude.{ℕ, List, map, Option, Some, None}
+use Rattle.std.specs.Prelude.{ℕ, Bool, List, map, Option, Some, None}
+use Rattle.std.specs.List.{list_all}
 use Rattle.script_calls.specs.declared.outcome.Outcome.{Outcome}
 use Rattle.script_calls.specs.declared.outcome.Outcome.TheVariants.{Done, Misused}
 use Rattle.script_calls.specs.declared.outcome.Report.{Report}
 use Rattle.sync_model.specs.declared.item.SharedEntry.{SharedEntry}
 use Rattle.sync_types.specs.declared.misuse.Misuse.{Misuse}
 use Rattle.workload.specs.Plan.{Plan}
+use Rattle.run_cuts.specs.CallCuts.{is_told}
 use Rattle.run_record.specs.declared.made.Made.{Made}
 use Rattle.run_record.specs.Lines.{Line}
 use Rattle.run_record.specs.Record.{Record, ObjectEntry}
@@ -45,3 +47,7 @@ outcome_by (Some misuse) left = Misused left misuse
 -- the outcome of the run, by an account
 abbrev pub outcome_of : Claim → Account → Outcome
 outcome_of claim account = outcome_by claim.misused account.left
+
+-- no script has a `range`. The items of one leave open in which order it replies the pairs of two keys with one name
+abbrev pub has_no_range : Plan → Bool
+has_no_range plan = list_all (λ script. list_all (λ call. is_told call.operation) script) plan.scripts
