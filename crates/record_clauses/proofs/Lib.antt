@@ -1,3 +1,4 @@
+pub mod CallPlaces
 pub mod Claims
 pub mod Determined
 pub mod Explaining

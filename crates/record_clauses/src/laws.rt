@@ -1,16 +1,20 @@
 //! What the clauses come to together. Each law is the contract of a function that does nothing.
-ghost use Rattle.std.specs.Prelude.{◌≡◌, ◌↔◌, true, List, map, All, None};
+ghost use Rattle.std.specs.Prelude.{◌≡◌, ◌↔◌, ℕ, true, List, ◌∷◌, ◌++◌, map, length, replicate, All, Option, None, Some, slice_get};
+ghost use Rattle.std.specs.List.{flat_map};
+ghost use Rattle.script_calls.specs.Runs.{RunsAlong};
 ghost use Rattle.sync_model.specs.Journal.{Follows};
 ghost use Rattle.workload.specs.Plan.{Plan};
 ghost use Rattle.run_record.specs.Explains.{AreLines, IsRecordOf, HasEnded, Agrees, Explains};
 ghost use Rattle.run_record.specs.Journals.{FollowsFrom};
+ghost use Rattle.run_record.specs.Lines.{Line, SpeltCall, calls_made, replies_of};
 ghost use Rattle.run_record.specs.Parts.{lifted};
 ghost use Rattle.run_record.specs.Record.{Record, ObjectEntry};
 ghost use Rattle.run_report.specs.ReportText.{report_text};
+ghost use Rattle.run_report.specs.Shown.{IsCompleted};
 ghost use Rattle.record_clauses.specs.Account.{Claim, Account, made_in, record_of, outcome_by, outcome_of, has_no_range};
 ghost use Rattle.record_clauses.specs.Clauses.{TellsCalls, TellsNumbers, IsSpelt, IsLegallyPlaced, HasFronts, HasRanges, HasJournals, HasEdges, HasEnds, IsStoppedBy, HasHalts, Holds};
 ghost use Rattle.record_clauses.specs.Journals.{without_fronts};
-ghost use Rattle.record_clauses.specs.Lists.{before_halts};
+ghost use Rattle.record_clauses.specs.Lists.{before_halts, calls_along};
 ghost use Rattle.record_clauses.specs.Verdicts.{ComesTo};
 
 use crate::clause::{Clause, Verdict};
@@ -18,7 +22,7 @@ use run_cuts::laws::a_list_is_cut_into_one_line;
 use run_record::laws::edges::each_journal_keeps_the_edge_law;
 use run_record::laws::endings::halts_stand_behind_all_else;
 use run_record::{ObjectEvent, ObjectReply};
-use script_calls::{Outcome, Report};
+use script_calls::{Call, Outcome, Report};
 use shared_checks::laws::{calls_have_one_history, the_law_is_its_parts};
 use sync_model::{Entry, Machine};
 
@@ -72,6 +76,19 @@ pub fn whatever_explains_can_be_told()
     each_journal_keeps_the_edge_law();
     halts_stand_behind_all_else();
 }
+
+/// Each item of a completed call is told the place that the call has in the script, and in its line of the report. The items behind the
+/// completed calls are told the place of the next call, where something is left of the script.
+pub fn an_item_is_told_the_place_of_its_call()
+    ensures completed { (script : List Call) (line : Line) (earlier later : List SpeltCall) (spelt : SpeltCall)
+        → RunsAlong script (calls_made line) line.rest → line.spelt ≡ earlier ++ spelt ∷ later
+        → (place : ℕ) × (before : List (Option ℕ)) × (after : List (Option ℕ)) × IsCompleted script (replies_of line) (length earlier) place spelt.call spelt.reply
+        × (calls_along line ≡ before ++ (replicate (length spelt.items) (Some place) ++ after)) × (length before ≡ length (line.first ++ flat_map (λ s. s.items) earlier)) }
+    ensures next { (script : List Call) (line : Line) (call : Call) (behind : List Call)
+        → RunsAlong script (calls_made line) line.rest → line.rest ≡ call ∷ behind
+        → (place : ℕ) × (before : List (Option ℕ)) × (slice_get script place ≡ Some call)
+        × (calls_along line ≡ before ++ replicate (length line.last) (Some place)) × (length before ≡ length (line.first ++ flat_map (λ s. s.items) line.spelt)) }
+{}
 
 /// What is told determines the parts of an account, by one clause after the other: `legal` the history, and `machine` the journals. Where
 /// no script has a `range`, and all workers have ended, `spell` determines the lines, but for the halts behind them. So where all clauses
