@@ -1,5 +1,5 @@
 -- That what is told of a run comes to one verdict.
-use Rattle.std.proofs.Common.{◌≡◌, ⊎_elim, ℕ, zero, suc, ◌+◌, ◌<◌, ◌≤◌, [], refl, sym, ap, ◌∙◌, arith}
+use Rattle.std.proofs.Common.{◌≡◌, ⊎_elim, ℕ, zero, suc, ◌+◌, ◌<◌, ◌≤◌, [], refl, sym, ap, ◌∙◌, subst, arith}
 use Rattle.std.proofs.Common.{◌⊎◌, inl, inr}
 use Rattle.record_clauses.specs.declared.clause.Clause.{Clause}
 use Rattle.record_clauses.specs.declared.clause.Clause.TheVariants.{Spell, Legal, Front, Range, Machine, Edge, End, Stop, Report}
@@ -50,10 +50,26 @@ compared zero (suc n) = inl (omega arith)
 compared (suc m) zero = inr (inr (omega arith))
 compared (suc m) (suc n) = ⊎_elim (λ less. inl (omega (arith, less))) (⊎_elim (λ same. inr (inl (ap suc same))) (λ more. inr (inr (omega (arith, more))))) (compared m n)
 
+-- the clause before one that isn't the first
+earlier_than : (m : ℕ) (d : Clause) → m < place_of d → (e : Clause) × (place_of e + 1 ≡ place_of d)
+earlier_than m Spell less = absurd (omega (arith, less))
+earlier_than m Legal less = (Spell, refl)
+earlier_than m Front less = (Legal, refl)
+earlier_than m Range less = (Front, refl)
+earlier_than m Machine less = (Range, refl)
+earlier_than m Edge less = (Machine, refl)
+earlier_than m End less = (Edge, refl)
+earlier_than m Stop less = (End, refl)
+earlier_than m Report less = (Stop, refl)
+
 module _ (claim : Claim) where
   -- of two first clauses that fail neither comes before the other
   earlier_fails : (c d : Clause) → place_of c < place_of d → (UpTo claim c → ⊥) → Before claim d → ⊥
-  earlier_fails c d less fails before = fails (before.0, λ e within. before.1 e (omega (arith, less, within)))
+  earlier_fails c d less fails before =
+      let e = earlier_than (place_of c) d less in
+      let next = e.1 in
+      let up = before e.0 next in
+      fails (up.0, λ f within. up.1 f (omega (arith, less, next, within)))
 
   pub one_verdict : (first second : Verdict) → ComesTo claim first → ComesTo claim second → first ≡ second
   one_verdict Yes Yes one two = refl
@@ -66,9 +82,9 @@ module _ (claim : Claim) where
     by_order (inr (inr more)) = absurd (earlier_fails d c more two.1 one.0)
 
   module _ (none : (verdict : Verdict) → ComesTo claim verdict → ⊥) where
-    -- where a clause holds of no account together with those before it, neither do those before it
+    -- where a clause doesn't hold together with those before it, neither do those before it
     back : (c d : Clause) → place_of d ≡ place_of c + 1 → (UpTo claim d → ⊥) → UpTo claim c → ⊥
-    back c d next fails up = none (No d) ((up.0, λ e less. up.1 e (omega (arith, less, next))), fails)
+    back c d next fails up = none (No d) ((λ e is. subst (λ (f : Clause). UpTo claim f) (same_place c e (omega (arith, next, is))) up), fails)
 
     last : UpTo claim Report → ⊥
     last up = none Yes (up.0, λ c. up.1 c (up_to_last c))
@@ -77,4 +93,4 @@ module _ (claim : Claim) where
     first = back Spell Legal refl (back Legal Front refl (back Front Range refl (back Range Machine refl (back Machine Edge refl (back Edge End refl (back End Stop refl (back Stop Report refl last)))))))
 
     pub some_verdict : ⊥
-    some_verdict = none (No Spell) ((record { history = []; journals = []; lines = []; left = record { replies = []; ends = [] } }, λ e less. absurd (omega (arith, less))), first)
+    some_verdict = none (No Spell) ((λ e is. absurd (omega (arith, is))), first)

@@ -1,5 +1,5 @@
 -- Which verdict a claim comes to: the first clause that fails.
-use Rattle.std.specs.Prelude.{ℕ, ◌<◌, ◌≤◌}
+use Rattle.std.specs.Prelude.{◌≡◌, ℕ, ◌+◌, ◌≤◌}
 use Rattle.record_clauses.specs.declared.clause.Clause.{Clause}
 use Rattle.record_clauses.specs.declared.clause.Clause.TheVariants.{Spell, Legal, Front, Range, Machine, Edge, End, Stop, Report}
 use Rattle.record_clauses.specs.declared.clause.Verdict.{Verdict}
@@ -20,13 +20,13 @@ place_of Stop = 7
 place_of Report = 8
 
 module _ (claim : Claim) where
-  -- of some account all clauses before this one hold
-  abbrev pub Before : Clause → Type 0
-  Before clause = (account : Account) × ((earlier : Clause) → place_of earlier < place_of clause → Holds claim account earlier)
-
   -- of some account all clauses up to this one hold
   abbrev pub UpTo : Clause → Type 0
   UpTo clause = (account : Account) × ((earlier : Clause) → place_of earlier ≤ place_of clause → Holds claim account earlier)
+
+  -- and up to the one before it, if there is one
+  abbrev pub Before : Clause → Type 0
+  Before clause = (earlier : Clause) → place_of earlier + 1 ≡ place_of clause → UpTo earlier
 
   -- Of some account all clauses hold; or this is the first one that fails: all before it hold of some account, and of none they hold together with it
   abbrev pub ComesTo : Verdict → Type 0
