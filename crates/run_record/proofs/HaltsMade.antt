@@ -13,7 +13,7 @@ use Rattle.run_record.specs.declared.made.Made.{Made}
 use Rattle.run_record.specs.declared.made.Made.TheVariants.{Shared, Entered}
 use Rattle.run_record.specs.Explains.{AreLines, IsRecordOf}
 use Rattle.run_record.specs.Halts.{entered_on, halt_by, halted_numbers, halts_in, halts_made}
-use Rattle.run_record.specs.Lines.{Line, LineEnd, misused, items_of, IsHalt, AreHalts, HaltsEach, halted_by}
+use Rattle.run_record.specs.Lines.{Line, LineEnd, misused, items_of, IsHalt, AreHalts, HaltsEach, halted_by, IsLineOf}
 use Rattle.run_record.specs.Record.{Record, ObjectEntry, journal_of, list_of, entries_in}
 use Rattle.run_record.proofs.CallLemmas.{AllEndAlike}
 use Rattle.run_record.proofs.HaltedNumbers.{kept_once}
@@ -39,6 +39,10 @@ calm_none [] calm = refl
 calm_none (Shared x ∷ items) calm = calm_none items calm.1
 calm_none (Entered object entry ∷ items) calm =
     ap (λ (l : List Misuse). map (λ misuse. (object, misuse)) l ++ halts_made items) (calm_deed entry.deed calm.0) ∙ calm_none items calm.1
+
+-- and so nothing has one that stands before the halts of a line
+pub none_before : (alike : AllEndAlike) (plan : Plan) (worker : ℕ) (line : Line) → IsLineOf plan worker line → halts_made (before_halts line) ≡ []
+none_before alike plan worker line is = calm_none (before_halts line) (before_calm alike plan worker line is)
 
 -- and of halts each is one
 all_made : (misuse : Misuse) (halts : List Made) → All (IsHalt misuse) halts → halts_made halts ≡ map (λ number. (number, misuse)) (entered_on halts)

@@ -1,6 +1,6 @@
 //! What a worker finds of what others did, and of what it did itself.
 ghost use Rattle.std.specs.Prelude.{◌≡◌, ℕ, ◌<◌, ◌≤◌, true, List, ◌∷◌, ◌++◌, length, Some, slice_get, slice_index};
-ghost use Rattle.sync_model.specs.Journal.{is_such};
+ghost use Rattle.sync_model.specs.Journal.{is_such, KeepsEdges};
 ghost use Rattle.sync_model.specs.SharedLaws.{LeaveKey};
 ghost use Rattle.workload.specs.Plan.{Plan};
 ghost use Rattle.sync_model.specs.Told.{FindsItOrALater};
@@ -21,6 +21,11 @@ use sync_model::laws::shared::{
 };
 use sync_model::reads::a_load_behind_a_store_finds_it_or_a_later_one;
 use sync_types::map_object::{MapCall, MapReply};
+
+/// The edge law holds of each journal of a record, by what releases and what acquires on objects of whatever kind.
+pub fn each_journal_keeps_the_edge_law()
+    ensures { (plan : Plan) (r : Record) (object : ℕ) → IsRecordOf plan r → KeepsEdges frees takes (journal_of r object) }
+{}
 
 /// An edge makes known. Whoever acquires at an object knows from then on what the worker of an earlier releasing event had done:
 /// the fronts of its calls count it, no such call has a lower place, and an entry lies below it.

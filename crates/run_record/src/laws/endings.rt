@@ -1,12 +1,13 @@
 //! How a run ends. A misuse ends it by halts, and nothing else halts an object.
-ghost use Rattle.std.specs.Prelude.{◌≡◌, ◌≢◌, ℕ, false, List, [], ◌∷◌, map, length, All, Contains, Some, None, slice_get, get_or};
+ghost use Rattle.std.specs.Prelude.{◌≡◌, ◌≢◌, ℕ, false, List, [], ◌∷◌, ◌++◌, map, length, All, Contains, Some, None, slice_get, get_or};
+ghost use Rattle.std.specs.List.{flat_map};
 ghost use Rattle.script_calls.specs.Outcome.{left_by};
 ghost use Rattle.script_calls.specs.Runs.{have_tests, left_of, made_of};
 ghost use Rattle.sync_model.specs.Journal.{by, halt_of};
 ghost use Rattle.workload.specs.Plan.{Plan, is_dormant, has_dormant};
 ghost use Rattle.run_record.specs.Explains.{AreLines, IsRecordOf, HasEnded, IsAtEnd, Explains};
 ghost use Rattle.run_record.specs.Halts.{halted_numbers, halts_in, halts_made};
-ghost use Rattle.run_record.specs.Lines.{Line, misused, stayed, never, HaltsStop, HaltsEach};
+ghost use Rattle.run_record.specs.Lines.{Line, misused, stayed, never, HaltsStop, HaltsEach, IsLineOf};
 ghost use Rattle.run_record.specs.Record.{Record, ObjectEntry, stop, journal_of, list_of};
 
 use crate::laws::runs::{
@@ -21,6 +22,21 @@ use starts_core::StartsCore;
 use sync_model::Deed;
 use sync_types::Misuse;
 use wait_cores::{GroupCore, NotifyCore, OnceCore};
+
+/// In a list halts stand behind all else: no item of a call is one, and none of what a worker makes before its script or behind it.
+pub fn halts_stand_behind_all_else()
+    ensures { (plan : Plan) (worker : ℕ) (line : Line) → IsLineOf plan worker line
+        → halts_made (line.first ++ (flat_map (λ spelt. spelt.items) line.spelt ++ line.last)) ≡ [] }
+{
+    endings::<MutexCore>();
+    endings::<RwCore>();
+    endings::<NotifyCore>();
+    endings::<GroupCore>();
+    endings::<OnceCore<i64>>();
+    endings::<OnceCore<u64>>();
+    endings::<PoolCore>();
+    endings::<StartsCore>();
+}
 
 /// Each halt is by a worker whose list ends in the misuse by which it halts.
 pub fn a_halt_follows_a_misuse()

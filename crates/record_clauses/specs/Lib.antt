@@ -1,0 +1,5 @@
+pub mod Account
+pub mod Clauses
+pub mod Journals
+pub mod Lists
+pub mod Verdicts
