@@ -11,7 +11,7 @@ ghost use Rattle.shared_checks.specs.Placing.{IsOn};
 ghost use Rattle.shared_checks.specs.Parts.{ArePlaced, AreEntries, LawfulHistory, LawfulBegins, StoodBetween, AllParts};
 
 use crate::edges::Note;
-use sync_model::{Entry, Item, Machine, SharedCall, SharedEntry};
+use sync_model::{Entry, Item, SharedCall, SharedEntry};
 
 /// How much of the history a front knows of: whoever knows the front comes at this length or later, and may come at it.
 pub fn a_front_knows_of_a_length()
@@ -58,9 +58,9 @@ pub fn only_keys_that_were_there_count()
 {}
 
 /// The notes of a journal keep the edge law exactly where the journal does.
-pub fn notes_stand_for_a_journal<M: Machine>()
-    ensures { (journal : List (Entry M.Event M.Reply)) (notes : List Note) → AreNotes M.frees M.takes journal notes
-        → (KeepsEdges M.frees M.takes journal ↔ KeepsEdges is_freeing is_taking (map entry_of notes)) }
+pub fn notes_stand_for_a_journal<E, R>()
+    ensures { (frees takes : E → R → Bool) (journal : List (Entry E R)) (notes : List Note) → AreNotes frees takes journal notes
+        → (KeepsEdges frees takes journal ↔ KeepsEdges is_freeing is_taking (map entry_of notes)) }
 {}
 
 /// There are the same objects at each length of a history, and atomics keep their types: so whoever plays a history needs to

@@ -1,0 +1,14 @@
+pub mod EdgeLemmas
+pub mod FrontLemmas
+pub mod GatherLemmas
+pub mod Halves
+pub mod JournalsIn
+pub mod Lifting
+pub mod Merging
+pub mod NoteLemmas
+pub mod OnceLemmas
+pub mod OneJournal
+pub mod Replays
+pub mod RowLemmas
+pub mod TakenLemmas
+pub mod WholeLemmas

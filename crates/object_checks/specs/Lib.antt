@@ -1,0 +1,4 @@
+pub mod JournalItems
+pub mod JournalOnce
+pub mod JournalParts
+pub mod JournalRows

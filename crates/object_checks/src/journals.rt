@@ -1,0 +1,17 @@
+//! The journals of a record, out of its workers' lists.
+pub mod edge;
+pub mod gathering;
+pub mod item;
+pub mod kind;
+mod kinds;
+pub mod laws;
+mod merging;
+pub mod replay;
+pub mod row;
+mod rows;
+
+pub use edge::{keep_all_edges, keeps_the_edge_law};
+pub use gathering::journals_of;
+pub use item::JournalItem;
+pub use replay::follows_machine;
+pub use row::Row;
