@@ -8,3 +8,4 @@ pub mod MutexCallers
 pub mod OnceCallers
 pub mod Renewing
 pub mod RwCallers
+pub mod SemaCallers

@@ -13,6 +13,7 @@ pub mod mutex;
 pub mod once;
 pub mod rw_guarded;
 pub mod rw_mutex;
+pub mod semaphore;
 
 pub use atomic::{AtomicCaller, atomic_callers, new_atomic};
 pub use cond::{CondCaller, CondPasses, cond_callers, new_cond};
@@ -24,6 +25,7 @@ pub use mutex::{MutexCaller, MutexPasses, mutex_callers, new_mutex};
 pub use once::{OnceCaller, OncePasses, new_once, once_callers};
 pub use rw_guarded::{RwGuarded, RwGuardedCaller};
 pub use rw_mutex::{RwCaller, RwPasses, new_rw_mutex, rw_callers};
+pub use semaphore::{SemaCaller, SemaPasses, Semaphore};
 pub use shared_table::SharedTable;
 pub use sync_model::Answer;
 pub use sync_outside::Clock;
