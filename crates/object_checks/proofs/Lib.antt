@@ -1,9 +1,11 @@
 pub mod EdgeLemmas
 pub mod FrontLemmas
 pub mod GatherLemmas
+pub mod GroupStart
 pub mod Halves
 pub mod JournalsIn
 pub mod Lifting
+pub mod MachineLemmas
 pub mod Merging
 pub mod NoteLemmas
 pub mod OnceLemmas
