@@ -1,0 +1,46 @@
+-- The objects of a record by number, with the words that name them.
+use Rattle.std.specs.Prelude.{ℕ, cond, List, [], ◌∷◌, ◌++◌, map, codes}
+use Rattle.std.specs.List.{flat_map, range_with_len}
+use Rattle.std.specs.Fmt.{decimal}
+use Rattle.workload.specs.declared.object.ObjectKind.{ObjectKind}
+use Rattle.workload.specs.declared.object.ObjectKind.TheVariants as objects
+use Rattle.workload.specs.declared.object.ObjectLine.{ObjectLine}
+use Rattle.workload.specs.Plan.{Plan}
+use Rattle.run_record.specs.Objects.{is_pool}
+use Rattle.record_text.specs.declared.event.JournalKind.{JournalKind}
+use Rattle.record_text.specs.declared.event.JournalKind.TheVariants as kinds
+
+-- an object's word, and what its journal may have
+pub record Named : Type 0 where
+  pub word : List ℕ
+  pub kind : JournalKind
+
+abbrev pub kind_of : ObjectKind → JournalKind
+kind_of objects.Map = kinds.Empty
+kind_of (objects.Atomic type) = kinds.Empty
+kind_of objects.Mutex = kinds.Mutex
+kind_of objects.RwMutex = kinds.RwMutex
+kind_of (objects.Cond mutex) = kinds.Cond
+kind_of (objects.WaitGroup start) = kinds.WaitGroup
+kind_of (objects.Once atomic delta) = kinds.Once
+kind_of (objects.OnceFunc code) = kinds.Once
+kind_of (objects.OnceValue value) = kinds.Once
+kind_of objects.Pool = kinds.Empty
+
+-- an object that the workload declares goes by its name
+abbrev pub named_object : ObjectLine → Named
+named_object object = record { word = object.name; kind = kind_of object.kind }
+
+-- part P of a pool is `NAME!P`
+abbrev pub named_part : ObjectLine → ℕ → Named
+named_part object part = record { word = object.name ++ 33 ∷ decimal part; kind = kinds.PoolPart }
+
+-- the parts of a pool of so many workers; of any other object none
+abbrev pub named_parts : ℕ → ObjectLine → List Named
+named_parts workers object = cond (is_pool object.kind) (map (named_part object) (range_with_len 0 workers)) []
+
+-- All objects of a record in the order of their numbers: Stop, those of the workload, the parts of its pools, and Starts
+abbrev pub named_in : Plan → List Named
+named_in plan =
+    record { word = codes "!stop"; kind = kinds.Stop }
+    ∷ (map named_object plan.objects ++ flat_map (named_parts plan.workers) plan.objects ++ record { word = codes "!starts"; kind = kinds.Starts } ∷ [])

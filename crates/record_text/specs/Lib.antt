@@ -1,0 +1,10 @@
+pub mod Reading
+pub mod Numbers
+pub mod EventWords
+pub mod AnswerWords
+pub mod Journals
+pub mod ItemLines
+pub mod Written
+pub mod Told
+pub mod Refused
+pub mod Texts

@@ -1,0 +1,14 @@
+//! The text of a record: a workload's text, a line `record`, a line for each item, the outcome, and the lines of the report.
+#![tactic(auto)]
+
+pub mod answer;
+pub mod event;
+pub mod fault;
+pub mod item_line;
+pub mod laws;
+pub mod limits;
+
+pub use answer::{AnswerRow, AnswerWord};
+pub use event::{EventWord, JournalKind};
+pub use fault::{CheckFault, CheckReason};
+pub use item_line::{ItemLine, PlacedReply, Said, Whole};
