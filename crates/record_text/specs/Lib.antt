@@ -2,9 +2,11 @@ pub mod Reading
 pub mod Numbers
 pub mod EventWords
 pub mod AnswerWords
+pub mod Names
 pub mod Journals
 pub mod ItemLines
 pub mod Written
+pub mod Cuts
 pub mod Told
 pub mod Refused
 pub mod Texts

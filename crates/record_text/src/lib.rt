@@ -2,11 +2,18 @@
 #![tactic(auto)]
 
 pub mod answer;
+pub mod answer_reading;
+pub mod cut;
+pub mod directory;
 pub mod event;
+pub mod event_reading;
 pub mod fault;
 pub mod item_line;
+pub mod item_words;
 pub mod laws;
 pub mod limits;
+pub mod number;
+pub mod word;
 
 pub use answer::{AnswerRow, AnswerWord};
 pub use event::{EventWord, JournalKind};
