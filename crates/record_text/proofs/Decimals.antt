@@ -1,5 +1,5 @@
 -- Which words are numbers.
-use Rattle.std.proofs.Common.{◌≡◌, ◌≢◌, ℕ, ◌^◌, ◌<◌, ◌≤◌, zero, suc, Bool, true, false, ◌&&◌, cond, eqb, nat_le, List, [], ◌∷◌, length, get_or, Option, Some, None, refl, sym, ap, ◌∙◌, subst, arith}
+use Rattle.std.proofs.Common.{◌≡◌, ℕ, ◌^◌, ◌<◌, ◌≤◌, zero, suc, Bool, true, false, ◌&&◌, cond, eqb, nat_le, List, [], ◌∷◌, length, get_or, Option, Some, None, refl, sym, ap, ◌∙◌, subst, arith}
 use Rattle.std.specs.Prelude.{nat_lt, IfNone, IfSome}
 use Rattle.std.specs.Str.{all_ascii_digits}
 use Rattle.std.specs.Str.Parse.{digits_value}
@@ -8,7 +8,6 @@ use Rattle.std.proofs.lemmas.Bool.{eqb-true, eq-eqb, false≢true, leb-true, le-
 use Rattle.std.proofs.lemmas.Fmt.{digits_value-decimal, digits_decimal, first_decimal, decimal_nonempty, decimal_digit, decimal_injective}
 use Rattle.std.proofs.lemmas.Str.Parse.{IsNumeralModel, numerals_by_value, tells_all_ascii_digits}
 use Rattle.workload.specs.NumberWords.{is_number, is_number_to, number_of}
-use Rattle.record_text.specs.declared.item_line.Whole.{Whole}
 use Rattle.record_text.specs.declared.item_line.Whole.TheVariants.{Natural, Below}
 use Rattle.record_text.specs.Numbers.{has_64_bits, is_whole, whole_word}
 use Rattle.record_text.specs.Reading.{IsNone, IsRead}

@@ -1,8 +1,12 @@
 -- The replies of a call on a map or an atomic, by their words.
 use Rattle.std.proofs.Common.{◌≡◌, ℕ, Bool, true, false, cond, eqb, List, [], ◌∷◌, codes, refl}
+use Rattle.std.proofs.Common.{Option, Some, None}
+use Rattle.std.specs.Prelude.{◌↔◌, IsTrue, is_some, not}
+use Rattle.std.specs.Borrow.{Bor}
+use Rattle.std.proofs.lemmas.Bool.{false≢true}
+use Rattle.record_text.specs.Cuts.{parts_in}
 use Rattle.std.specs.List.{slice_split, onto_first}
 use Rattle.std.specs.Fmt.{decimal}
-use Rattle.record_text.specs.declared.item_line.PlacedReply.{PlacedReply}
 use Rattle.record_text.specs.declared.item_line.PlacedReply.TheVariants.{Done, Absent, Valued, Truth, Number}
 use Rattle.record_text.specs.AnswerWords.{truth_word}
 use Rattle.record_text.specs.ItemLines.{is_reply, reply_words}
@@ -56,3 +60,10 @@ no_three first second rest Absent fits e = some_part rest (behind_two (codes "-"
 no_three first second rest (Valued value was_there) fits e = some_part rest (behind_two (decimal value) (truth_word was_there) first second _ e)
 no_three first second rest (Truth truth) fits e = absurd cc
 no_three first second rest (Number number) fits e = absurd cc
+
+-- a line has words left exactly where it isn't at its end
+pub ends : (rest : Option (Bor (List ℕ))) (end : Bool) → is_some rest ≡ not end → IsTrue end ↔ (parts_in 32 rest ≡ [])
+ends None true e = (λ t. refl, λ none. refl)
+ends None false e = absurd cc
+ends (Some text) true e = absurd cc
+ends (Some text) false e = (λ f. absurd (false≢true f), λ none. absurd (some_part text.now none))

@@ -1,6 +1,7 @@
 -- The objects of a record by number, with the words that name them.
 use Rattle.std.specs.Prelude.{ℕ, List, [], ◌∷◌, ◌++◌, map, codes, Option}
 use Rattle.std.specs.List.{flat_map, position_from, range_with_len}
+use Rattle.std.specs.Option.{option_map}
 use Rattle.std.specs.Str.{bytes_eq}
 use Rattle.std.specs.Fmt.{decimal}
 use Rattle.workload.specs.declared.object.ObjectKind.{ObjectKind}
@@ -48,3 +49,7 @@ named_in plan =
 -- the number of the first of some objects that a word names
 abbrev pub number_named : List Named → List ℕ → Option ℕ
 number_named names word = position_from (λ named. bytes_eq word named.word) 0 names
+
+-- what the journal of an object may have, if there is the object
+abbrev pub kind_in : Option Named → Option JournalKind
+kind_in named = option_map (λ n. n.kind) named

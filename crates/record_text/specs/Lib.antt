@@ -7,6 +7,9 @@ pub mod Journals
 pub mod ItemLines
 pub mod Written
 pub mod Cuts
+pub mod Parts
 pub mod Told
 pub mod Refused
+pub mod RecordLines
+pub mod Reads
 pub mod Texts
