@@ -8,3 +8,5 @@ mod canonical;
 mod generator;
 #[cfg(test)]
 mod reader;
+#[cfg(test)]
+mod record;

@@ -1,0 +1,14 @@
+pub mod Decimals
+pub mod NameLemmas
+pub mod ReplyLemmas
+pub mod NameReads
+pub mod Cutting
+pub mod Fronts
+pub mod DirectoryLemmas
+pub mod SameWords
+pub mod SaidLemmas
+pub mod PairLemmas
+pub mod WalkLemmas
+pub mod LineLemmas
+pub mod BehindLemmas
+pub mod TextLemmas

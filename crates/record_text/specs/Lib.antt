@@ -1,0 +1,15 @@
+pub mod Reading
+pub mod Numbers
+pub mod EventWords
+pub mod AnswerWords
+pub mod Names
+pub mod Journals
+pub mod ItemLines
+pub mod Written
+pub mod Cuts
+pub mod Parts
+pub mod Told
+pub mod Refused
+pub mod RecordLines
+pub mod Reads
+pub mod Texts

@@ -1,0 +1,28 @@
+//! The text of a record: a workload's text, a line `record`, a line for each item, the outcome, and the lines of the report.
+#![tactic(auto)]
+
+pub mod answer;
+pub mod answer_reading;
+pub mod cut;
+pub mod directory;
+pub mod event;
+pub mod event_reading;
+pub mod fault;
+pub mod front;
+pub mod item_line;
+pub mod item_reading;
+pub mod item_words;
+pub mod laws;
+pub mod limits;
+pub mod line_reading;
+pub mod number;
+pub mod pair;
+pub mod reading;
+pub mod text;
+pub mod word;
+
+pub use answer::{AnswerRow, AnswerWord};
+pub use event::{EventWord, JournalKind};
+pub use fault::{CheckFault, CheckReason};
+pub use item_line::{ItemLine, PlacedReply, Said, Whole};
+pub use reading::{RecordText, read_record};
