@@ -10,6 +10,7 @@ mod merging;
 pub mod replay;
 pub mod row;
 mod rows;
+pub mod walk;
 
 pub use edge::{keep_all_edges, keeps_the_edge_law};
 pub use gathering::journals_of;
@@ -17,3 +18,4 @@ pub use item::JournalItem;
 pub use machine::{declared_follow, follows_kind, is_stops};
 pub use replay::follows_machine;
 pub use row::Row;
+pub use walk::follow_machines;
