@@ -1,6 +1,6 @@
 -- The parts of a workload's pools one by one, and all its objects together.
-use Rattle.std.proofs.Common.{◌≡◌, ◌↔◌, ◌⊎◌, inl, inr, ℕ, zero, suc, ◌+◌, ◌*◌, ◌-◌, ◌<◌, ◌≤◌, Bool, true, false, cond, List, [], ◌∷◌, ◌++◌, length, get_or, Some, slice_get, refl, sym, ap, ◌∙◌, subst, arith}
-use Rattle.std.specs.Prelude.{◌&&◌, not, is_some, count_by}
+use Rattle.std.proofs.Common.{◌≡◌, ◌⊎◌, inl, inr, ℕ, zero, suc, ◌+◌, ◌<◌, ◌≤◌, Bool, true, false, cond, List, [], ◌∷◌, ◌++◌, length, get_or, Some, slice_get, refl, sym, ap, ◌∙◌, subst, arith}
+use Rattle.std.specs.Prelude.{◌&&◌, not, is_some}
 use Rattle.std.proofs.Math.Nat.{eq-or-lt_of_le}
 use Rattle.std.proofs.lemmas.List.{length-map, get_or_default}
 use Rattle.std.proofs.lemmas.Option.{none-some, same_Some, slice_get_within, slice_get-get_or}
@@ -10,7 +10,7 @@ use Rattle.workload.specs.declared.object.ObjectKind.TheVariants as kinds
 use Rattle.workload.specs.declared.object.ObjectKind.TheVariants.{Pool}
 use Rattle.workload.specs.declared.object.ObjectLine.{ObjectLine}
 use Rattle.workload.specs.Draft.{declared_from, is_kind}
-use Rattle.workload.specs.Plan.{Plan, refers, has_dormant}
+use Rattle.workload.specs.Plan.{Plan, refers}
 use Rattle.workload.specs.Puts.{puts_at}
 use Rattle.workload.specs.Readable.{may_join, may_declare}
 use Rattle.run_record.specs.Journals.{IsStops}
@@ -18,7 +18,7 @@ use Rattle.run_record.specs.Objects.{first_part, is_pool, object_count, starts_n
 use Rattle.run_record.specs.Record.{ObjectEntry, stop}
 use Rattle.object_checks.specs.declared.journals.row.Row.{Row}
 use Rattle.object_checks.specs.JournalItems.{entries_in_row, journals_in}
-use Rattle.object_checks.specs.JournalParts.{journal_at, IsMachinePart, IsMachineStarts, DeclaredFollow, PartsFollow, PoolFollows, StartsFollow, FollowMachines}
+use Rattle.object_checks.specs.JournalParts.{journal_at, IsMachinePart, DeclaredFollow, PartsFollow, PoolFollows, StartsFollow, FollowMachines}
 use Rattle.object_checks.proofs.JournalsIn.{mapped}
 
 -- the kinds that a workload declares are in range

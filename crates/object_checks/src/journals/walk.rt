@@ -24,7 +24,7 @@ pub fn follow_machines(
     ensures { IfOk result (λ follow. IsTrue follow ↔ FollowMachines workload.now (journals_in journals.now)) }
 {
     parts_have_numbers_of_their_own();
-    if !are_all(workload, journals.len()) {
+    if !is_object_count(workload, journals.len()) {
         return Ok(false);
     }
     if !is_stops(journals[0].as_slice()) {
@@ -39,8 +39,8 @@ pub fn follow_machines(
     starts_follow(alloc, workload, journals)
 }
 
-/// Whether a record of the workload's run has so many objects.
-pub fn are_all(workload: &Workload, objects: usize) -> bool
+// Whether a record of the workload's run has so many objects.
+fn is_object_count(workload: &Workload, objects: usize) -> bool
     ensures { IsTrue result ↔ (objects ≡ object_count workload.now) }
 {
     parts_have_numbers_of_their_own();
@@ -75,8 +75,8 @@ fn behind_parts(workload: &Workload, objects: usize) -> Option<usize>
     Some(number)
 }
 
-/// Whether the journal of each part of each pool follows the machine of a part.
-pub fn parts_follow(
+// Whether the journal of each part of each pool follows the machine of a part.
+fn parts_follow(
     alloc: Global,
     workload: &Workload,
     journals: &[Seq<Row<'_>>],
@@ -127,8 +127,8 @@ fn part_follows(alloc: Global, room: u32, journal: &[Row<'_>]) -> Result<bool, A
     Ok(follows_machine::<PartCore>(start, journal))
 }
 
-/// Whether the journal of Starts follows its machine, where some workers wait to be started.
-pub fn starts_follow(
+// Whether the journal of Starts follows its machine, where some workers wait to be started.
+fn starts_follow(
     alloc: Global,
     workload: &Workload,
     journals: &[Seq<Row<'_>>],

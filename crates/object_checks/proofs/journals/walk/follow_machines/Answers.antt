@@ -12,7 +12,7 @@ use Rattle.object_checks.proofs.journals.walk.follow_machines.Goals as goal
 
 pub returns-then-not-is_stops : goal.returns-then-not-is_stops
 returns-then-not-is_stops c =
-    let first = stops_first c.args.workload.now c.args.journals.now (c.are_all.ensures.0 c.if-not-are_all.false) c.index-journals-0.result c.index-journals-0.is c.as_slice.result.now c.as_slice.ensures in (
+    let first = stops_first c.args.workload.now c.args.journals.now (c.is_object_count.ensures.0 c.if-not-is_object_count.false) c.index-journals-0.result c.index-journals-0.is c.as_slice.result.now c.as_slice.ensures in (
       λ yes_. absurd (false≢true yes_),
       λ all. absurd (false≢true (sym c.if-not-is_stops.true ∙ c.is_stops.ensures.1 (subst IsStops (sym first) all.stops))),
     )
@@ -24,7 +24,7 @@ pub returns : goal.returns
 returns c =
     let plan = c.args.workload.now in
     let rows = c.args.journals.now in
-    let count = c.are_all.ensures.0 c.if-not-are_all.false in
+    let count = c.is_object_count.ensures.0 c.if-not-is_object_count.false in
     let first = stops_first plan rows count c.index-journals-0.result c.index-journals-0.is c.as_slice.result.now c.as_slice.ensures in
     IfOk-weaker c.starts_follow.result (λ (follow : Bool). IsTrue follow ↔ StartsFollow plan (journals_in rows)) (λ (follow : Bool). IsTrue follow ↔ FollowMachines plan (journals_in rows))
     (λ follow starts. (
