@@ -13,4 +13,5 @@ pub mod OneJournal
 pub mod Replays
 pub mod RowLemmas
 pub mod TakenLemmas
+pub mod WalkLemmas
 pub mod WholeLemmas

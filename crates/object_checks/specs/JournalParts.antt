@@ -66,6 +66,10 @@ abbrev pub PartsFollow : Plan → List (List ObjectEntry) → Type 0
 PartsFollow plan journals = (place part : ℕ) (object : ObjectLine) → slice_get plan.objects place ≡ Some object → object.kind ≡ kinds.Pool → part < plan.workers
     → IsMachinePart (puts_at place plan.scripts) (journal_at journals (first_part plan place + part))
 
+-- of so many parts of a pool, the first of which has this number
+abbrev pub PoolFollows : ℕ → ℕ → ℕ → List (List ObjectEntry) → Type 0
+PoolFollows room first workers journals = (part : ℕ) → part < workers → IsMachinePart room (journal_at journals (first + part))
+
 -- and that of Starts its own, where some workers wait to be started
 abbrev pub StartsFollow : Plan → List (List ObjectEntry) → Type 0
 StartsFollow plan journals = has_dormant plan ≡ true → IsMachineStarts plan.dormant (journal_at journals (starts_number plan))

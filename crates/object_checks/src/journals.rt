@@ -5,15 +5,16 @@ pub mod item;
 pub mod kind;
 mod kinds;
 pub mod laws;
-pub mod machine;
+mod machine;
 mod merging;
 pub mod replay;
 pub mod row;
 mod rows;
+pub mod walk;
 
 pub use edge::{keep_all_edges, keeps_the_edge_law};
 pub use gathering::journals_of;
 pub use item::JournalItem;
-pub use machine::{declared_follow, follows_kind, is_stops};
 pub use replay::follows_machine;
 pub use row::Row;
+pub use walk::follow_machines;

@@ -1,4 +1,4 @@
-//! Whether the journals of a workload's objects follow their machines.
+//! Whether the journals of the objects that a workload declares follow their machines, and what stands on Stop.
 ghost use Rattle.std.specs.Prelude.{◌≡◌, ◌↔◌, ◌<◌, ◌≤◌, ℕ, true, length, Some, slice_get, IfOk, IsTrue};
 ghost use Rattle.workload.specs.declared.object.ObjectLine.{ObjectLine};
 ghost use Rattle.workload.specs.Draft.{is_kind};
@@ -18,7 +18,7 @@ use wait_cores::{GroupCore, NotifyCore, OnceCore};
 use workload::{ObjectKind, ObjectLine};
 
 /// Whether the journal of each of these objects follows the machine of the object's kind. Their journals stand behind that of Stop.
-pub fn declared_follow(
+pub(crate) fn declared_follow(
     alloc: Global,
     workers: u32,
     objects: &[ObjectLine],
@@ -40,7 +40,7 @@ pub fn declared_follow(
 }
 
 /// Whether nothing was done but halts, as on Stop.
-pub fn is_stops(journal: &[Row<'_>]) -> bool
+pub(crate) fn is_stops(journal: &[Row<'_>]) -> bool
     ensures { IsTrue result ↔ IsStops (entries_in_row journal.now) }
 {
     for row in journal {
@@ -52,7 +52,7 @@ pub fn is_stops(journal: &[Row<'_>]) -> bool
 }
 
 /// Whether a journal follows the machine of a kind, from the start that is declared.
-pub fn follows_kind(
+pub(crate) fn follows_kind(
     alloc: Global,
     workers: u32,
     kind: ObjectKind,
