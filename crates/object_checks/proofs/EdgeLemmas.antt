@@ -5,7 +5,6 @@ use Rattle.std.proofs.lemmas.Bool.Decides.{leb_tells}
 use Rattle.std.proofs.lemmas.List.{get_or_past}
 use Rattle.sync_model.specs.Journal.{KeepsEdges}
 use Rattle.run_record.specs.Edges.{frees, takes}
-use Rattle.run_record.specs.Record.{ObjectEntry}
 use Rattle.object_checks.specs.declared.journals.row.Row.{Row}
 use Rattle.object_checks.specs.JournalItems.{entries_in_row, journals_in}
 use Rattle.object_checks.specs.JournalParts.{KeepAllEdges}

@@ -1,5 +1,5 @@
 -- The tables of all workers, and the journals of all objects.
-use Rattle.std.proofs.Common.{◌≡◌, ◌⊎◌, inl, inr, ℕ, zero, suc, ◌+◌, ◌<◌, ◌≤◌, true, false, List, [], ◌∷◌, ◌++◌, length, map, get_or, Some, slice_get, refl, sym, ap, ◌∙◌, subst, arith}
+use Rattle.std.proofs.Common.{◌≡◌, ◌⊎◌, inl, inr, ℕ, ◌+◌, ◌<◌, ◌≤◌, true, false, List, [], ◌∷◌, ◌++◌, length, map, get_or, Some, slice_get, refl, sym, ap, ◌∙◌, subst, arith}
 use Rattle.std.specs.Borrow.{Bor}
 use Rattle.std.specs.List.{filter}
 use Rattle.std.proofs.Math.Nat.{eq-or-lt_of_le}
@@ -7,13 +7,12 @@ use Rattle.std.proofs.lemmas.Bool.{eq-eqb}
 use Rattle.std.proofs.lemmas.Bool.Decides.{leb_tells}
 use Rattle.std.proofs.Math.Dec.{leb}
 use Rattle.std.proofs.lemmas.List.{length-append, length-map, get_or_append_left, get_or_at, get_or_past}
-use Rattle.std.proofs.lemmas.Option.{slice_get_within, get_or_from_slice_get}
+use Rattle.std.proofs.lemmas.Option.{get_or_from_slice_get}
 use Rattle.std.proofs.Math.Nat.{suc-ne-zero}
 use Rattle.run_record.specs.Record.{ObjectEntry}
 use Rattle.object_checks.specs.declared.journals.item.JournalItem.{JournalItem}
 use Rattle.object_checks.specs.declared.journals.row.Row.{Row}
 use Rattle.object_checks.specs.JournalItems.{is_on, items_of, items_on, numbered, numbered_by, IsMerged, AreJournals, entries_in_row, journals_in}
-use Rattle.object_checks.specs.JournalParts.{journal_at}
 use Rattle.object_checks.specs.JournalRows.{items_in, IsWithout}
 use Rattle.object_checks.proofs.JournalsIn.{mapped}
 use Rattle.object_checks.proofs.RowLemmas.{stays}

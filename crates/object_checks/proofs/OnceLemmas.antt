@@ -1,5 +1,5 @@
 -- A once goes on alike, whatever it keeps.
-use Rattle.std.proofs.Common.{◌≡◌, ◌↔◌, ℕ, Bool, true, false, List, [], ◌∷◌, length, map, Option, Some, None, slice_get, refl, sym, ap, ◌∙◌, subst}
+use Rattle.std.proofs.Common.{◌≡◌, ℕ, Bool, true, false, List, [], ◌∷◌, length, map, Option, Some, None, slice_get, refl, sym, ap, ◌∙◌, subst}
 use Rattle.std.specs.Prelude.{◌==◌, nat_lt, if◌then◌else◌}
 use Rattle.sync_types.specs.declared.misuse.Misuse.{Misuse}
 use Rattle.sync_model.specs.declared.journal.Deed.{Deed}
@@ -12,7 +12,7 @@ use Rattle.wait_cores.specs.declared.once.OnceReply.{OnceReply}
 use Rattle.wait_cores.specs.declared.once.OnceProgress.{OnceProgress}
 use Rattle.wait_cores.specs.declared.once.OnceProgress.TheVariants.{NotRun, Running, Ended}
 use Rattle.wait_cores.specs.declared.once.OnceReply.TheVariants as reply
-use Rattle.wait_cores.specs.OnceMachine.{OnceState, next, made, start, begin_from, place_in, leave_with, end_by, callers_of}
+use Rattle.wait_cores.specs.OnceMachine.{OnceState, next, made, begin_from, place_in, leave_with}
 use Rattle.object_checks.specs.JournalOnce.{said_event, said_reply, said_deed, said, event_in, event_of, IsToldBy}
 
 module _ {T : Type 0} (other : T) where

@@ -1,4 +1,4 @@
-use Rattle.std.proofs.Common.{◌≡◌, ◌∙◌, List, [], length, get_or, refl, slice_get, Some, sym, subst}
+use Rattle.std.proofs.Common.{◌≡◌, ◌∙◌, List, [], length, get_or, refl, sym, subst}
 use Rattle.std.proofs.lemmas.Bool.{false≢true}
 use Rattle.std.proofs.lemmas.Option.{slice_get_read, get_or_from_slice_get}
 use Rattle.sync_model.specs.Journal.{KeepsEdges}

@@ -1,4 +1,4 @@
-use Rattle.std.proofs.Common.{◌≡◌, ◌+◌, ◌≤◌, length, refl, slice_get, Some, sym, subst, arith}
+use Rattle.std.proofs.Common.{◌≡◌, ◌+◌, length, refl, slice_get, Some, sym, subst, arith}
 use Rattle.std.proofs.lemmas.Option.{slice_get_read}
 use Rattle.object_checks.proofs.NoteLemmas.{NotesTo, note_more, notes_all}
 use Rattle.object_checks.proofs.journals.edge.notes_of.Goals as goal

@@ -1,4 +1,4 @@
-use Rattle.std.proofs.Common.{◌≡◌, ◌∙◌, ◌≤◌, ℕ, List, sym, ap, subst, arith}
+use Rattle.std.proofs.Common.{◌∙◌, List, sym, ap, subst, arith}
 use Rattle.std.specs.Borrow.{Bor}
 use Rattle.object_checks.specs.declared.journals.item.JournalItem.{JournalItem}
 use Rattle.object_checks.specs.JournalItems.{items_on}
