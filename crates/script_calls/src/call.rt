@@ -44,6 +44,8 @@ pub enum Operation {
     OnceValue,
     /// A call on a pool.
     Pool(PoolCall),
+    /// A call on a plain variable.
+    Var(VarCall),
     /// A call that is made of other calls.
     Composed(ComposedCall),
 }
@@ -70,6 +72,24 @@ pub enum ComposedCall {
     },
 }
 
+/// A call on a plain variable, which is neither locked nor atomic.
+#[derive(Clone, Copy, Drop)]
+pub enum VarCall {
+    /// The value that it holds.
+    Read,
+    /// It holds this value from now on.
+    Write(u64),
+}
+
+/// What a call on a plain variable answers.
+#[derive(Clone, Copy, Drop)]
+pub enum VarReply {
+    /// The value that was read.
+    Held(u64),
+    /// The value was written.
+    Done,
+}
+
 /// What a call answers, where keys are of a type `K`: a name, or a number among the workload's keys.
 #[derive(Drop)]
 pub enum Reply<K> {
@@ -91,6 +111,8 @@ pub enum Reply<K> {
     OnceValue(u64),
     /// The reply of a pool.
     Pool(PoolCallReply),
+    /// The reply of a plain variable.
+    Var(VarReply),
 }
 
 impl Call {

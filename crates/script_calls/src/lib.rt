@@ -6,5 +6,5 @@ pub mod call;
 pub mod laws;
 pub mod outcome;
 
-pub use call::{Call, ComposedCall, Operation, Reply};
+pub use call::{Call, ComposedCall, Operation, Reply, VarCall, VarReply};
 pub use outcome::{Ending, Outcome, Report};

@@ -23,6 +23,8 @@ use Rattle.sync_types.specs.declared.wait_call.WaitGroupCall.{WaitGroupCall}
 use Rattle.sync_types.specs.declared.wait_call.WaitGroupCall.TheVariants as group_calls
 use Rattle.sync_types.specs.declared.pool_call.PoolCall.{PoolCall}
 use Rattle.sync_types.specs.declared.pool_call.PoolCall.TheVariants as pool_calls
+use Rattle.script_calls.specs.declared.call.VarCall.{VarCall}
+use Rattle.script_calls.specs.declared.call.VarCall.TheVariants as var_calls
 use Rattle.sync_types.specs.declared.lock_call.MutexCall.{MutexCall}
 use Rattle.sync_types.specs.declared.lock_call.MutexCall.TheVariants as mutex_calls
 use Rattle.sync_types.specs.declared.lock_call.RwMutexCall.{RwMutexCall}
@@ -42,9 +44,9 @@ use Rattle.workload.specs.declared.keyword.Verb.TheVariants as verbs
 use Rattle.workload.specs.declared.reason.Reason.TheVariants.{WrongKind}
 use Rattle.workload.specs.Plan.{word_of, has_call, has_among}
 use Rattle.workload.specs.NumberWords.{number_word, number_of, is_number_to, is_tries}
-use Rattle.workload.specs.CallWords.{map_verb, map_operands, atomic_verb, atomic_operands, mutex_verb, rw_mutex_verb, cond_verb, group_verb, group_operands, pool_verb, pool_operands, composed_verb, composed_operands, verb_of, operands_of}
-use Rattle.workload.specs.Draft.{Draft, operation_keys, tries_of, may_start, names_second, is_operation, is_map_call, is_group_call, is_pool_call, is_composed_call, is_value, is_range_operation}
-use Rattle.workload.specs.Checks.{map_form, atomic_form, bits_form, mutex_form, rw_mutex_form, cond_form, group_form, pool_form, form_of, first_failing, form_words, wait_for_words, call_form, ranges_in}
+use Rattle.workload.specs.CallWords.{map_verb, map_operands, atomic_verb, atomic_operands, mutex_verb, rw_mutex_verb, cond_verb, group_verb, group_operands, pool_verb, pool_operands, var_verb, var_operands, composed_verb, composed_operands, verb_of, operands_of}
+use Rattle.workload.specs.Draft.{Draft, operation_keys, tries_of, may_start, names_second, is_operation, is_map_call, is_group_call, is_pool_call, is_var_call, is_composed_call, is_value, is_range_operation, is_access_operation}
+use Rattle.workload.specs.Checks.{map_form, atomic_form, bits_form, mutex_form, rw_mutex_form, cond_form, group_form, pool_form, var_form, form_of, first_failing, form_words, wait_for_words, call_form, ranges_in, accesses_in}
 use Rattle.workload.proofs.Passing.{both}
 use Rattle.workload.proofs.FirstFailing.{PassesWith}
 use Rattle.workload.proofs.Numbers.{is_number-decimal, number_of-decimal}
@@ -126,6 +128,10 @@ pool_passes d (pool_calls.Put v) h = (refl, refl, rw (value_passes v h) refl)
 pool_passes d pool_calls.Get h = (refl, refl, refl)
 pool_passes d pool_calls.Sweep h = (refl, refl, refl)
 
+var_passes : (d : Draft) (c : VarCall) → is_var_call c ≡ true → PassesWith d (var_form (var_verb c)) (var_operands c) [] 0
+var_passes d var_calls.Read h = (refl, refl, refl)
+var_passes d (var_calls.Write v) h = (refl, refl, rw (value_passes v h) refl)
+
 composed_passes : (d : Draft) (k : AtomicKind) (c : ComposedCall) → has_call (kinds.Atomic k) (operations.Composed c) ≡ true → is_composed_call c ≡ true → PassesWith d (atomic_form k (composed_verb c)) (composed_operands c) [] 0
 composed_passes d k (IfEqual v n) on h = (refl, refl, rw (number_passes k v on, passes_pass n h) refl)
 composed_passes d k (WaitFor a v n) on h = absurd cc
@@ -144,6 +150,7 @@ alone_passes d (kinds.Once a z) operations.Once on h = (refl, refl, refl)
 alone_passes d (kinds.OnceFunc n) operations.OnceFunc on h = (refl, refl, refl)
 alone_passes d (kinds.OnceValue n) operations.OnceValue on h = (refl, refl, refl)
 alone_passes d kinds.Pool (operations.Pool c) on h = pool_passes d c h
+alone_passes d kinds.Var (operations.Var c) on h = var_passes d c h
 alone_passes d (kinds.Atomic k) (operations.Composed c) on h = composed_passes d k c on h
 alone_passes d kind c on h = absurd cc
 
@@ -205,67 +212,79 @@ call_passes d (kinds.Cond m) second (operations.Composed (WaitFor a v n)) on nam
 call_passes d (kinds.WaitGroup n) second (operations.Composed (Go w)) on named may h = go_passes d w second named may h
 call_passes d kind second o on named may h = alone_call d kind second o on named h
 
--- the word of an operation says whether it is `range`
+-- the word of a call that is neither `range` nor of a plain variable
+abbrev IsOther : Verb → Type 0
+IsOther verb = (0 ≡ ranges_in verb) × (0 ≡ accesses_in verb)
+
+-- the word of an operation says whether it is `range`, and whether it reads or writes a plain variable
+counts_of : (o : Operation) → (count_by is_range_operation (o ∷ []) ≡ ranges_in (verb_of o)) × (count_by is_access_operation (o ∷ []) ≡ accesses_in (verb_of o))
+counts_of (operations.Map c) = other c
+  where
+    other : (c : MapCall (List ℕ)) → IsOther (map_verb c)
+    other (map_calls.Load k) = (refl, refl)
+    other (map_calls.Store k v) = (refl, refl)
+    other (map_calls.LoadOrStore k v) = (refl, refl)
+    other (map_calls.LoadAndDelete k) = (refl, refl)
+    other (map_calls.Delete k) = (refl, refl)
+    other (map_calls.Swap k v) = (refl, refl)
+    other (map_calls.CompareAndSwap k v w) = (refl, refl)
+    other (map_calls.CompareAndDelete k v) = (refl, refl)
+    other map_calls.Clear = (refl, refl)
+counts_of operations.Range = (refl, refl)
+counts_of (operations.Atomic c) = other c
+  where
+    other : (c : AtomicCall) → IsOther (atomic_verb c)
+    other atomic_calls.Load = (refl, refl)
+    other (atomic_calls.Store v) = (refl, refl)
+    other (atomic_calls.Swap v) = (refl, refl)
+    other (atomic_calls.Add v) = (refl, refl)
+    other (atomic_calls.And v) = (refl, refl)
+    other (atomic_calls.Or v) = (refl, refl)
+    other (atomic_calls.CompareAndSwap v w) = (refl, refl)
+counts_of (operations.Mutex c) = other c
+  where
+    other : (c : MutexCall) → IsOther (mutex_verb c)
+    other mutex_calls.Lock = (refl, refl)
+    other mutex_calls.Unlock = (refl, refl)
+    other mutex_calls.TryLock = (refl, refl)
+counts_of (operations.RwMutex c) = other c
+  where
+    other : (c : RwMutexCall) → IsOther (rw_mutex_verb c)
+    other rw_mutex_calls.Lock = (refl, refl)
+    other rw_mutex_calls.Unlock = (refl, refl)
+    other rw_mutex_calls.TryLock = (refl, refl)
+    other rw_mutex_calls.RLock = (refl, refl)
+    other rw_mutex_calls.RUnlock = (refl, refl)
+    other rw_mutex_calls.TryRLock = (refl, refl)
+counts_of (operations.Cond c) = other c
+  where
+    other : (c : CondCall) → IsOther (cond_verb c)
+    other cond_calls.Wait = (refl, refl)
+    other cond_calls.Signal = (refl, refl)
+    other cond_calls.Broadcast = (refl, refl)
+counts_of (operations.WaitGroup c) = other c
+  where
+    other : (c : WaitGroupCall) → IsOther (group_verb c)
+    other (group_calls.Add z) = (refl, refl)
+    other group_calls.Done = (refl, refl)
+    other group_calls.Wait = (refl, refl)
+counts_of operations.Once = (refl, refl)
+counts_of operations.OnceFunc = (refl, refl)
+counts_of operations.OnceValue = (refl, refl)
+counts_of (operations.Pool c) = other c
+  where
+    other : (c : PoolCall) → IsOther (pool_verb c)
+    other (pool_calls.Put v) = (refl, refl)
+    other pool_calls.Get = (refl, refl)
+    other pool_calls.Sweep = (refl, refl)
+counts_of (operations.Var var_calls.Read) = (refl, refl)
+counts_of (operations.Var (var_calls.Write value)) = (refl, refl)
+counts_of (operations.Composed (IfEqual v n)) = (refl, refl)
+counts_of (operations.Composed (WaitFor a v n)) = (refl, refl)
+counts_of (operations.Composed (Go w)) = (refl, refl)
+
 pub ranges_of : (o : Operation) → count_by is_range_operation (o ∷ []) ≡ ranges_in (verb_of o)
-ranges_of (operations.Map c) = no_range c
-  where
-    no_range : (c : MapCall (List ℕ)) → 0 ≡ ranges_in (map_verb c)
-    no_range (map_calls.Load k) = refl
-    no_range (map_calls.Store k v) = refl
-    no_range (map_calls.LoadOrStore k v) = refl
-    no_range (map_calls.LoadAndDelete k) = refl
-    no_range (map_calls.Delete k) = refl
-    no_range (map_calls.Swap k v) = refl
-    no_range (map_calls.CompareAndSwap k v w) = refl
-    no_range (map_calls.CompareAndDelete k v) = refl
-    no_range map_calls.Clear = refl
-ranges_of operations.Range = refl
-ranges_of (operations.Atomic c) = no_range c
-  where
-    no_range : (c : AtomicCall) → 0 ≡ ranges_in (atomic_verb c)
-    no_range atomic_calls.Load = refl
-    no_range (atomic_calls.Store v) = refl
-    no_range (atomic_calls.Swap v) = refl
-    no_range (atomic_calls.Add v) = refl
-    no_range (atomic_calls.And v) = refl
-    no_range (atomic_calls.Or v) = refl
-    no_range (atomic_calls.CompareAndSwap v w) = refl
-ranges_of (operations.Mutex c) = no_range c
-  where
-    no_range : (c : MutexCall) → 0 ≡ ranges_in (mutex_verb c)
-    no_range mutex_calls.Lock = refl
-    no_range mutex_calls.Unlock = refl
-    no_range mutex_calls.TryLock = refl
-ranges_of (operations.RwMutex c) = no_range c
-  where
-    no_range : (c : RwMutexCall) → 0 ≡ ranges_in (rw_mutex_verb c)
-    no_range rw_mutex_calls.Lock = refl
-    no_range rw_mutex_calls.Unlock = refl
-    no_range rw_mutex_calls.TryLock = refl
-    no_range rw_mutex_calls.RLock = refl
-    no_range rw_mutex_calls.RUnlock = refl
-    no_range rw_mutex_calls.TryRLock = refl
-ranges_of (operations.Cond c) = no_range c
-  where
-    no_range : (c : CondCall) → 0 ≡ ranges_in (cond_verb c)
-    no_range cond_calls.Wait = refl
-    no_range cond_calls.Signal = refl
-    no_range cond_calls.Broadcast = refl
-ranges_of (operations.WaitGroup c) = no_range c
-  where
-    no_range : (c : WaitGroupCall) → 0 ≡ ranges_in (group_verb c)
-    no_range (group_calls.Add z) = refl
-    no_range group_calls.Done = refl
-    no_range group_calls.Wait = refl
-ranges_of operations.Once = refl
-ranges_of operations.OnceFunc = refl
-ranges_of operations.OnceValue = refl
-ranges_of (operations.Pool c) = no_range c
-  where
-    no_range : (c : PoolCall) → 0 ≡ ranges_in (pool_verb c)
-    no_range (pool_calls.Put v) = refl
-    no_range pool_calls.Get = refl
-    no_range pool_calls.Sweep = refl
-ranges_of (operations.Composed (IfEqual v n)) = refl
-ranges_of (operations.Composed (WaitFor a v n)) = refl
-ranges_of (operations.Composed (Go w)) = refl
+ranges_of o = (counts_of o).0
+
+pub accesses_of : (o : Operation) → count_by is_access_operation (o ∷ []) ≡ accesses_in (verb_of o)
+accesses_of o = (counts_of o).1

@@ -13,6 +13,8 @@ use Rattle.sync_types.specs.declared.wait_call.WaitGroupCall.{WaitGroupCall}
 use Rattle.sync_types.specs.declared.wait_call.WaitGroupCall.TheVariants as group_calls
 use Rattle.sync_types.specs.declared.pool_call.PoolCall.{PoolCall}
 use Rattle.sync_types.specs.declared.pool_call.PoolCall.TheVariants as pool_calls
+use Rattle.script_calls.specs.declared.call.VarCall.{VarCall}
+use Rattle.script_calls.specs.declared.call.VarCall.TheVariants as var_calls
 use Rattle.sync_types.specs.declared.atomic_object.AtomicKind.{AtomicKind}
 use Rattle.sync_types.specs.declared.atomic_object.AtomicKind.TheVariants as types
 use Rattle.sync_types.specs.declared.atomic_object.Number.{Number}
@@ -30,8 +32,8 @@ use Rattle.script_calls.specs.declared.call.Operation.TheVariants as operations
 use Rattle.workload.specs.declared.object.ObjectWord.TheVariants as words
 use Rattle.workload.specs.Plan.{is_amount, has_operation}
 use Rattle.workload.specs.NumberWords.{is_amount_word, is_passes, is_passes_word, is_tries, is_tries_word, number_word, number_of, is_number, is_number_to, is_signed_word, is_number_between, is_number_word}
-use Rattle.workload.specs.CallWords.{map_verb, map_operands, atomic_verb, atomic_operands, group_verb, group_operands, pool_verb, pool_operands, composed_verb, composed_operands}
-use Rattle.workload.specs.Draft.{is_map_call, is_group_call, is_pool_call, is_composed_call, is_value}
+use Rattle.workload.specs.CallWords.{map_verb, map_operands, atomic_verb, atomic_operands, group_verb, group_operands, pool_verb, pool_operands, var_verb, var_operands, composed_verb, composed_operands}
+use Rattle.workload.specs.Draft.{is_map_call, is_group_call, is_pool_call, is_var_call, is_composed_call, is_value}
 use Rattle.workload.proofs.Passing.{both, pair}
 use Rattle.workload.proofs.Numbers.{decimal-number_of, number_of-decimal, is_number-decimal}
 
@@ -287,6 +289,16 @@ pub pool_call_spelled : (c : PoolCall) → is_pool_call c ≡ true → pool_call
 pool_call_spelled (pool_calls.Put v) h = ap (λ (n : ℕ). Some (pool_calls.Put n)) (value_back v h)
 pool_call_spelled pool_calls.Get h = refl
 pool_call_spelled pool_calls.Sweep h = refl
+
+-- the call of a plain variable of this word with these operands
+abbrev pub var_call_at : Verb → List (List ℕ) → Option VarCall
+var_call_at verbs.Read [] = Some var_calls.Read
+var_call_at verbs.Write (v ∷ []) = Some (var_calls.Write (number_of v))
+var_call_at verb words = None
+
+pub var_call_spelled : (c : VarCall) → is_var_call c ≡ true → var_call_at (var_verb c) (var_operands c) ≡ Some c
+var_call_spelled var_calls.Read h = refl
+var_call_spelled (var_calls.Write v) h = ap (λ (n : ℕ). Some (var_calls.Write n)) (value_back v h)
 
 -- ---- calls that are made of others
 

@@ -18,7 +18,7 @@ use Rattle.script_calls.specs.declared.call.Operation.{Operation}
 use Rattle.script_calls.specs.declared.call.Operation.TheVariants as operations
 use Rattle.script_calls.specs.Starts.{started_by, starts, start_count}
 use Rattle.sync_types.specs.declared.atomic_object.AtomicKind.TheVariants as types
-use Rattle.workload.specs.declared.limits.TheConstants.{MAX_ALL_TRIES, MAX_CALLS, MAX_KEYS, MAX_RANGES, MAX_TURNS}
+use Rattle.workload.specs.declared.limits.TheConstants.{MAX_ACCESSES, MAX_ALL_TRIES, MAX_CALLS, MAX_KEYS, MAX_RANGES, MAX_TURNS}
 use Rattle.workload.specs.declared.object.Declared.{Declared}
 use Rattle.workload.specs.declared.object.ObjectKind.{ObjectKind}
 use Rattle.workload.specs.declared.object.ObjectKind.TheVariants as kinds
@@ -28,7 +28,7 @@ use Rattle.workload.specs.declared.object.ObjectLine.{ObjectLine}
 use Rattle.workload.specs.declared.line.Line.TheVariants as lines
 use Rattle.workload.specs.declared.turn.Turn.{Turn}
 use Rattle.workload.specs.Plan.{Plan, word_of, reference_of, is_target, refers, has_call, has_among, is_on, starts_dormant}
-use Rattle.workload.specs.Draft.{Draft, started, may_start, may_follow, declared_from, count_of, count_together, limit_of, is_kind, names_reference, names_object, is_call, is_item, keys_of, all_keys, distinct_count, key_count, call_count, is_range, range_count, tries_of, try_count, names_second}
+use Rattle.workload.specs.Draft.{Draft, started, may_start, may_follow, declared_from, count_of, count_together, limit_of, is_kind, names_reference, names_object, is_call, is_item, keys_of, all_keys, distinct_count, key_count, call_count, is_range, range_count, tries_of, try_count, is_access, access_count, names_second}
 use Rattle.workload.specs.Canonical.{name_of, reference_name, second_name, object_line, call_line, dormant_lines, script_lines, eights, canonical_lines}
 use Rattle.workload.specs.Readable.{may_join, may_declare, IsReadable}
 use Rattle.workload.proofs.Passing.{both, pair, not_true}
@@ -76,6 +76,7 @@ same_limit words.Once words.Once os e = (refl, refl)
 same_limit words.OnceFunc words.OnceFunc os e = (refl, refl)
 same_limit words.OnceValue words.OnceValue os e = (refl, refl)
 same_limit words.Pool words.Pool os e = (refl, refl)
+same_limit words.Var words.Var os e = (refl, refl)
 same_limit v w os e = absurd cc
 
 counts_one : (b : Bool) → b ≡ true → ◌≡◌ {A = ℕ} (cond b 1 0) 1
@@ -112,14 +113,14 @@ limits_kept w (o ∷ os) others within h =
 abbrev counts : List ObjectLine → ℕ
 counts os =
     count_of words.Map os + (count_of (words.Atomic types.Bool) os + (count_of words.Mutex os + (count_of words.RwMutex os + (count_of words.Cond os
-    + (count_of words.WaitGroup os + (count_of words.Once os + (count_of words.OnceFunc os + (count_of words.OnceValue os + count_of words.Pool os))))))))
+    + (count_of words.WaitGroup os + (count_of words.Once os + (count_of words.OnceFunc os + (count_of words.OnceValue os + (count_of words.Pool os + count_of words.Var os)))))))))
 
 abbrev one_if : ObjectWord → ObjectWord → ℕ
 one_if v w = cond (count_together v w) 1 0
 
 one_word : (w : ObjectWord)
     → one_if words.Map w + (one_if (words.Atomic types.Bool) w + (one_if words.Mutex w + (one_if words.RwMutex w + (one_if words.Cond w
-    + (one_if words.WaitGroup w + (one_if words.Once w + (one_if words.OnceFunc w + (one_if words.OnceValue w + one_if words.Pool w)))))))) ≡ 1
+    + (one_if words.WaitGroup w + (one_if words.Once w + (one_if words.OnceFunc w + (one_if words.OnceValue w + (one_if words.Pool w + one_if words.Var w))))))))) ≡ 1
 one_word words.Map = refl
 one_word (words.Atomic k) = refl
 one_word words.Mutex = refl
@@ -130,6 +131,7 @@ one_word words.Once = refl
 one_word words.OnceFunc = refl
 one_word words.OnceValue = refl
 one_word words.Pool = refl
+one_word words.Var = refl
 
 -- each object counts with one word
 words_counted : (os : List ObjectLine) → length os ≡ counts os
@@ -148,12 +150,13 @@ words_counted (o ∷ os) =
       with_one words.OnceFunc,
       with_one words.OnceValue,
       with_one words.Pool,
+      with_one words.Var,
       one_word (word_of o.kind),
       words_counted os,
     )
 
 -- there are at most 16 maps, 64 atomics, and 32 objects of each other word
-pub few_objects : (os : List ObjectLine) → may_declare [] os ≡ true → length os ≤ 336
+pub few_objects : (os : List ObjectLine) → may_declare [] os ≡ true → length os ≤ 368
 few_objects os h =
     let few = λ (w : ObjectWord). limits_kept w os [] (omega arith) h in
     omega (
@@ -169,6 +172,7 @@ few_objects os h =
       few words.OnceFunc,
       few words.OnceValue,
       few words.Pool,
+      few words.Var,
     )
 
 -- ---- names
@@ -332,6 +336,15 @@ tries-middle done script more = sums-middle (λ call. tries_of call.operation) d
 tries_fit : (done : List (List Call)) (front rest : List Call) (c : Call) (more : List (List Call)) → try_count (done ++ (front ∷ more)) + tries_of c.operation ≤ try_count (done ++ ((front ++ (c ∷ rest)) ∷ more))
 tries_fit done front rest c more = sums_fit (λ call. tries_of call.operation) done front rest c more
 
+accesses-middle : (done : List (List Call)) (script : List Call) (more : List (List Call)) → access_count (done ++ (script ∷ more)) ≡ access_count done + (count_by is_access script + access_count more)
+accesses-middle done script more = sums-middle (λ call. cond (is_access call) 1 0) done script more
+
+-- one more call keeps the limit on reads and writes where all calls do
+accesses_fit : (done : List (List Call)) (front rest : List Call) (c : Call) (more : List (List Call)) → access_count (done ++ (front ∷ more)) + count_by is_access (c ∷ []) ≤ access_count (done ++ ((front ++ (c ∷ rest)) ∷ more))
+accesses_fit done front rest c more =
+    let fit : access_count (done ++ (front ∷ more)) + cond (is_access c) 1 0 ≤ access_count (done ++ ((front ++ (c ∷ rest)) ∷ more)) = sums_fit (λ call. cond (is_access call) 1 0) done front rest c more in
+    omega (arith, fit)
+
 starts-middle : (worker : ℕ) (done : List (List Call)) (script : List Call) (more : List (List Call)) → start_count worker (done ++ (script ∷ more)) ≡ start_count worker done + (count_by (starts worker) script + start_count worker more)
 starts-middle worker done script more = sums-middle (λ call. cond (starts worker call) 1 0) done script more
 
@@ -382,6 +395,7 @@ record CallsFit (objects : List ObjectLine) (dormant : List Bool) (done : List (
   keys : distinct_count (all_keys (done ++ ((front ++ rest) ∷ more))) ≤ MAX_KEYS
   ranges : range_count (done ++ ((front ++ rest) ∷ more)) ≤ MAX_RANGES
   tries : try_count (done ++ ((front ++ rest) ∷ more)) ≤ MAX_ALL_TRIES
+  accesses : access_count (done ++ ((front ++ rest) ∷ more)) ≤ MAX_ACCESSES
   waits : list_all (λ call. starts_dormant dormant call.operation) rest ≡ true
   once : (worker : ℕ) → start_count worker (done ++ ((front ++ rest) ∷ more)) ≤ 1
 
@@ -402,12 +416,14 @@ calls_follow workers objects dormant schedule done (c ∷ rest) front more new l
     le-leb (range_count (done ++ (front ∷ more)) + count_by is_range (c ∷ [])) MAX_RANGES (omega (arith, fit.ranges, ranges_fit done front rest c more)) in
     let tries : nat_le (try_count (done ++ (front ∷ more)) + tries_of c.operation) MAX_ALL_TRIES ≡ true =
     le-leb (try_count (done ++ (front ∷ more)) + tries_of c.operation) MAX_ALL_TRIES (omega (arith, fit.tries, tries_fit done front rest c more)) in
+    let accesses : nat_le (access_count (done ++ (front ∷ more)) + count_by is_access (c ∷ [])) MAX_ACCESSES ≡ true =
+    le-leb (access_count (done ++ (front ∷ more)) + count_by is_access (c ∷ [])) MAX_ACCESSES (omega (arith, fit.accesses, accesses_fit done front rest c more)) in
     let second = second_named d named.2 c.operation new named.3 in
     let wait : Call → Bool = λ call. starts_dormant dormant call.operation in
     let waits = both (wait c) (list_all wait rest) fit.waits in
     let start : may_start d c.operation ≡ true =
     start_fits d (started_by c.operation) (λ worker. start_count worker (done ++ ((front ++ (c ∷ rest)) ∷ more))) long waits.0 (λ worker. sums_fit (λ call. cond (starts worker call) 1 0) done front rest c more) fit.once in
-    let follows : may_follow d (call_line objects c) ≡ true = rw (named.0, named.1, second, fits.0, start, room, keys, ranges, tries) refl in
+    let follows : may_follow d (call_line objects c) ≡ true = rw (named.0, named.1, second, fits.0, start, room, keys, ranges, tries, accesses) refl in
     let moved : front ++ (c ∷ rest) ≡ (front ++ c ∷ []) ++ rest = sym (append_assoc front (c ∷ []) rest) in
     let put : set (done ++ (front ∷ more)) (length done) (get_or (done ++ (front ∷ more)) (length done) [] ++ c ∷ []) ≡ done ++ ((front ++ c ∷ []) ∷ more) =
     ap (λ (f : List Call). set (done ++ (front ∷ more)) (length done) (f ++ c ∷ [])) (get_or-append_seam done front more []) ∙ set-append_seam done front more (front ++ c ∷ []) in
@@ -419,6 +435,7 @@ calls_follow workers objects dormant schedule done (c ∷ rest) front more new l
       keys = subst (λ (f : List Call). distinct_count (all_keys (done ++ (f ∷ more))) ≤ MAX_KEYS) moved fit.keys;
       ranges = subst (λ (f : List Call). range_count (done ++ (f ∷ more)) ≤ MAX_RANGES) moved fit.ranges;
       tries = subst (λ (f : List Call). try_count (done ++ (f ∷ more)) ≤ MAX_ALL_TRIES) moved fit.tries;
+      accesses = subst (λ (f : List Call). access_count (done ++ (f ∷ more)) ≤ MAX_ACCESSES) moved fit.accesses;
       waits = waits.1;
       once = λ worker. subst (λ (f : List Call). start_count worker (done ++ (f ∷ more)) ≤ 1) moved (fit.once worker);
     }) in (
@@ -477,6 +494,10 @@ empty_tries : (n : ℕ) → try_count (replicate n []) ≡ 0
 empty_tries zero = refl
 empty_tries (suc n) = empty_tries n
 
+empty_accesses : (n : ℕ) → access_count (replicate n []) ≡ 0
+empty_accesses zero = refl
+empty_accesses (suc n) = empty_accesses n
+
 empty_calls : (n : ℕ) → call_count (replicate n []) ≡ 0
 empty_calls zero = refl
 empty_calls (suc n) = empty_calls n
@@ -489,6 +510,7 @@ record ScriptsFit (objects : List ObjectLine) (dormant : List Bool) (done rest :
   keys : distinct_count (all_keys (done ++ rest)) ≤ MAX_KEYS
   ranges : range_count (done ++ rest) ≤ MAX_RANGES
   tries : try_count (done ++ rest) ≤ MAX_ALL_TRIES
+  accesses : access_count (done ++ rest) ≤ MAX_ACCESSES
   waits : list_all (list_all (λ call. starts_dormant dormant call.operation)) rest ≡ true
   once : (worker : ℕ) → start_count worker (done ++ rest) ≤ 1
 
@@ -512,10 +534,11 @@ scripts_follow workers objects dormant schedule (s ∷ rest) done worker new lon
     ) in
     let some_ranges : range_count (done ++ (s ∷ more)) ≤ MAX_RANGES = omega (arith, fit.ranges, ranges-middle done s more, ranges-middle done s rest, empty_ranges (length rest)) in
     let some_tries : try_count (done ++ (s ∷ more)) ≤ MAX_ALL_TRIES = omega (arith, fit.tries, tries-middle done s more, tries-middle done s rest, empty_tries (length rest)) in
+    let some_accesses : access_count (done ++ (s ∷ more)) ≤ MAX_ACCESSES = omega (arith, fit.accesses, accesses-middle done s more, accesses-middle done s rest, empty_accesses (length rest)) in
     let wait : Call → Bool = λ call. starts_dormant dormant call.operation in
     let waits = both (list_all wait s) (list_all (list_all wait) rest) fit.waits in
     let once : (w : ℕ) → start_count w (done ++ (s ∷ more)) ≤ 1 = λ w. omega (arith, fit.once w, starts-middle w done s more, starts-middle w done s rest, no_starts w (length rest)) in
-    let calls = calls_follow workers objects dormant schedule done s [] more new long (record { on = on.0; fits = fits.0; room = room; keys = some_keys; ranges = some_ranges; tries = some_tries; waits = waits.0; once = once }) in
+    let calls = calls_follow workers objects dormant schedule done s [] more new long (record { on = on.0; fits = fits.0; room = room; keys = some_keys; ranges = some_ranges; tries = some_tries; accesses = some_accesses; waits = waits.0; once = once }) in
     let inside : nat_lt (length done) workers ≡ true = lt-ltb (length done) workers (omega arith) in
     let behind = scripts_follow workers objects dormant schedule rest (done ++ s ∷ []) (Some (length done)) new long (omega (arith, length-append done (s ∷ []))) (record {
       on = on.1;
@@ -524,6 +547,7 @@ scripts_follow workers objects dormant schedule (s ∷ rest) done worker new lon
       keys = subst (λ (x : List (List Call)). distinct_count (all_keys x) ≤ MAX_KEYS) moved fit.keys;
       ranges = subst (λ (x : List (List Call)). range_count x ≤ MAX_RANGES) moved fit.ranges;
       tries = subst (λ (x : List (List Call)). try_count x ≤ MAX_ALL_TRIES) moved fit.tries;
+      accesses = subst (λ (x : List (List Call)). access_count x ≤ MAX_ACCESSES) moved fit.accesses;
       waits = waits.1;
       once = λ w. subst (λ (x : List (List Call)). start_count w x ≤ 1) moved (fit.once w);
     }) in
@@ -581,7 +605,7 @@ canonical_follows plan h =
     let v = valid_parts plan h.valid in
     let first = objects_follow plan.objects plan.objects (started plan.workers) refl refl h.objects in
     let second = dormant_follow plan.workers plan.objects plan.dormant [] (omega (arith, v.dormant)) in
-    let third = scripts_follow plan.workers plan.objects plan.dormant [] plan.scripts [] None h.objects v.dormant (omega (arith, v.scripts)) (record { on = v.calls; fits = h.calls; room = h.call_room; keys = h.key_room; ranges = h.range_room; tries = h.try_room; waits = v.starts; once = h.starts }) in
+    let third = scripts_follow plan.workers plan.objects plan.dormant [] plan.scripts [] None h.objects v.dormant (omega (arith, v.scripts)) (record { on = v.calls; fits = h.calls; room = h.call_room; keys = h.key_room; ranges = h.range_room; tries = h.try_room; accesses = h.access_room; waits = v.starts; once = h.starts }) in
     let fourth = schedule_follows (length plan.schedule) plan.workers plan.objects plan.dormant plan.scripts third.0 plan.schedule [] (omega arith) h.items (omega (arith, h.turn_room)) in
     let unnamed : wait plan.workers plan.objects (replicate plan.workers false) ≡ wait plan.workers plan.objects (replicate (length plan.dormant) false) = ap (λ (n : ℕ). wait plan.workers plan.objects (replicate n false)) (sym v.dormant) in
     let start : wait plan.workers plan.objects plan.dormant ≡ at plan.workers plan.objects plan.dormant [] (replicate (length plan.scripts) []) None = ap (λ (n : ℕ). at plan.workers plan.objects plan.dormant [] (replicate n []) None) (sym v.scripts) in
@@ -596,7 +620,7 @@ canonical_follows plan h =
     )
 
 -- and are not many
-pub canonical_count : (plan : Plan) → IsReadable plan → length (canonical_lines plan) ≤ 32900
+pub canonical_count : (plan : Plan) → IsReadable plan → length (canonical_lines plan) ≤ 33000
 canonical_count plan h =
     let v = valid_parts plan h.valid in
     omega (

@@ -9,7 +9,7 @@ use Rattle.std.specs.Cmp.Lexicographic.{slice_cmp, nat_list_cmp_total}
 use Rattle.std.specs.FinMap.{FinMap, get, insert, empty, from_entries, get-empty, get-insert}
 use Rattle.std.proofs.lemmas.Bool.{eqb-true, eq-eqb, ltb-true, leb-true}
 use Rattle.std.proofs.lemmas.List.Folds.{list_any-append}
-use Rattle.workload.specs.declared.limits.TheConstants.{MAX_ALL_TRIES, MAX_CALLS, MAX_KEYS, MAX_RANGES, MAX_TURNS, MAX_WORKERS}
+use Rattle.workload.specs.declared.limits.TheConstants.{MAX_ACCESSES, MAX_ALL_TRIES, MAX_CALLS, MAX_KEYS, MAX_RANGES, MAX_TURNS, MAX_WORKERS}
 use Rattle.std.proofs.lemmas.Slice.Eq.{bytes_eq-Decides}
 use Rattle.std.proofs.lemmas.Map.Text.{is_eq-slice_cmp}
 use Rattle.std.proofs.lemmas.List.{length-set, length-append, length-replicate, append-nil}
@@ -27,7 +27,7 @@ use Rattle.workload.specs.declared.turn.Turn.TheVariants as turns
 use Rattle.workload.specs.declared.object.ObjectKind.{ObjectKind}
 use Rattle.workload.specs.declared.object.ObjectKind.TheVariants as kinds
 use Rattle.workload.specs.Plan.{Plan, reference_of, is_target, refers, may_hold, has_among, is_on, is_turn, starts_dormant, is_valid}
-use Rattle.workload.specs.Draft.{Draft, names_reference, declared_from, names_object, is_call, is_item, may_follow, call_count, key_count, keys_of, all_keys, distinct_count, is_range, range_count, tries_of, try_count}
+use Rattle.workload.specs.Draft.{Draft, names_reference, declared_from, names_object, is_call, is_item, may_follow, call_count, key_count, keys_of, all_keys, distinct_count, is_range, range_count, tries_of, try_count, is_access, access_count}
 use Rattle.workload.specs.Readable.{may_join, may_declare}
 use Rattle.workload.specs.Index.{IsIndexed, marked, with_keys, marks}
 use Rattle.workload.proofs.Passing.{both, pair, all_mono, all_set, all_append, all_at}
@@ -186,10 +186,10 @@ object_joins d o to follows =
     rw (h.name, h.new, names_refers d o.kind to h.reference, h.kind, h.room) refl
 
 -- one more object keeps the tables
-pub indexed_object : (plan : Plan) (worker : Option ℕ) (table : FinMap (slice_cmp nat_cmp) Declared) (seen : FinMap (slice_cmp nat_cmp) (Unit {0})) (begun : List Bool) (number many tried : ℕ) (o : ObjectLine) (to : Option (List ℕ))
-    → IsIndexed plan worker table seen begun number many tried → may_follow (record { plan = plan; current = worker }) (lines.Object o to) ≡ true
-    → IsIndexed (record plan { objects = plan.objects ++ o ∷ [] }) worker (insert table o.name (record { place = length plan.objects; kind = o.kind })) seen begun number many tried
-indexed_object plan worker table seen begun number many tried o to h follows =
+pub indexed_object : (plan : Plan) (worker : Option ℕ) (table : FinMap (slice_cmp nat_cmp) Declared) (seen : FinMap (slice_cmp nat_cmp) (Unit {0})) (begun : List Bool) (number many tried read : ℕ) (o : ObjectLine) (to : Option (List ℕ))
+    → IsIndexed plan worker table seen begun number many tried read → may_follow (record { plan = plan; current = worker }) (lines.Object o to) ≡ true
+    → IsIndexed (record plan { objects = plan.objects ++ o ∷ [] }) worker (insert table o.name (record { place = length plan.objects; kind = o.kind })) seen begun number many tried read
+indexed_object plan worker table seen begun number many tried read o to h follows =
     let r = h.readable in
     let v = valid_parts plan r.valid in
     let d : Draft = record { plan = plan; current = worker } in
@@ -216,6 +216,7 @@ indexed_object plan worker table seen begun number many tried o to h follows =
         key_room = r.key_room;
         range_room = r.range_room;
         try_room = r.try_room;
+        access_room = r.access_room;
         starts = r.starts;
         items = r.items;
         turn_room = r.turn_room;
@@ -228,13 +229,14 @@ indexed_object plan worker table seen begun number many tried o to h follows =
       calls = h.calls;
       ranges = h.ranges;
       tries = h.tries;
+      variables = h.variables;
     }
 
 -- one more worker that waits to be started keeps the tables
-pub indexed_dormant : (plan : Plan) (worker : Option ℕ) (table : FinMap (slice_cmp nat_cmp) Declared) (seen : FinMap (slice_cmp nat_cmp) (Unit {0})) (begun : List Bool) (number many tried : ℕ) (started : ℕ)
-    → IsIndexed plan worker table seen begun number many tried
-    → IsIndexed (record plan { dormant = set plan.dormant started true }) worker table seen begun number many tried
-indexed_dormant plan worker table seen begun number many tried started h =
+pub indexed_dormant : (plan : Plan) (worker : Option ℕ) (table : FinMap (slice_cmp nat_cmp) Declared) (seen : FinMap (slice_cmp nat_cmp) (Unit {0})) (begun : List Bool) (number many tried read : ℕ) (started : ℕ)
+    → IsIndexed plan worker table seen begun number many tried read
+    → IsIndexed (record plan { dormant = set plan.dormant started true }) worker table seen begun number many tried read
+indexed_dormant plan worker table seen begun number many tried read started h =
     let r = h.readable in
     let v = valid_parts plan r.valid in
     record {
@@ -255,6 +257,7 @@ indexed_dormant plan worker table seen begun number many tried started h =
         key_room = r.key_room;
         range_room = r.range_room;
         try_room = r.try_room;
+        access_room = r.access_room;
         starts = r.starts;
         items = r.items;
         turn_room = r.turn_room;
@@ -267,6 +270,7 @@ indexed_dormant plan worker table seen begun number many tried started h =
       calls = h.calls;
       ranges = h.ranges;
       tries = h.tries;
+      variables = h.variables;
     }
 
 item_is_turn : (workers : ℕ) (turn : Turn) → is_item workers turn ≡ true → is_turn workers turn ≡ true
@@ -274,10 +278,10 @@ item_is_turn workers (turns.Worker worker) e = e
 item_is_turn workers (turns.Moment moment) e = refl
 
 -- more turns keep the tables
-pub indexed_turns : (plan : Plan) (worker : Option ℕ) (table : FinMap (slice_cmp nat_cmp) Declared) (seen : FinMap (slice_cmp nat_cmp) (Unit {0})) (begun : List Bool) (number many tried : ℕ) (more : List Turn)
-    → IsIndexed plan worker table seen begun number many tried → may_follow (record { plan = plan; current = worker }) (lines.Schedule more) ≡ true
-    → IsIndexed (record plan { schedule = plan.schedule ++ more }) worker table seen begun number many tried
-indexed_turns plan worker table seen begun number many tried more h follows =
+pub indexed_turns : (plan : Plan) (worker : Option ℕ) (table : FinMap (slice_cmp nat_cmp) Declared) (seen : FinMap (slice_cmp nat_cmp) (Unit {0})) (begun : List Bool) (number many tried read : ℕ) (more : List Turn)
+    → IsIndexed plan worker table seen begun number many tried read → may_follow (record { plan = plan; current = worker }) (lines.Schedule more) ≡ true
+    → IsIndexed (record plan { schedule = plan.schedule ++ more }) worker table seen begun number many tried read
+indexed_turns plan worker table seen begun number many tried read more h follows =
     let r = h.readable in
     let v = valid_parts plan r.valid in
     let items = (schedule_follows (record { plan = plan; current = worker }) more follows).items in
@@ -299,6 +303,7 @@ indexed_turns plan worker table seen begun number many tried more h follows =
         key_room = r.key_room;
         range_room = r.range_room;
         try_room = r.try_room;
+        access_room = r.access_room;
         starts = r.starts;
         items = all_append (is_item plan.workers) plan.schedule more r.items items;
         turn_room = omega (arith, length-append plan.schedule more, leb-true (length plan.schedule + length more) MAX_TURNS (schedule_follows (record { plan = plan; current = worker }) more follows).room);
@@ -311,13 +316,14 @@ indexed_turns plan worker table seen begun number many tried more h follows =
       calls = h.calls;
       ranges = h.ranges;
       tries = h.tries;
+      variables = h.variables;
     }
 
 -- one more call keeps the tables
-pub indexed_call : (plan : Plan) (worker : ℕ) (table : FinMap (slice_cmp nat_cmp) Declared) (seen : FinMap (slice_cmp nat_cmp) (Unit {0})) (begun : List Bool) (number many tried : ℕ) (name : List ℕ) (second : Option (List ℕ)) (call : Call)
-    → IsIndexed plan (Some worker) table seen begun number many tried → may_follow (record { plan = plan; current = Some worker }) (lines.Call name second call) ≡ true
-    → IsIndexed (record plan { scripts = set plan.scripts worker (get_or plan.scripts worker [] ++ call ∷ []) }) (Some worker) table (with_keys seen (keys_of call)) (marked begun (started_by call.operation)) (number + 1) (many + count_by is_range (call ∷ [])) (tried + tries_of call.operation)
-indexed_call plan worker table seen begun number many tried name second call h follows =
+pub indexed_call : (plan : Plan) (worker : ℕ) (table : FinMap (slice_cmp nat_cmp) Declared) (seen : FinMap (slice_cmp nat_cmp) (Unit {0})) (begun : List Bool) (number many tried read : ℕ) (name : List ℕ) (second : Option (List ℕ)) (call : Call)
+    → IsIndexed plan (Some worker) table seen begun number many tried read → may_follow (record { plan = plan; current = Some worker }) (lines.Call name second call) ≡ true
+    → IsIndexed (record plan { scripts = set plan.scripts worker (get_or plan.scripts worker [] ++ call ∷ []) }) (Some worker) table (with_keys seen (keys_of call)) (marked begun (started_by call.operation)) (number + 1) (many + count_by is_range (call ∷ [])) (tried + tries_of call.operation) (read + count_by is_access (call ∷ []))
+indexed_call plan worker table seen begun number many tried read name second call h follows =
     let r = h.readable in
     let v = valid_parts plan r.valid in
     let d : Draft = record { plan = plan; current = Some worker } in
@@ -334,6 +340,9 @@ indexed_call plan worker table seen begun number many tried name second call h f
     let tries : Call → ℕ = λ c. tries_of c.operation in
     let longer : try_count (set plan.scripts worker (script ++ call ∷ [])) ≡ try_count plan.scripts + tries_of call.operation =
     omega (arith, sum_by-set (sum_by tries) plan.scripts worker (script ++ call ∷ []) [] here, sum_by-append tries script (call ∷ [])) in
+    let accesses : List Call → ℕ = λ calls. count_by is_access calls in
+    let further : access_count (set plan.scripts worker (script ++ call ∷ [])) ≡ access_count plan.scripts + count_by is_access (call ∷ []) =
+    omega (arith, sum_by-set accesses plan.scripts worker (script ++ call ∷ []) [] here, sum_by-append (λ (c : Call). cond (is_access c) 1 0) script (call ∷ [])) in
     record {
       readable = record {
         valid = valid_from (record plan { scripts = set plan.scripts worker (script ++ call ∷ []) }) (record {
@@ -356,6 +365,7 @@ indexed_call plan worker table seen begun number many tried name second call h f
         );
         range_room = omega (arith, more, leb-true (range_count plan.scripts + count_by is_range (call ∷ [])) MAX_RANGES parts.ranges);
         try_room = omega (arith, longer, leb-true (try_count plan.scripts + tries_of call.operation) MAX_ALL_TRIES parts.tries);
+        access_room = omega (arith, further, leb-true (access_count plan.scripts + count_by is_access (call ∷ [])) MAX_ACCESSES parts.accesses);
         starts = λ other. starts_few d call worker other here parts.start (r.starts other);
         items = r.items;
         turn_room = r.turn_room;
@@ -368,6 +378,7 @@ indexed_call plan worker table seen begun number many tried name second call h f
       calls = omega (arith, h.calls, grown);
       ranges = omega (arith, h.ranges, more);
       tries = omega (arith, h.tries, longer);
+      variables = omega (arith, h.variables, further);
     }
 
 all_empty : {X : Type 0} (p : X → Bool) (n : ℕ) → list_all (list_all p) (replicate n []) ≡ true
@@ -386,12 +397,16 @@ no_tries : (n : ℕ) → try_count (replicate n []) ≡ 0
 no_tries zero = refl
 no_tries (suc n) = no_tries n
 
+no_accesses : (n : ℕ) → access_count (replicate n []) ≡ 0
+no_accesses zero = refl
+no_accesses (suc n) = no_accesses n
+
 no_calls : (n : ℕ) → call_count (replicate n []) ≡ 0
 no_calls zero = refl
 no_calls (suc n) = no_calls n
 
 -- the tables of a draft without lines
-pub indexed_start : (workers : ℕ) → 0 < workers → workers ≤ MAX_WORKERS → IsIndexed (record { workers = workers; objects = []; dormant = replicate workers false; scripts = replicate workers []; schedule = [] }) None empty empty (replicate workers false) 0 0 0
+pub indexed_start : (workers : ℕ) → 0 < workers → workers ≤ MAX_WORKERS → IsIndexed (record { workers = workers; objects = []; dormant = replicate workers false; scripts = replicate workers []; schedule = [] }) None empty empty (replicate workers false) 0 0 0 0
 indexed_start workers some few = record {
   readable = record {
     valid = valid_from (record { workers = workers; objects = []; dormant = replicate workers false; scripts = replicate workers []; schedule = [] }) (record {
@@ -410,6 +425,7 @@ indexed_start workers some few = record {
     key_room = omega (arith, ap distinct_count (no_keys workers));
     range_room = omega (arith, no_ranges workers);
     try_room = omega (arith, no_tries workers);
+    access_room = omega (arith, no_accesses workers);
     starts = λ worker. omega (arith, no_starts worker workers);
     items = refl;
     turn_room = omega arith;
@@ -422,4 +438,5 @@ indexed_start workers some few = record {
   calls = sym (no_calls workers);
   ranges = sym (no_ranges workers);
   tries = sym (no_tries workers);
+  variables = sym (no_accesses workers);
 }

@@ -25,13 +25,15 @@ use Rattle.sync_types.specs.declared.pool_call.PoolCall.TheVariants as pool_call
 use Rattle.sync_types.specs.declared.lock_call.MutexCall.TheVariants as mutex_calls
 use Rattle.sync_types.specs.declared.lock_call.RwMutexCall.TheVariants as rw_mutex_calls
 use Rattle.sync_types.specs.SequentialAtomic.{has_bits, is_of}
+use Rattle.script_calls.specs.declared.call.VarCall.TheVariants as var_calls
+use Rattle.workload.specs.declared.keyword.Dialect.{Dialect}
 use Rattle.workload.specs.declared.keyword.Keyword.{Keyword}
 use Rattle.workload.specs.declared.keyword.Keyword.TheVariants as keywords
 use Rattle.workload.specs.declared.keyword.Verb.{Verb}
 use Rattle.workload.specs.declared.keyword.Verb.TheVariants as verbs
 use Rattle.workload.specs.declared.keyword.Operand.{Operand}
 use Rattle.workload.specs.declared.keyword.Operand.TheVariants as operands
-use Rattle.workload.specs.declared.limits.TheConstants.{MAX_AMOUNT, MAX_CODE, MAX_RANGES, MAX_TURNS, MAX_WORKERS, MAX_INPUT}
+use Rattle.workload.specs.declared.limits.TheConstants.{MAX_ACCESSES, MAX_AMOUNT, MAX_CODE, MAX_RANGES, MAX_TURNS, MAX_WORKERS, MAX_INPUT}
 use Rattle.sync_types.specs.declared.value.TheConstants.{MAX_VALUE}
 use Rattle.workload.specs.declared.object.Declared.{Declared}
 use Rattle.workload.specs.declared.object.ObjectKind.{ObjectKind}
@@ -49,16 +51,17 @@ use Rattle.workload.specs.declared.turn.Turn.TheVariants as turns
 use Rattle.workload.specs.Plan.{Plan, is_dormant, word_of, reference_of, is_target, is_amount, has_call, has_among}
 use Rattle.workload.specs.Lines.{lines_of, words_of, is_short, is_clean, is_significant}
 use Rattle.workload.specs.KeywordWords.{keyword_word, keyword_at, verb_word}
+use Rattle.workload.specs.Dialect.{knows, keyword_in}
 use Rattle.workload.specs.NumberWords.{number_word, is_number, is_number_to, is_amount_word, is_passes, number_of}
 use Rattle.workload.specs.CallWords.{verb_of, operands_of}
-use Rattle.workload.specs.Words.{spelled, kind_parameters, turn_word}
-use Rattle.workload.specs.Draft.{Draft, started, with_line, declared, may_follow, names_object, names_reference, is_kind, is_operation, is_value, is_item, is_range, operation_keys, names_second, may_start, tries_of, count_of, limit_of, range_count}
-use Rattle.workload.specs.Checks.{Check, first_failing, form_words, parameter_words, keys_among, map_form, bits_form, atomic_form, mutex_form, rw_mutex_form, cond_form, group_form, pool_form, form_of, parameters_of, parameters_checks, reference_checks, is_mutex, is_int64, is_atomic, awaited_number, wait_for_words, call_form, operand_checks, tries_among, ranges_in, limit_checks, form_checks, object_checks, worker_checks, start_checks, item_checks, line_checks, first_checks, word_checks, reason_of}
-use Rattle.workload.specs.Reads.{Continues, IsRead, ReadsOn, Reads, FirstFault, IsRefused}
+use Rattle.workload.specs.Words.{spelled, keyword_of, kind_parameters, turn_word}
+use Rattle.workload.specs.Draft.{Draft, started, with_line, declared, may_follow, names_object, names_reference, is_kind, is_operation, is_value, is_item, is_range, operation_keys, names_second, may_start, tries_of, count_of, limit_of, range_count, is_access, access_count}
+use Rattle.workload.specs.Checks.{Check, first_failing, form_words, parameter_words, keys_among, map_form, bits_form, atomic_form, mutex_form, rw_mutex_form, cond_form, group_form, pool_form, var_form, form_of, parameters_of, parameters_checks, reference_checks, is_mutex, is_int64, is_atomic, awaited_number, wait_for_words, call_form, operand_checks, tries_among, ranges_in, accesses_in, limit_checks, form_checks, object_checks, worker_checks, start_checks, item_checks, line_checks, first_checks, word_checks, reason_of}
+use Rattle.workload.specs.Reads.{Continues, IsRead, ReadsOn, ReadsIn, FirstFault, IsRefusedIn}
 use Rattle.workload.proofs.Passing.{both, pair}
-use Rattle.workload.proofs.Keywords.{keyword_from}
+use Rattle.workload.proofs.Keywords.{keyword_from, same_keyword, known_at}
 use Rattle.workload.proofs.CallWords.{number_read, number_said, signed_of, amount_said, passes_said, tries_said}
-use Rattle.workload.proofs.CallForms.{plain_form, call_passes, ranges_of}
+use Rattle.workload.proofs.CallForms.{plain_form, call_passes, ranges_of, accesses_of}
 use Rattle.workload.proofs.Started.{alone_start, start_from}
 use Rattle.workload.proofs.Awaits.{alone_second}
 use Rattle.workload.proofs.DraftLemmas.{found_at}
@@ -241,6 +244,7 @@ parameters_said d object_words.Once ws h = once_said d ws h
 parameters_said d object_words.OnceFunc ws h = let n = bounded_said d MAX_CODE ws (omega arith) h in (kinds.OnceFunc n.0, None, refl, refl, n.1, n.2)
 parameters_said d object_words.OnceValue ws h = let n = bounded_said d MAX_VALUE ws (omega arith) h in (kinds.OnceValue n.0, None, refl, refl, n.1, n.2)
 parameters_said d object_words.Pool ws h = (kinds.Pool, None, refl, refl, refl, no_words_said ws h)
+parameters_said d object_words.Var ws h = (kinds.Var, None, refl, refl, refl, no_words_said ws h)
 
 -- a check that passes before others that do
 pass_on : (b : Bool) (reason : Reason) (others : List Check) → b ≡ true → first_failing others ≡ None → first_failing ((b, reason) ∷ others) ≡ None
@@ -437,6 +441,11 @@ pool_spelled d verbs.Get words h = (operations.Pool pool_calls.Get, refl, sym (n
 pool_spelled d verbs.Sweep words h = (operations.Pool pool_calls.Sweep, refl, sym (none_said d words h), refl, refl)
 pool_spelled d verb words h = absurd cc
 
+var_spelled : (d : Draft) (verb : Verb) (words : List (List ℕ)) → first_failing (form_words d (var_form verb) words) ≡ None → Spelled kinds.Var verb words
+var_spelled d verbs.Read words h = (operations.Var var_calls.Read, refl, sym (none_said d words h), refl, refl)
+var_spelled d verbs.Write words h = let said = item_alone_said d words h in (operations.Var (var_calls.Write said.0), refl, sym said.2, refl, said.1)
+var_spelled d verb words h = absurd cc
+
 spelled_on : (d : Draft) (kind : ObjectKind) (verb : Verb) (words : List (List ℕ)) → first_failing (form_words d (form_of verb (word_of kind)) words) ≡ None → Spelled kind verb words
 spelled_on d kinds.Map verb words h = map_spelled d verb words h
 spelled_on d (kinds.Atomic kind) verb words h = atomic_spelled d kind verb words h
@@ -448,6 +457,7 @@ spelled_on d (kinds.Once a z) verbs.Do words h = (operations.Once, refl, sym (no
 spelled_on d (kinds.OnceFunc n) verbs.Call words h = (operations.OnceFunc, refl, sym (none_said d words h), refl, refl)
 spelled_on d (kinds.OnceValue n) verbs.Value words h = (operations.OnceValue, refl, sym (none_said d words h), refl, refl)
 spelled_on d kinds.Pool verb words h = pool_spelled d verb words h
+spelled_on d kinds.Var verb words h = var_spelled d verb words h
 spelled_on d kind verb words h = absurd cc
 
 -- the call with its second name, if it has one
@@ -530,7 +540,7 @@ spelled_among d kind verb words few h =
 
 -- the checks of the operands alone
 operands_pass : (d : Draft) (verb : Verb) (form : Option (List Operand)) (words : List (List ℕ)) → first_failing (form_checks d verb form words) ≡ None → first_failing (form_words d form words) ≡ None
-operands_pass d verb form words h = (both_pass (form_words d form words) (limit_checks d (keys_among form words) (ranges_in verb) (tries_among form words)) h).0
+operands_pass d verb form words h = (both_pass (form_words d form words) (limit_checks d (keys_among form words) (ranges_in verb) (tries_among form words) (accesses_in verb)) h).0
 
 kind_said : (d : Draft) (name : List ℕ) (place : ℕ) (kind : ObjectKind) → declared d name ≡ Some (record { place = place; kind = kind }) → d.plan.workers ≤ MAX_WORKERS → is_some d.current ≡ true → is_name name ≡ true → (verb : Verb) (words : List (List ℕ))
     → first_failing (form_checks d verb (call_form d verb (word_of kind) words) words) ≡ None → CallSaid d name verb words
@@ -544,11 +554,13 @@ kind_said d name place kind at few current named verb words h =
     let passes : PassesWith d form words keys tries =
     subst (λ (ws : List (List ℕ)). PassesWith d (call_form d verb (word_of kind) ws) ws keys tries) said.3
     (subst (λ (v : Verb). PassesWith d (call_form d v (word_of kind) (option_to_list said.0 ++ operands_of o)) (option_to_list said.0 ++ operands_of o) keys tries) said.2 (call_passes d kind said.0 o said.4 said.5 said.6 said.7)) in
-    let limits = all_pass (limit_checks d keys (ranges_in verb) tries) (sym (form_passes d verb form words keys tries passes) ∙ h) in
+    let limits = all_pass (limit_checks d keys (ranges_in verb) tries (accesses_in verb)) (sym (form_passes d verb form words keys tries passes) ∙ h) in
     let on : names_object d.plan.objects (declared d name) c ≡ true = rw at (pair (eqb place place) (has_among d.plan.objects kind o) (eq-eqb place place refl) said.4) in
     let many : ranges_in verb ≡ count_by is_range (c ∷ []) = ap ranges_in (sym said.2) ∙ sym (ranges_of o) in
     let ranges : nat_le (range_count d.plan.scripts + count_by is_range (c ∷ [])) MAX_RANGES ≡ true = ap (λ (n : ℕ). nat_le (range_count d.plan.scripts + n) MAX_RANGES) (sym many) ∙ limits.1.1.0 in
-    (said.0, c, said.2, said.3, rw (current, named, on, said.5, said.7, said.6, limits.0, limits.1.0, ranges, limits.1.1.1.0) refl)
+    let plain : accesses_in verb ≡ count_by is_access (c ∷ []) = ap accesses_in (sym said.2) ∙ sym (accesses_of o) in
+    let accesses : nat_le (access_count d.plan.scripts + count_by is_access (c ∷ [])) MAX_ACCESSES ≡ true = ap (λ (n : ℕ). nat_le (access_count d.plan.scripts + n) MAX_ACCESSES) (sym plain) ∙ limits.1.1.1.1.0 in
+    (said.0, c, said.2, said.3, rw (current, named, on, said.5, said.7, said.6, limits.0, limits.1.0, ranges, limits.1.1.1.0, accesses) refl)
 
 call_said : (d : Draft) (verb : Verb) (words : List (List ℕ)) → d.plan.workers ≤ MAX_WORKERS → first_failing (line_checks d (Some (keywords.Call verb)) words) ≡ None → Said d (keyword_word (keywords.Call verb) ∷ words)
 call_said d verb [] few h = absurd (no_words d.current h)
@@ -576,13 +588,13 @@ line_said d word (Some keywords.Worker) words few is h = said_as d word keywords
 line_said d word (Some keywords.Schedule) words few is h = said_as d word keywords.Schedule words is (schedule_said d words few h)
 line_said d word (Some (keywords.Call verb)) words few is h = said_as d word (keywords.Call verb) words is (call_said d verb words few h)
 
-first_said : (word : List ℕ) (words : List (List ℕ)) → first_failing (first_checks word words) ≡ None → (after : Option Draft) × Continues None (word ∷ words) after
-first_said word [] h = absurd (no_words (bytes_eq word (codes "workers")) h)
+first_said : (dialect : Dialect) (word : List ℕ) (words : List (List ℕ)) → first_failing (first_checks word words) ≡ None → (after : Option Draft) × Continues dialect None (word ∷ words) after
+first_said dialect word [] h = absurd (no_words (bytes_eq word (codes "workers")) h)
   where
     no_words : (b : Bool) → first_failing ((b, NoWorkersLine) ∷ (false, WrongNumberOfWords) ∷ []) ≡ None → ⊥
     no_words true h = cc
     no_words false h = cc
-first_said word (number ∷ []) h =
+first_said dialect word (number ∷ []) h =
     let all = all_pass (first_checks word (number ∷ [])) h in
     let parts = both (is_number_to MAX_WORKERS number) (nat_lt 0 (number_of number)) all.1.0 in
     let value = both (is_number number) (nat_le (number_of number) MAX_WORKERS) parts.0 in
@@ -597,54 +609,63 @@ first_said word (number ∷ []) h =
         refl,
       ),
     )
-first_said word (number ∷ other ∷ words) h = absurd (too_many (bytes_eq word (codes "workers")) h)
+first_said dialect word (number ∷ other ∷ words) h = absurd (too_many (bytes_eq word (codes "workers")) h)
   where
     too_many : (b : Bool) → first_failing ((b, NoWorkersLine) ∷ (false, WrongNumberOfWords) ∷ []) ≡ None → ⊥
     too_many true h = cc
     too_many false h = cc
 
-words_said : (before : Option Draft) (words : List (List ℕ)) → IsSmall before → is_significant words ≡ true → first_failing (word_checks before words) ≡ None → (after : Option Draft) × Continues before words after
-words_said before [] small says h = absurd cc
-words_said None (word ∷ words) small says h = first_said word words h
-words_said (Some d) (word ∷ words) small says h =
-    let said = line_said d word (keyword_at word) words small refl h in
-    (Some (with_line d said.0), (said.0, said.1, said.2, refl))
+words_said : (dialect : Dialect) (before : Option Draft) (words : List (List ℕ)) → IsSmall before → is_significant words ≡ true → first_failing (word_checks dialect before words) ≡ None → (after : Option Draft) × Continues dialect before words after
+words_said dialect before [] small says h = absurd cc
+words_said dialect None (word ∷ words) small says h = first_said dialect word words h
+words_said dialect (Some d) (word ∷ words) small says h = at (keyword_in dialect word) refl h
+  where
+    heads : (x y : List ℕ) (xs ys : List (List ℕ)) → x ∷ xs ≡ y ∷ ys → x ≡ y
+    heads x y xs ys e = cc
+
+    at : (k : Option Keyword) → keyword_in dialect word ≡ k → first_failing (line_checks d k words) ≡ None → (after : Option Draft) × Continues dialect (Some d) (word ∷ words) after
+    at None is h = absurd cc
+    at (Some k) is h =
+        let known = known_at dialect word k is in
+        let said = line_said d word (Some k) words small known.0 h in
+        let same = same_keyword (keyword_of said.0) k (sym (heads word _ words _ said.2) ∙ keyword_from word k known.0) in
+        (Some (with_line d said.0), (said.0, said.1, said.2, refl, ap (knows dialect) same ∙ known.1))
 
 -- a line that passes all its checks is read
-line_reads : (before : Option Draft) (line : List ℕ) → IsSmall before → reason_of before line ≡ None → (after : Option Draft) × IsRead before line after
-line_reads before line small h =
+line_reads : (dialect : Dialect) (before : Option Draft) (line : List ℕ) → IsSmall before → reason_of dialect before line ≡ None → (after : Option Draft) × IsRead dialect before line after
+line_reads dialect before line small h =
     let front : List Check = (is_short line, LineTooLong) ∷ (is_clean line, BadByte) ∷ [] in
-    let one = both_pass front (cond (is_significant (words_of line)) (word_checks before (words_of line)) []) h in
+    let one = both_pass front (cond (is_significant (words_of line)) (word_checks dialect before (words_of line)) []) h in
     let good = all_pass front one.0 in
-    elim (is_significant (words_of line)) as (λ b. is_significant (words_of line) ≡ b → first_failing (cond b (word_checks before (words_of line)) []) ≡ None → (after : Option Draft) × IsRead before line after) [
+    elim (is_significant (words_of line)) as (λ b. is_significant (words_of line) ≡ b → first_failing (cond b (word_checks dialect before (words_of line)) []) ≡ None → (after : Option Draft) × IsRead dialect before line after) [
       | true ↦ λ t e.
-          let said = words_said before (words_of line) small t e in
+          let said = words_said dialect before (words_of line) small t e in
           (said.0, record { short = good.0; clean = good.1.0; silent = λ f. not_both_ways t f; continues = λ _. said.1 })
       | false ↦ λ f e. (before, record { short = good.0; clean = good.1.0; silent = λ _. refl; continues = λ t. not_both_ways t f })
     ] refl one.1
 
-abbrev IsReadOrRefused : List (List ℕ) → Option Draft → ℕ → Type 0
-IsReadOrRefused lines before next = ((plan : Plan) × ReadsOn lines before plan) ⊎ ((line : ℕ) × (reason : Reason) × FirstFault lines before next line reason)
+abbrev IsReadOrRefused : Dialect → List (List ℕ) → Option Draft → ℕ → Type 0
+IsReadOrRefused dialect lines before next = ((plan : Plan) × ReadsOn dialect lines before plan) ⊎ ((line : ℕ) × (reason : Reason) × FirstFault dialect lines before next line reason)
 
-lines_end : (lines : List (List ℕ)) (before : Option Draft) (next : ℕ) → IsSmall before → IsReadOrRefused lines before next
-lines_end [] None next small = inr (max 1 (next - 1), NoWorkersLine, (refl, refl))
-lines_end [] (Some d) next small = inl (d.plan, refl)
-lines_end (line ∷ lines) before next small =
-    elim (reason_of before line) as (λ r. reason_of before line ≡ r → IsReadOrRefused (line ∷ lines) before next) [
+lines_end : (dialect : Dialect) (lines : List (List ℕ)) (before : Option Draft) (next : ℕ) → IsSmall before → IsReadOrRefused dialect lines before next
+lines_end dialect [] None next small = inr (max 1 (next - 1), NoWorkersLine, (refl, refl))
+lines_end dialect [] (Some d) next small = inl (d.plan, refl)
+lines_end dialect (line ∷ lines) before next small =
+    elim (reason_of dialect before line) as (λ r. reason_of dialect before line ≡ r → IsReadOrRefused dialect (line ∷ lines) before next) [
       | Some reason ↦ λ is. inr (next, reason, inl (refl, is))
       | None ↦ λ is.
-          let read = line_reads before line small is in
-          elim (lines_end lines read.0 (next + 1) (read_small before line read.0 small read.1)) [
+          let read = line_reads dialect before line small is in
+          elim (lines_end dialect lines read.0 (next + 1) (read_small dialect before line read.0 small read.1)) [
             | inl rest ↦ inl (rest.0, (read.0, read.1, rest.1))
             | inr fault ↦ inr (fault.0, fault.1, inr (read.0, read.1, fault.2))
           ]
     ] refl
 
-pub each_text : (bytes : List ℕ) → ((plan : Plan) × Reads bytes plan) ⊎ ((line : ℕ) × (reason : Reason) × IsRefused bytes line reason)
-each_text bytes =
+pub each_text : (dialect : Dialect) (bytes : List ℕ) → ((plan : Plan) × ReadsIn dialect bytes plan) ⊎ ((line : ℕ) × (reason : Reason) × IsRefusedIn dialect bytes line reason)
+each_text dialect bytes =
     elim (cases_lt MAX_INPUT (length bytes)) [
       | inl long ↦ inr (0, InputTooLong, inl (long, refl, refl))
-      | inr fits ↦ elim (lines_end (lines_of bytes) None 1 tt) [
+      | inr fits ↦ elim (lines_end dialect (lines_of bytes) None 1 tt) [
         | inl read ↦ inl (read.0, record { fits = fits; lines = read.1 })
         | inr fault ↦ inr (fault.0, fault.1, inr (fits, fault.2))
       ]

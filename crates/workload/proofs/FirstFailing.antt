@@ -4,7 +4,7 @@ use Rattle.workload.specs.declared.keyword.Operand.{Operand}
 use Rattle.workload.specs.declared.keyword.Verb.{Verb}
 use Rattle.workload.specs.declared.reason.Reason.{Reason}
 use Rattle.workload.specs.Draft.{Draft}
-use Rattle.workload.specs.Checks.{Check, first_failing, form_words, form_checks, keys_among, tries_among, limit_checks, ranges_in}
+use Rattle.workload.specs.Checks.{Check, first_failing, form_words, form_checks, keys_among, tries_among, limit_checks, ranges_in, accesses_in}
 
 -- the first of some checks that fails is the first of these and others behind them
 pub fails_first : (xs ys : List Check) (r : Reason) → first_failing xs ≡ Some r → first_failing (xs ++ ys) ≡ Some r
@@ -30,8 +30,8 @@ PassesWith d form words keys tries = (keys_among form words ≡ keys) × (tries_
 
 -- a call whose operands pass is left to the limits
 pub form_passes : (d : Draft) (verb : Verb) (form : Option (List Operand)) (words keys : List (List ℕ)) (tries : ℕ) → PassesWith d form words keys tries
-    → first_failing (form_checks d verb form words) ≡ first_failing (limit_checks d keys (ranges_in verb) tries)
+    → first_failing (form_checks d verb form words) ≡ first_failing (limit_checks d keys (ranges_in verb) tries (accesses_in verb))
 form_passes d verb form words keys tries h =
     passes_first (form_words d form words) _ h.2
-    ∙ ap (λ (ks : List (List ℕ)). first_failing (limit_checks d ks (ranges_in verb) (tries_among form words))) h.0
-    ∙ ap (λ (n : ℕ). first_failing (limit_checks d keys (ranges_in verb) n)) h.1
+    ∙ ap (λ (ks : List (List ℕ)). first_failing (limit_checks d ks (ranges_in verb) (tries_among form words) (accesses_in verb))) h.0
+    ∙ ap (λ (n : ℕ). first_failing (limit_checks d keys (ranges_in verb) n (accesses_in verb))) h.1

@@ -4,12 +4,12 @@ use Rattle.std.specs.Prelude.{is_some, nat_lt, nat_le, count_by}
 use Rattle.std.specs.List.{list_all}
 use Rattle.sync_types.specs.Name.{is_name}
 use Rattle.script_calls.specs.declared.call.Call.{Call}
-use Rattle.workload.specs.declared.limits.TheConstants.{MAX_ALL_TRIES, MAX_CALLS, MAX_KEYS, MAX_RANGES, MAX_TURNS}
+use Rattle.workload.specs.declared.limits.TheConstants.{MAX_ACCESSES, MAX_ALL_TRIES, MAX_CALLS, MAX_KEYS, MAX_RANGES, MAX_TURNS}
 use Rattle.workload.specs.declared.object.ObjectLine.{ObjectLine}
 use Rattle.workload.specs.declared.line.Line.TheVariants as lines
 use Rattle.workload.specs.declared.turn.Turn.{Turn}
 use Rattle.workload.specs.Plan.{word_of, is_dormant}
-use Rattle.workload.specs.Draft.{Draft, declared, names_reference, is_kind, count_of, limit_of, call_count, key_count, range_count, is_range, try_count, tries_of, keys_of, names_object, names_second, is_call, is_item, may_start, may_follow}
+use Rattle.workload.specs.Draft.{Draft, declared, names_reference, is_kind, count_of, limit_of, call_count, key_count, range_count, is_range, try_count, tries_of, access_count, is_access, keys_of, names_object, names_second, is_call, is_item, may_start, may_follow}
 use Rattle.workload.proofs.Passing.{both, not_true}
 
 pub record ObjectFollows (d : Draft) (o : ObjectLine) (to : Option (List ℕ)) : Type 0 where
@@ -63,6 +63,7 @@ pub record CallFollows (d : Draft) (object : List ℕ) (behind : Option (List �
   pub keys : nat_le (key_count d.plan.scripts (keys_of made)) MAX_KEYS ≡ true
   pub ranges : nat_le (range_count d.plan.scripts + count_by is_range (made ∷ [])) MAX_RANGES ≡ true
   pub tries : nat_le (try_count d.plan.scripts + tries_of made.operation) MAX_ALL_TRIES ≡ true
+  pub accesses : nat_le (access_count d.plan.scripts + count_by is_access (made ∷ [])) MAX_ACCESSES ≡ true
 
 pub call_follows : (d : Draft) (name : List ℕ) (second : Option (List ℕ)) (call : Call) → may_follow d (lines.Call name second call) ≡ true → CallFollows d name second call
 call_follows d name second call e =
@@ -73,13 +74,15 @@ call_follows d name second call e =
     let keys = nat_le (key_count d.plan.scripts (keys_of call)) MAX_KEYS in
     let ranges = nat_le (range_count d.plan.scripts + count_by is_range (call ∷ [])) MAX_RANGES in
     let tries = nat_le (try_count d.plan.scripts + tries_of call.operation) MAX_ALL_TRIES in
-    let p1 = both (is_some d.current) (is_name name && (on && (behind && (is_call call && (start && (room && (keys && (ranges && tries)))))))) e in
-    let p2 = both (is_name name) (on && (behind && (is_call call && (start && (room && (keys && (ranges && tries))))))) p1.1 in
-    let p3 = both on (behind && (is_call call && (start && (room && (keys && (ranges && tries)))))) p2.1 in
-    let p4 = both behind (is_call call && (start && (room && (keys && (ranges && tries))))) p3.1 in
-    let p5 = both (is_call call) (start && (room && (keys && (ranges && tries)))) p4.1 in
-    let p6 = both start (room && (keys && (ranges && tries))) p5.1 in
-    let p7 = both room (keys && (ranges && tries)) p6.1 in
-    let p8 = both keys (ranges && tries) p7.1 in
-    let p9 = both ranges tries p8.1 in
-    record { current = p1.0; name = p2.0; on = p3.0; second = p4.0; call = p5.0; start = p6.0; room = p7.0; keys = p8.0; ranges = p9.0; tries = p9.1 }
+    let accesses = nat_le (access_count d.plan.scripts + count_by is_access (call ∷ [])) MAX_ACCESSES in
+    let p1 = both (is_some d.current) (is_name name && (on && (behind && (is_call call && (start && (room && (keys && (ranges && (tries && accesses))))))))) e in
+    let p2 = both (is_name name) (on && (behind && (is_call call && (start && (room && (keys && (ranges && (tries && accesses)))))))) p1.1 in
+    let p3 = both on (behind && (is_call call && (start && (room && (keys && (ranges && (tries && accesses))))))) p2.1 in
+    let p4 = both behind (is_call call && (start && (room && (keys && (ranges && (tries && accesses)))))) p3.1 in
+    let p5 = both (is_call call) (start && (room && (keys && (ranges && (tries && accesses))))) p4.1 in
+    let p6 = both start (room && (keys && (ranges && (tries && accesses)))) p5.1 in
+    let p7 = both room (keys && (ranges && (tries && accesses))) p6.1 in
+    let p8 = both keys (ranges && (tries && accesses)) p7.1 in
+    let p9 = both ranges (tries && accesses) p8.1 in
+    let p10 = both tries accesses p9.1 in
+    record { current = p1.0; name = p2.0; on = p3.0; second = p4.0; call = p5.0; start = p6.0; room = p7.0; keys = p8.0; ranges = p9.0; tries = p10.0; accesses = p10.1 }

@@ -1,13 +1,15 @@
 -- The words that lines begin with, and back.
-use Rattle.std.proofs.Common.{◌≡◌, ℕ, true, false, cond, List, [], ◌∷◌, ◌++◌, map, Some, None, refl, sym, ap, ◌∙◌}
+use Rattle.std.proofs.Common.{◌≡◌, ℕ, true, false, cond, List, [], ◌∷◌, ◌++◌, map, Option, Some, None, refl, sym, ap, subst, ◌∙◌}
 use Rattle.std.specs.Str.{bytes_eq}
 use Rattle.std.proofs.lemmas.Slice.Eq.{bytes_eq-Decides}
 use Rattle.sync_types.specs.declared.atomic_object.AtomicKind.TheVariants as types
+use Rattle.workload.specs.declared.keyword.Dialect.{Dialect}
 use Rattle.workload.specs.declared.keyword.Keyword.{Keyword}
 use Rattle.workload.specs.declared.keyword.Keyword.TheVariants as keywords
 use Rattle.workload.specs.declared.keyword.Verb.{Verb}
 use Rattle.workload.specs.declared.keyword.Verb.TheVariants as verbs
 use Rattle.workload.specs.declared.object.ObjectWord.TheVariants as words
+use Rattle.workload.specs.Dialect.{knows, if_known, keyword_in}
 use Rattle.workload.specs.KeywordWords.{verb_word, call_verbs, other_keywords, all_keywords, keyword_word, first_named, keyword_at}
 
 -- each keyword is read back from its word
@@ -27,6 +29,7 @@ keyword_at-keyword_word (keywords.Object words.Once) = refl
 keyword_at-keyword_word (keywords.Object words.OnceFunc) = refl
 keyword_at-keyword_word (keywords.Object words.OnceValue) = refl
 keyword_at-keyword_word (keywords.Object words.Pool) = refl
+keyword_at-keyword_word (keywords.Object words.Var) = refl
 keyword_at-keyword_word keywords.Dormant = refl
 keyword_at-keyword_word keywords.Worker = refl
 keyword_at-keyword_word keywords.Schedule = refl
@@ -62,6 +65,8 @@ keyword_at-keyword_word (keywords.Call verbs.Sweep) = refl
 keyword_at-keyword_word (keywords.Call verbs.IfEqual) = refl
 keyword_at-keyword_word (keywords.Call verbs.WaitFor) = refl
 keyword_at-keyword_word (keywords.Call verbs.Go) = refl
+keyword_at-keyword_word (keywords.Call verbs.Read) = refl
+keyword_at-keyword_word (keywords.Call verbs.Write) = refl
 
 same_some : {X : Type 0} (x y : X) → Some x ≡ Some y → x ≡ y
 same_some x y e = cc
@@ -103,3 +108,22 @@ call_at word v is = ap keyword_at (named_first verb_word call_verbs word v is) �
 -- a word that is none of a call is looked for among the others
 pub other_at : (word : List ℕ) → first_named verb_word call_verbs word ≡ None → keyword_at word ≡ first_named keyword_word other_keywords word
 other_at word none = before_others keyword_word other_keywords (map (λ verb. keywords.Call verb) call_verbs) word (no_call call_verbs word none)
+
+-- a keyword of a dialect is found, and so read back from its word
+pub in_dialect : (dialect : Dialect) (word : List ℕ) (k : Keyword) → (keyword_at word ≡ Some k) × (knows dialect k ≡ true) → keyword_in dialect word ≡ Some k
+in_dialect dialect word k (is, known) = ap (if_known dialect) is ∙ ap (λ b. cond b (Some k) None) known
+
+pub keyword_in-keyword_word : (dialect : Dialect) (k : Keyword) → knows dialect k ≡ true → keyword_in dialect (keyword_word k) ≡ Some k
+keyword_in-keyword_word dialect k known = in_dialect dialect (keyword_word k) k (keyword_at-keyword_word k, known)
+
+-- and no other is read
+pub known_at : (dialect : Dialect) (word : List ℕ) (k : Keyword) → keyword_in dialect word ≡ Some k → (keyword_at word ≡ Some k) × (knows dialect k ≡ true)
+known_at dialect word k h = at (keyword_at word) refl h
+  where
+    at : (o : Option Keyword) → keyword_at word ≡ o → if_known dialect o ≡ Some k → (keyword_at word ≡ Some k) × (knows dialect k ≡ true)
+    at None is e = absurd cc
+    at (Some other) is e =
+        elim (knows dialect other) as (λ b. knows dialect other ≡ b → cond b (Some other) None ≡ Some k → (keyword_at word ≡ Some k) × (knows dialect k ≡ true)) [
+          | true ↦ λ t s. (is ∙ s, subst (λ (x : Keyword). knows dialect x ≡ true) (same_some other k s) t)
+          | false ↦ λ f s. absurd cc
+        ] refl e

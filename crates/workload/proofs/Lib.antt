@@ -1,3 +1,4 @@
+mod Dialects
 mod DormantLines
 pub mod DraftLemmas
 pub mod Follows

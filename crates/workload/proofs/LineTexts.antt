@@ -23,6 +23,8 @@ use Rattle.sync_types.specs.declared.wait_call.WaitGroupCall.{WaitGroupCall}
 use Rattle.sync_types.specs.declared.wait_call.WaitGroupCall.TheVariants as group_calls
 use Rattle.sync_types.specs.declared.pool_call.PoolCall.{PoolCall}
 use Rattle.sync_types.specs.declared.pool_call.PoolCall.TheVariants as pool_calls
+use Rattle.script_calls.specs.declared.call.VarCall.{VarCall}
+use Rattle.script_calls.specs.declared.call.VarCall.TheVariants as var_calls
 use Rattle.script_calls.specs.declared.call.Call.{Call}
 use Rattle.script_calls.specs.declared.call.ComposedCall.{ComposedCall}
 use Rattle.script_calls.specs.declared.call.ComposedCall.TheVariants.{IfEqual, WaitFor, Go}
@@ -45,13 +47,13 @@ use Rattle.workload.specs.declared.turn.Turn.{Turn}
 use Rattle.workload.specs.declared.turn.Turn.TheVariants as turns
 use Rattle.workload.specs.KeywordWords.{object_word, verb_word}
 use Rattle.workload.specs.NumberWords.{number_word, is_tries}
-use Rattle.workload.specs.CallWords.{group_operands, pool_operands, composed_operands, verb_of, operands_of, map_values, map_operands, atomic_operands}
+use Rattle.workload.specs.CallWords.{group_operands, pool_operands, var_operands, composed_operands, verb_of, operands_of, map_values, map_operands, atomic_operands}
 use Rattle.workload.specs.Words.{spelled, first_spelled, kind_parameters, turn_word}
 use Rattle.workload.specs.Plan.{word_of, is_amount, has_call, has_among}
 use Rattle.workload.specs.declared.object.Declared.{Declared}
 use Rattle.workload.proofs.CallWords.{narrow, amount_small}
 use Rattle.workload.proofs.Awaits.{held}
-use Rattle.workload.specs.Draft.{Draft, declared, may_follow, names_object, names_second, is_call, is_operation, is_map_call, is_group_call, is_pool_call, is_composed_call, is_kind, is_reference, names_reference, is_value, is_item}
+use Rattle.workload.specs.Draft.{Draft, declared, may_follow, names_object, names_second, is_call, is_operation, is_map_call, is_group_call, is_pool_call, is_var_call, is_composed_call, is_kind, is_reference, names_reference, is_value, is_item}
 use Rattle.workload.proofs.Follows.{object_follows, dormant_follows, schedule_follows, call_follows}
 use Rattle.workload.proofs.Numbers.{numerals}
 use Rattle.workload.specs.Lines.{lines_of, words_of, is_clean, is_printable, is_filled}
@@ -299,6 +301,10 @@ pool_operands_fit (pool_calls.Put v) h = let one = one_decimal v MAX_VALUE h (om
 pool_operands_fit pool_calls.Get h = (refl, omega arith)
 pool_operands_fit pool_calls.Sweep h = (refl, omega arith)
 
+var_operands_fit : (c : VarCall) → is_var_call c ≡ true → (list_all is_word (var_operands c) ≡ true) × (widths (var_operands c) ≤ 80)
+var_operands_fit var_calls.Read h = (refl, omega arith)
+var_operands_fit (var_calls.Write v) h = let one = one_decimal v MAX_VALUE h (omega arith) in (one.0, omega (arith, one.1))
+
 composed_operands_fit : (k : AtomicKind) (c : ComposedCall) → has_call (kinds.Atomic k) (operations.Composed c) ≡ true → is_composed_call c ≡ true → (list_all is_word (composed_operands c) ≡ true) × (widths (composed_operands c) ≤ 80)
 composed_operands_fit k (IfEqual v n) on h =
     let first = number_is_word k v on in
@@ -342,6 +348,7 @@ alone_fit kind operations.Once on h = (refl, omega arith)
 alone_fit kind operations.OnceFunc on h = (refl, omega arith)
 alone_fit kind operations.OnceValue on h = (refl, omega arith)
 alone_fit kind (operations.Pool c) on h = pool_operands_fit c h
+alone_fit kind (operations.Var c) on h = var_operands_fit c h
 alone_fit (kinds.Atomic k) (operations.Composed c) on h = composed_operands_fit k c on h
 alone_fit kind (operations.Atomic c) on h = absurd cc
 alone_fit kind (operations.Composed c) on h = absurd cc
@@ -396,6 +403,8 @@ verb_fits verbs.Sweep = (refl, omega arith)
 verb_fits verbs.IfEqual = (refl, omega arith)
 verb_fits verbs.WaitFor = (refl, omega arith)
 verb_fits verbs.Go = (refl, omega arith)
+verb_fits verbs.Read = (refl, omega arith)
+verb_fits verbs.Write = (refl, omega arith)
 
 call_fits : (d : Draft) (o : Option Declared) (name : List ℕ) (second : Option (List ℕ)) (c : Call) → names_object d.plan.objects o c ≡ true → names_second d c.operation second ≡ true → is_name name ≡ true → is_call c ≡ true
     → FitsLine (verb_word (verb_of c.operation) ∷ name ∷ option_to_list second ++ operands_of c.operation)
@@ -425,6 +434,7 @@ object_word_fits words.Once = (refl, omega arith)
 object_word_fits words.OnceFunc = (refl, omega arith)
 object_word_fits words.OnceValue = (refl, omega arith)
 object_word_fits words.Pool = (refl, omega arith)
+object_word_fits words.Var = (refl, omega arith)
 
 -- a schedule line of at most eight items, and any other line
 abbrev pub IsNarrow : Line → Type 0

@@ -8,9 +8,10 @@ use Rattle.std.proofs.lemmas.Bool.{eqb-true, ltb-true, leb-true, lt-ltb, le-leb}
 use Rattle.std.proofs.lemmas.List.{length-map}
 use Rattle.script_calls.specs.declared.call.Call.{Call}
 use Rattle.sync_types.specs.declared.atomic_object.AtomicKind.TheVariants as types
+use Rattle.workload.specs.declared.keyword.Dialect.{Dialect}
 use Rattle.workload.specs.declared.keyword.Keyword.{Keyword}
 use Rattle.workload.specs.declared.keyword.Keyword.TheVariants as keywords
-use Rattle.workload.specs.declared.limits.TheConstants.{MAX_AMOUNT, MAX_CODE, MAX_RANGES, MAX_TURNS, MAX_WORKERS}
+use Rattle.workload.specs.declared.limits.TheConstants.{MAX_ACCESSES, MAX_AMOUNT, MAX_CODE, MAX_RANGES, MAX_TURNS, MAX_WORKERS}
 use Rattle.sync_types.specs.declared.value.TheConstants.{MAX_VALUE}
 use Rattle.workload.specs.declared.object.Declared.{Declared}
 use Rattle.workload.specs.declared.object.ObjectKind.{ObjectKind}
@@ -28,17 +29,17 @@ use Rattle.workload.specs.Lines.{lines_of, words_of, is_significant}
 use Rattle.workload.specs.NumberWords.{is_number, is_number_to, is_amount_word, number_of}
 use Rattle.workload.specs.CallWords.{verb_of, operands_of}
 use Rattle.workload.specs.Words.{keyword_of, arguments_of, kind_parameters, turn_word}
-use Rattle.workload.specs.Draft.{Draft, count_of, limit_of, is_kind, names_reference, declared, may_follow, names_object, is_item, keys_of, range_count, tries_of}
-use Rattle.workload.specs.Checks.{Check, first_failing, call_form, form_checks, parameters_of, parameters_checks, reference_checks, is_mutex, is_int64, ranges_in, worker_checks, item_checks, line_checks, word_checks, reason_of}
-use Rattle.workload.specs.Reads.{Continues, IsRead, ReadsOn, Reads, FirstFault, IsRefused}
+use Rattle.workload.specs.Draft.{Draft, count_of, limit_of, is_kind, names_reference, declared, may_follow, names_object, is_item, keys_of, range_count, tries_of, access_count}
+use Rattle.workload.specs.Checks.{Check, first_failing, call_form, form_checks, parameters_of, parameters_checks, reference_checks, is_mutex, is_int64, ranges_in, accesses_in, worker_checks, item_checks, line_checks, word_checks, reason_of}
+use Rattle.workload.specs.Reads.{Continues, IsRead, ReadsOn, ReadsIn, FirstFault, IsRefusedIn}
 use Rattle.workload.proofs.Passing.{both}
 use Rattle.workload.proofs.Follows.{object_follows, dormant_follows, schedule_follows, CallFollows, call_follows}
 use Rattle.workload.proofs.Numbers.{is_number-decimal, number_of-decimal}
 use Rattle.workload.proofs.FirstFailing.{passes_first, form_passes}
 use Rattle.workload.proofs.CallWords.{amount_passes}
 use Rattle.workload.proofs.References.{Refers, some_reference, no_reference}
-use Rattle.workload.proofs.CallForms.{value_passes, call_passes, ranges_of}
-use Rattle.workload.proofs.Keywords.{keyword_at-keyword_word}
+use Rattle.workload.proofs.CallForms.{value_passes, call_passes, ranges_of, accesses_of}
+use Rattle.workload.proofs.Keywords.{keyword_in-keyword_word}
 use Rattle.workload.proofs.OneReading.{IsSmall, read_small, same_read, some_is}
 
 worker_passes : (workers i : ℕ) → workers ≤ MAX_WORKERS → nat_lt i workers ≡ true → first_failing (worker_checks workers (decimal i)) ≡ None
@@ -77,7 +78,8 @@ form_of_call d found n r c on h =
     let verb = verb_of c.operation in
     let words = option_to_list r ++ operands_of c.operation in
     let few : nat_le (range_count d.plan.scripts + ranges_in verb) MAX_RANGES ≡ true = ap (λ (n : ℕ). nat_le (range_count d.plan.scripts + n) MAX_RANGES) (sym (ranges_of c.operation)) ∙ h.ranges in
-    form_passes d verb (call_form d verb (word_of found.kind) words) words (keys_of c) (tries_of c.operation) (call_passes d found.kind r c.operation on h.second h.start h.call) ∙ rw (h.room, h.keys, few, h.tries) refl
+    let plain : nat_le (access_count d.plan.scripts + accesses_in verb) MAX_ACCESSES ≡ true = ap (λ (n : ℕ). nat_le (access_count d.plan.scripts + n) MAX_ACCESSES) (sym (accesses_of c.operation)) ∙ h.accesses in
+    form_passes d verb (call_form d verb (word_of found.kind) words) words (keys_of c) (tries_of c.operation) (call_passes d found.kind r c.operation on h.second h.start h.call) ∙ rw (h.room, h.keys, few, h.tries, plain) refl
 
 object_passes : (d : Draft) (o : Option Declared) (n : List ℕ) (r : Option (List ℕ)) (c : Call) → declared d n ≡ o → names_object d.plan.objects o c ≡ true → CallFollows d n r c
     → first_failing (line_checks d (Some (keywords.Call (verb_of c.operation))) (n ∷ option_to_list r ++ operands_of c.operation)) ≡ None
@@ -130,6 +132,7 @@ parameters_pass d (kinds.Atomic k) r named h = plain_fits d (kinds.Atomic k) r r
 parameters_pass d kinds.Mutex r named h = plain_fits d kinds.Mutex r refl named (refl, refl)
 parameters_pass d kinds.RwMutex r named h = plain_fits d kinds.RwMutex r refl named (refl, refl)
 parameters_pass d kinds.Pool r named h = plain_fits d kinds.Pool r refl named (refl, refl)
+parameters_pass d kinds.Var r named h = plain_fits d kinds.Var r refl named (refl, refl)
 
 line_passes : (d : Draft) (l : Line) → d.plan.workers ≤ MAX_WORKERS → may_follow d l ≡ true → first_failing (line_checks d (Some (keyword_of l)) (arguments_of l)) ≡ None
 line_passes d (lines.Object o r) few f =
@@ -154,67 +157,67 @@ line_passes d (lines.Call n r c) few f =
     let h = call_follows d n r c f in
     object_passes d (declared d n) n r c refl h.on h
 
-words_pass : (before : Option Draft) (words : List (List ℕ)) (after : Option Draft) → IsSmall before → Continues before words after → first_failing (word_checks before words) ≡ None
-words_pass None words after small h =
+words_pass : (dialect : Dialect) (before : Option Draft) (words : List (List ℕ)) (after : Option Draft) → IsSmall before → Continues dialect before words after → first_failing (word_checks dialect before words) ≡ None
+words_pass dialect None words after small h =
     let small_number : h.0 < 2 ^ 64 = omega (arith, h.2) in
     let positive = lt-ltb 0 h.0 h.1 in
     let few = le-leb h.0 MAX_WORKERS h.2 in
-    ap (λ (ws : List (List ℕ)). first_failing (word_checks None ws)) h.3
+    ap (λ (ws : List (List ℕ)). first_failing (word_checks dialect None ws)) h.3
     ∙ rw (is_number-decimal h.0 small_number, number_of-decimal h.0 small_number, few, positive) refl
-words_pass (Some d) words after small h =
-    ap (λ (ws : List (List ℕ)). first_failing (word_checks (Some d) ws)) h.2
-    ∙ ap (λ (k : Option Keyword). first_failing (line_checks d k (arguments_of h.0))) (keyword_at-keyword_word (keyword_of h.0))
+words_pass dialect (Some d) words after small h =
+    ap (λ (ws : List (List ℕ)). first_failing (word_checks dialect (Some d) ws)) h.2
+    ∙ ap (λ (k : Option Keyword). first_failing (line_checks d k (arguments_of h.0))) (keyword_in-keyword_word dialect (keyword_of h.0) h.4)
     ∙ line_passes d h.0 small h.1
 
 -- a line that is read passes all its checks
-pub read_passes : (before : Option Draft) (line : List ℕ) (after : Option Draft) → IsSmall before → IsRead before line after → reason_of before line ≡ None
-read_passes before line after small h =
+pub read_passes : (dialect : Dialect) (before : Option Draft) (line : List ℕ) (after : Option Draft) → IsSmall before → IsRead dialect before line after → reason_of dialect before line ≡ None
+read_passes dialect before line after small h =
     rw (h.short, h.clean)
-    (elim (is_significant (words_of line)) as (λ b. is_significant (words_of line) ≡ b → first_failing (cond b (word_checks before (words_of line)) []) ≡ None) [
-      | true ↦ λ t. words_pass before (words_of line) after small (h.continues t)
+    (elim (is_significant (words_of line)) as (λ b. is_significant (words_of line) ≡ b → first_failing (cond b (word_checks dialect before (words_of line)) []) ≡ None) [
+      | true ↦ λ t. words_pass dialect before (words_of line) after small (h.continues t)
       | false ↦ λ f. refl
     ] refl)
 
 none_some : (reason : Reason) → None ≡ Some reason → ⊥
 none_some reason e = cc
 
-not_both : (lines : List (List ℕ)) (before : Option Draft) (next line : ℕ) (reason : Reason) (plan : Plan) → IsSmall before → ReadsOn lines before plan → FirstFault lines before next line reason → ⊥
-not_both [] None next line reason plan small h k = h
-not_both [] (Some d) next line reason plan small h k = k
-not_both (text ∷ texts) before next line reason plan small h k =
+not_both : (dialect : Dialect) (lines : List (List ℕ)) (before : Option Draft) (next line : ℕ) (reason : Reason) (plan : Plan) → IsSmall before → ReadsOn dialect lines before plan → FirstFault dialect lines before next line reason → ⊥
+not_both dialect [] None next line reason plan small h k = h
+not_both dialect [] (Some d) next line reason plan small h k = k
+not_both dialect (text ∷ texts) before next line reason plan small h k =
     ⊎_elim
-    (λ here. let passes = sym (read_passes before text h.0 small h.1) ∙ here.1 in absurd (none_some reason passes))
+    (λ here. let passes = sym (read_passes dialect before text h.0 small h.1) ∙ here.1 in absurd (none_some reason passes))
     (λ on.
-    let same = same_read before text h.0 on.0 small h.1 on.1 in
-    not_both texts h.0 (next + 1) line reason plan (read_small before text h.0 small h.1) h.2 (subst (λ (d : Option Draft). FirstFault texts d (next + 1) line reason) (sym same) on.2))
+    let same = same_read dialect before text h.0 on.0 small h.1 on.1 in
+    not_both dialect texts h.0 (next + 1) line reason plan (read_small dialect before text h.0 small h.1) h.2 (subst (λ (d : Option Draft). FirstFault dialect texts d (next + 1) line reason) (sym same) on.2))
     k
 
-pub read_or_refused : (bytes : List ℕ) (plan : Plan) (line : ℕ) (reason : Reason) → Reads bytes plan → IsRefused bytes line reason → ⊥
-read_or_refused bytes plan line reason h k =
+pub read_or_refused : (dialect : Dialect) (bytes : List ℕ) (plan : Plan) (line : ℕ) (reason : Reason) → ReadsIn dialect bytes plan → IsRefusedIn dialect bytes line reason → ⊥
+read_or_refused dialect bytes plan line reason h k =
     ⊎_elim
     (λ long. omega (arith, h.fits, long.0))
-    (λ fault. not_both (lines_of bytes) None 1 line reason plan tt h.lines fault.1)
+    (λ fault. not_both dialect (lines_of bytes) None 1 line reason plan tt h.lines fault.1)
     k
 
-one_fault : (lines : List (List ℕ)) (before : Option Draft) (next line other : ℕ) (reason why : Reason) → IsSmall before → FirstFault lines before next line reason → FirstFault lines before next other why → (line ≡ other) × (reason ≡ why)
-one_fault [] None next line other reason why small h k = (h.0 ∙ sym k.0, h.1 ∙ sym k.1)
-one_fault [] (Some d) next line other reason why small h k = absurd h
-one_fault (text ∷ texts) before next line other reason why small h k =
+one_fault : (dialect : Dialect) (lines : List (List ℕ)) (before : Option Draft) (next line other : ℕ) (reason why : Reason) → IsSmall before → FirstFault dialect lines before next line reason → FirstFault dialect lines before next other why → (line ≡ other) × (reason ≡ why)
+one_fault dialect [] None next line other reason why small h k = (h.0 ∙ sym k.0, h.1 ∙ sym k.1)
+one_fault dialect [] (Some d) next line other reason why small h k = absurd h
+one_fault dialect (text ∷ texts) before next line other reason why small h k =
     ⊎_elim
     (λ here. ⊎_elim
     (λ there. (here.0 ∙ sym there.0, some_is reason why (sym here.1 ∙ there.1)))
-    (λ on. absurd (none_some reason (sym (read_passes before text on.0 small on.1) ∙ here.1)))
+    (λ on. absurd (none_some reason (sym (read_passes dialect before text on.0 small on.1) ∙ here.1)))
     k)
     (λ on. ⊎_elim
-    (λ there. absurd (none_some why (sym (read_passes before text on.0 small on.1) ∙ there.1)))
+    (λ there. absurd (none_some why (sym (read_passes dialect before text on.0 small on.1) ∙ there.1)))
     (λ also.
-    let same = same_read before text on.0 also.0 small on.1 also.1 in
-    one_fault texts on.0 (next + 1) line other reason why (read_small before text on.0 small on.1) on.2 (subst (λ (d : Option Draft). FirstFault texts d (next + 1) other why) (sym same) also.2))
+    let same = same_read dialect before text on.0 also.0 small on.1 also.1 in
+    one_fault dialect texts on.0 (next + 1) line other reason why (read_small dialect before text on.0 small on.1) on.2 (subst (λ (d : Option Draft). FirstFault dialect texts d (next + 1) other why) (sym same) also.2))
     k)
     h
 
-pub one_refusal : (bytes : List ℕ) (line other : ℕ) (reason why : Reason) → IsRefused bytes line reason → IsRefused bytes other why → (line ≡ other) × (reason ≡ why)
-one_refusal bytes line other reason why h k =
+pub one_refusal : (dialect : Dialect) (bytes : List ℕ) (line other : ℕ) (reason why : Reason) → IsRefusedIn dialect bytes line reason → IsRefusedIn dialect bytes other why → (line ≡ other) × (reason ≡ why)
+one_refusal dialect bytes line other reason why h k =
     ⊎_elim
     (λ long. ⊎_elim
     (λ also. (long.1 ∙ sym also.1, long.2 ∙ sym also.2))
@@ -222,6 +225,6 @@ one_refusal bytes line other reason why h k =
     k)
     (λ fault. ⊎_elim
     (λ long. absurd (omega (arith, long.0, fault.0)))
-    (λ also. one_fault (lines_of bytes) None 1 line other reason why tt fault.1 also.1)
+    (λ also. one_fault dialect (lines_of bytes) None 1 line other reason why tt fault.1 also.1)
     k)
     h

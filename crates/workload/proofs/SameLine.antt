@@ -22,6 +22,7 @@ use Rattle.sync_types.specs.declared.wait_call.CondCall.TheVariants as cond_call
 use Rattle.sync_types.specs.declared.wait_call.WaitGroupCall.{WaitGroupCall}
 use Rattle.sync_types.specs.declared.wait_call.WaitGroupCall.TheVariants as group_calls
 use Rattle.sync_types.specs.declared.pool_call.PoolCall.{PoolCall}
+use Rattle.script_calls.specs.declared.call.VarCall.{VarCall}
 use Rattle.sync_types.specs.declared.lock_call.MutexCall.{MutexCall}
 use Rattle.sync_types.specs.declared.lock_call.MutexCall.TheVariants as mutex_calls
 use Rattle.sync_types.specs.declared.lock_call.RwMutexCall.{RwMutexCall}
@@ -42,15 +43,15 @@ use Rattle.workload.specs.declared.turn.Turn.TheVariants as turns
 use Rattle.workload.specs.Plan.{word_of, is_amount, reference_of, has_call, has_among}
 use Rattle.workload.specs.KeywordWords.{keyword_word}
 use Rattle.workload.specs.NumberWords.{is_number, is_tries, number_of, number_word}
-use Rattle.workload.specs.CallWords.{verb_of, map_verb, atomic_verb, mutex_verb, rw_mutex_verb, cond_verb, group_verb, pool_verb, composed_verb, operands_of, map_operands, atomic_operands, group_operands, pool_operands, composed_operands}
+use Rattle.workload.specs.CallWords.{verb_of, map_verb, atomic_verb, mutex_verb, rw_mutex_verb, cond_verb, group_verb, pool_verb, var_verb, composed_verb, operands_of, map_operands, atomic_operands, group_operands, pool_operands, var_operands, composed_operands}
 use Rattle.workload.specs.Words.{keyword_of, arguments_of, spelled, kind_parameters, turn_word}
-use Rattle.workload.specs.Draft.{Draft, declared, may_follow, names_object, names_second, is_call, is_operation, is_map_call, is_group_call, is_pool_call, is_composed_call, is_kind, names_reference, is_item}
+use Rattle.workload.specs.Draft.{Draft, declared, may_follow, names_object, names_second, is_call, is_operation, is_map_call, is_group_call, is_pool_call, is_var_call, is_composed_call, is_kind, names_reference, is_item}
 use Rattle.workload.proofs.Passing.{both}
 use Rattle.workload.proofs.Follows.{object_follows, dormant_follows, schedule_follows, call_follows}
 use Rattle.workload.proofs.References.{Refers, some_reference, no_reference}
 use Rattle.workload.proofs.Numbers.{is_number-decimal}
 use Rattle.workload.proofs.Keywords.{same_keyword}
-use Rattle.workload.proofs.CallWords.{map_call_at, map_call_spelled, atomic_call_at, atomic_call_spelled, signed_of, amount_spelled, group_call_at, group_call_spelled, pool_call_at, pool_call_spelled, composed_call_at, composed_call_spelled, number_read, number_spelled, tries_back}
+use Rattle.workload.proofs.CallWords.{map_call_at, map_call_spelled, atomic_call_at, atomic_call_spelled, signed_of, amount_spelled, group_call_at, group_call_spelled, pool_call_at, pool_call_spelled, var_call_at, var_call_spelled, composed_call_at, composed_call_spelled, number_read, number_spelled, tries_back}
 use Rattle.workload.proofs.Awaits.{Awaits, awaits, alone_second, no_second}
 
 some_is : {X : Type 0} (x y : X) → Some x ≡ Some y → x ≡ y
@@ -138,6 +139,9 @@ same_group_call c d p q v e = some_is c d (sym (group_call_spelled c p) ∙ ap (
 same_pool_call : (c d : PoolCall) → is_pool_call c ≡ true → is_pool_call d ≡ true → pool_verb c ≡ pool_verb d → pool_operands c ≡ pool_operands d → c ≡ d
 same_pool_call c d p q v e = some_is c d (sym (pool_call_spelled c p) ∙ ap (λ (x : Verb). pool_call_at x (pool_operands c)) v ∙ ap (pool_call_at (pool_verb d)) e ∙ pool_call_spelled d q)
 
+same_var_call : (c d : VarCall) → is_var_call c ≡ true → is_var_call d ≡ true → var_verb c ≡ var_verb d → var_operands c ≡ var_operands d → c ≡ d
+same_var_call c d p q v e = some_is c d (sym (var_call_spelled c p) ∙ ap (λ (x : Verb). var_call_at x (var_operands c)) v ∙ ap (var_call_at (var_verb d)) e ∙ var_call_spelled d q)
+
 same_mutex_call : (c d : MutexCall) → mutex_verb c ≡ mutex_verb d → c ≡ d
 same_mutex_call c d v = some_is c d (sym (mutex_call_spelled c) ∙ ap mutex_call_at v ∙ mutex_call_spelled d)
 
@@ -212,6 +216,7 @@ same_alone (kinds.Once a z) operations.Once operations.Once on_c on_d p q v e = 
 same_alone (kinds.OnceFunc n) operations.OnceFunc operations.OnceFunc on_c on_d p q v e = refl
 same_alone (kinds.OnceValue n) operations.OnceValue operations.OnceValue on_c on_d p q v e = refl
 same_alone kinds.Pool (operations.Pool c) (operations.Pool d) on_c on_d p q v e = ap (λ (x : PoolCall). operations.Pool x) (same_pool_call c d p q v e)
+same_alone kinds.Var (operations.Var c) (operations.Var d) on_c on_d p q v e = ap (λ (x : VarCall). operations.Var x) (same_var_call c d p q v e)
 same_alone (kinds.Atomic k) (operations.Composed c) (operations.Composed d) on_c on_d p q v e = ap (λ (x : ComposedCall). operations.Composed x) (same_composed_call k c d on_c on_d p q v e)
 same_alone (kinds.Atomic k) (operations.Atomic c) (operations.Composed d) on_c on_d p q v e = absurd (no_test c d v)
 same_alone (kinds.Atomic k) (operations.Composed c) (operations.Atomic d) on_c on_d p q v e = absurd (no_test d c (sym v))
@@ -331,6 +336,7 @@ plain (kinds.WaitGroup m) (kinds.WaitGroup n) none p q w e = ap (λ (x : ℕ). k
 plain (kinds.OnceFunc m) (kinds.OnceFunc n) none p q w e = ap (λ (x : ℕ). kinds.OnceFunc x) (number_is MAX_CODE m n p q (omega arith) e)
 plain (kinds.OnceValue m) (kinds.OnceValue n) none p q w e = ap (λ (x : ℕ). kinds.OnceValue x) (number_is MAX_VALUE m n p q (omega arith) e)
 plain kinds.Pool kinds.Pool none p q w e = refl
+plain kinds.Var kinds.Var none p q w e = refl
 plain k l none p q w e = absurd cc
 
 plain_kind : (d : Draft) (k l : ObjectKind) (r s : Option (List ℕ)) → reference_of k ≡ None → reference_of l ≡ None → names_reference d k r ≡ true → names_reference d l s ≡ true → is_kind k ≡ true → is_kind l ≡ true → word_of k ≡ word_of l
@@ -357,6 +363,7 @@ same_kind d (kinds.WaitGroup m) (kinds.WaitGroup n) r s f g p q w e = plain_kind
 same_kind d (kinds.OnceFunc m) (kinds.OnceFunc n) r s f g p q w e = plain_kind d (kinds.OnceFunc m) (kinds.OnceFunc n) r s refl refl f g p q w e
 same_kind d (kinds.OnceValue m) (kinds.OnceValue n) r s f g p q w e = plain_kind d (kinds.OnceValue m) (kinds.OnceValue n) r s refl refl f g p q w e
 same_kind d kinds.Pool kinds.Pool r s f g p q w e = plain_kind d kinds.Pool kinds.Pool r s refl refl f g p q w e
+same_kind d kinds.Var kinds.Var r s f g p q w e = plain_kind d kinds.Var kinds.Var r s refl refl f g p q w e
 same_kind d k l r s f g p q w e = absurd cc
 
 same_arguments : (d : Draft) (l m : Line) → d.plan.workers ≤ MAX_WORKERS → may_follow d l ≡ true → may_follow d m ≡ true → keyword_of l ≡ keyword_of m → arguments_of l ≡ arguments_of m → l ≡ m

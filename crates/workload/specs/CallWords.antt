@@ -21,6 +21,8 @@ use Rattle.sync_types.specs.declared.wait_call.WaitGroupCall.{WaitGroupCall}
 use Rattle.sync_types.specs.declared.wait_call.WaitGroupCall.TheVariants as group_calls
 use Rattle.sync_types.specs.declared.pool_call.PoolCall.{PoolCall}
 use Rattle.sync_types.specs.declared.pool_call.PoolCall.TheVariants as pool_calls
+use Rattle.script_calls.specs.declared.call.VarCall.{VarCall}
+use Rattle.script_calls.specs.declared.call.VarCall.TheVariants as var_calls
 use Rattle.sync_types.specs.SequentialMap.{map_key}
 use Rattle.workload.specs.declared.keyword.Verb.{Verb}
 use Rattle.workload.specs.declared.keyword.Verb.TheVariants as verbs
@@ -75,6 +77,10 @@ pool_verb (pool_calls.Put item) = verbs.Put
 pool_verb pool_calls.Get = verbs.Get
 pool_verb pool_calls.Sweep = verbs.Sweep
 
+abbrev pub var_verb : VarCall → Verb
+var_verb var_calls.Read = verbs.Read
+var_verb (var_calls.Write value) = verbs.Write
+
 abbrev pub composed_verb : ComposedCall → Verb
 composed_verb (IfEqual value passes) = verbs.IfEqual
 composed_verb (WaitFor atomic value tries) = verbs.WaitFor
@@ -92,6 +98,7 @@ verb_of operations.Once = verbs.Do
 verb_of operations.OnceFunc = verbs.Call
 verb_of operations.OnceValue = verbs.Value
 verb_of (operations.Pool call) = pool_verb call
+verb_of (operations.Var call) = var_verb call
 verb_of (operations.Composed call) = composed_verb call
 
 -- the values of a call of a map, in order
@@ -133,6 +140,10 @@ pool_operands (pool_calls.Put item) = decimal item ∷ []
 pool_operands pool_calls.Get = []
 pool_operands pool_calls.Sweep = []
 
+abbrev pub var_operands : VarCall → List (List ℕ)
+var_operands var_calls.Read = []
+var_operands (var_calls.Write value) = decimal value ∷ []
+
 abbrev pub composed_operands : ComposedCall → List (List ℕ)
 composed_operands (IfEqual value passes) = number_word value ∷ decimal passes ∷ []
 composed_operands (WaitFor atomic value tries) = number_word value ∷ decimal tries ∷ []
@@ -150,4 +161,5 @@ operands_of operations.Once = []
 operands_of operations.OnceFunc = []
 operands_of operations.OnceValue = []
 operands_of (operations.Pool call) = pool_operands call
+operands_of (operations.Var call) = var_operands call
 operands_of (operations.Composed call) = composed_operands call

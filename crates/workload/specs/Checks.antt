@@ -8,8 +8,9 @@ use Rattle.script_calls.specs.Starts.{start_count}
 use Rattle.sync_types.specs.declared.atomic_object.AtomicKind.{AtomicKind}
 use Rattle.sync_types.specs.declared.atomic_object.AtomicKind.TheVariants as types
 use Rattle.sync_types.specs.SequentialAtomic.{has_bits}
-use Rattle.workload.specs.declared.limits.TheConstants.{MAX_ALL_TRIES, MAX_AMOUNT, MAX_CALLS, MAX_CODE, MAX_KEYS, MAX_RANGES, MAX_TURNS, MAX_WORKERS}
+use Rattle.workload.specs.declared.limits.TheConstants.{MAX_ACCESSES, MAX_ALL_TRIES, MAX_AMOUNT, MAX_CALLS, MAX_CODE, MAX_KEYS, MAX_RANGES, MAX_TURNS, MAX_WORKERS}
 use Rattle.sync_types.specs.declared.value.TheConstants.{MAX_VALUE}
+use Rattle.workload.specs.declared.keyword.Dialect.{Dialect}
 use Rattle.workload.specs.declared.keyword.Keyword.{Keyword}
 use Rattle.workload.specs.declared.keyword.Keyword.TheVariants as keywords
 use Rattle.workload.specs.declared.keyword.Verb.{Verb}
@@ -26,10 +27,11 @@ use Rattle.workload.specs.declared.object.Declared.{Declared}
 use Rattle.workload.specs.declared.reason.Reason.{Reason}
 use Rattle.workload.specs.declared.reason.Reason.TheVariants.{NoWorkersLine, LineTooLong, BadByte, UnknownWord, WrongNumberOfWords, BadName, NameTaken, UnknownName, WrongKind, BadNumber, NoSuchWorker, CallOutsideWorker, LimitReached, NotDormant}
 use Rattle.workload.specs.Lines.{is_short, is_clean, words_of, is_significant}
-use Rattle.workload.specs.KeywordWords.{keyword_word, keyword_at}
+use Rattle.workload.specs.KeywordWords.{keyword_word}
+use Rattle.workload.specs.Dialect.{keyword_in}
 use Rattle.workload.specs.Plan.{word_of, is_dormant}
 use Rattle.workload.specs.NumberWords.{is_number, is_number_to, is_amount_word, is_passes_word, is_tries_word, is_number_word, number_of}
-use Rattle.workload.specs.Draft.{Draft, declared, limit_of, count_of, call_count, key_count, range_count, try_count}
+use Rattle.workload.specs.Draft.{Draft, declared, limit_of, count_of, call_count, key_count, range_count, try_count, access_count}
 
 -- whether a check passes, and the reason that it fails for
 abbrev pub Check : Type 0
@@ -121,6 +123,12 @@ pool_form verbs.Get = Some []
 pool_form verbs.Sweep = Some []
 pool_form verb = None
 
+-- the operands of a call of a plain variable
+abbrev pub var_form : Verb → Option (List Operand)
+var_form verbs.Read = Some []
+var_form verbs.Write = Some (operands.Value ∷ [])
+var_form verb = None
+
 -- the operands of a call on an object of a word, where such objects have the call
 abbrev pub form_of : Verb → ObjectWord → Option (List Operand)
 form_of verb words.Map = map_form verb
@@ -133,6 +141,7 @@ form_of verb words.Once = once_form verb
 form_of verb words.OnceFunc = once_func_form verb
 form_of verb words.OnceValue = once_value_form verb
 form_of verb words.Pool = pool_form verb
+form_of verb words.Var = var_form verb
 
 -- the kinds of object to which a name may refer
 abbrev pub is_mutex : ObjectKind → Bool
@@ -232,16 +241,23 @@ abbrev pub ranges_in : Verb → ℕ
 ranges_in verbs.Range = 1
 ranges_in verb = 0
 
--- the limits on calls, of one more call with these keys, which is so many `range` calls and may make so many waits
-abbrev pub limit_checks : Draft → List (List ℕ) → (ranges tries : ℕ) → List Check
-limit_checks d keys ranges tries =
+-- how many reads and writes of plain variables
+abbrev pub accesses_in : Verb → ℕ
+accesses_in verbs.Read = 1
+accesses_in verbs.Write = 1
+accesses_in verb = 0
+
+-- the limits on calls, of one more call with these keys, which is so many `range` calls, may make so many waits, and is so many reads and writes
+abbrev pub limit_checks : Draft → List (List ℕ) → (ranges tries accesses : ℕ) → List Check
+limit_checks d keys ranges tries accesses =
     (nat_lt (call_count d.plan.scripts) MAX_CALLS, LimitReached)
     ∷ (nat_le (key_count d.plan.scripts keys) MAX_KEYS, LimitReached)
     ∷ (nat_le (range_count d.plan.scripts + ranges) MAX_RANGES, LimitReached)
-    ∷ (nat_le (try_count d.plan.scripts + tries) MAX_ALL_TRIES, LimitReached) ∷ []
+    ∷ (nat_le (try_count d.plan.scripts + tries) MAX_ALL_TRIES, LimitReached)
+    ∷ (nat_le (access_count d.plan.scripts + accesses) MAX_ACCESSES, LimitReached) ∷ []
 
 abbrev pub form_checks : Draft → Verb → Option (List Operand) → List (List ℕ) → List Check
-form_checks d verb form words = form_words d form words ++ limit_checks d (keys_among form words) (ranges_in verb) (tries_among form words)
+form_checks d verb form words = form_words d form words ++ limit_checks d (keys_among form words) (ranges_in verb) (tries_among form words) (accesses_in verb)
 
 abbrev pub object_checks : Draft → Option Declared → Verb → List (List ℕ) → List Check
 object_checks d None verb words = (false, UnknownName) ∷ []
@@ -315,18 +331,18 @@ first_checks word words =
     (bytes_eq word (keyword_word keywords.Workers), NoWorkersLine) ∷ one_word words (λ number.
     (is_number_to MAX_WORKERS number && nat_lt 0 (number_of number), BadNumber) ∷ [])
 
--- the checks of the words of a line, by the draft that it follows, if it isn't the first
-abbrev pub word_checks : Option Draft → List (List ℕ) → List Check
-word_checks d [] = []
-word_checks None (word ∷ words) = first_checks word words
-word_checks (Some d) (word ∷ words) = line_checks d (keyword_at word) words
+-- the checks of the words of a line of a text of this dialect, by the draft that it follows, if it isn't the first
+abbrev pub word_checks : Dialect → Option Draft → List (List ℕ) → List Check
+word_checks dialect d [] = []
+word_checks dialect None (word ∷ words) = first_checks word words
+word_checks dialect (Some d) (word ∷ words) = line_checks d (keyword_in dialect word) words
 
 -- the checks of a line: its bytes, and then its words where it says something
-abbrev pub checks_of : Option Draft → List ℕ → List Check
-checks_of d line =
+abbrev pub checks_of : Dialect → Option Draft → List ℕ → List Check
+checks_of dialect d line =
     (is_short line, LineTooLong) ∷ (is_clean line, BadByte)
-    ∷ cond (is_significant (words_of line)) (word_checks d (words_of line)) []
+    ∷ cond (is_significant (words_of line)) (word_checks dialect d (words_of line)) []
 
 -- why the line is refused, if it is
-abbrev pub reason_of : Option Draft → List ℕ → Option Reason
-reason_of d line = first_failing (checks_of d line)
+abbrev pub reason_of : Dialect → Option Draft → List ℕ → Option Reason
+reason_of dialect d line = first_failing (checks_of dialect d line)

@@ -15,8 +15,10 @@ use Rattle.sync_types.specs.declared.wait_call.WaitGroupCall.{WaitGroupCall}
 use Rattle.sync_types.specs.declared.wait_call.WaitGroupCall.TheVariants as group_calls
 use Rattle.sync_types.specs.declared.pool_call.PoolCall.{PoolCall}
 use Rattle.sync_types.specs.declared.pool_call.PoolCall.TheVariants as pool_calls
+use Rattle.script_calls.specs.declared.call.VarCall.{VarCall}
+use Rattle.script_calls.specs.declared.call.VarCall.TheVariants as var_calls
 use Rattle.sync_types.specs.SequentialMap.{map_key}
-use Rattle.workload.specs.declared.limits.TheConstants.{MAX_ALL_TRIES, MAX_AMOUNT, MAX_ATOMICS, MAX_CALLS, MAX_CODE, MAX_KEYS, MAX_MAPS, MAX_OTHERS, MAX_RANGES, MAX_TURNS, MAX_WORKERS}
+use Rattle.workload.specs.declared.limits.TheConstants.{MAX_ACCESSES, MAX_ALL_TRIES, MAX_AMOUNT, MAX_ATOMICS, MAX_CALLS, MAX_CODE, MAX_KEYS, MAX_MAPS, MAX_OTHERS, MAX_RANGES, MAX_TURNS, MAX_WORKERS}
 use Rattle.sync_types.specs.declared.value.TheConstants.{MAX_VALUE}
 use Rattle.workload.specs.declared.object.ObjectKind.{ObjectKind}
 use Rattle.workload.specs.declared.object.ObjectKind.TheVariants as kinds
@@ -80,6 +82,7 @@ count_together words.Once words.Once = true
 count_together words.OnceFunc words.OnceFunc = true
 count_together words.OnceValue words.OnceValue = true
 count_together words.Pool words.Pool = true
+count_together words.Var words.Var = true
 count_together word other = false
 
 abbrev pub count_of : ObjectWord → List ObjectLine → ℕ
@@ -133,6 +136,18 @@ tries_of operation = 0
 abbrev pub try_count : List (List Call) → ℕ
 try_count scripts = sum_by (sum_by (λ call. tries_of call.operation)) scripts
 
+-- whether an operation reads or writes a plain variable
+abbrev pub is_access_operation : Operation → Bool
+is_access_operation (operations.Var call) = true
+is_access_operation operation = false
+
+abbrev pub is_access : Call → Bool
+is_access call = is_access_operation call.operation
+
+-- how many reads and writes there are, all workers together
+abbrev pub access_count : List (List Call) → ℕ
+access_count scripts = sum_by (count_by is_access) scripts
+
 -- whether a value of a map is in range
 abbrev pub is_value : ℕ → Bool
 is_value value = nat_le value MAX_VALUE
@@ -151,6 +166,11 @@ abbrev pub is_pool_call : PoolCall → Bool
 is_pool_call (pool_calls.Put item) = is_value item
 is_pool_call call = true
 
+-- whether the value that is written is in range
+abbrev pub is_var_call : VarCall → Bool
+is_var_call (var_calls.Write value) = is_value value
+is_var_call call = true
+
 -- whether the number of calls that a call passes over, of waits that it may make, or of the worker that it starts, is in range
 abbrev pub is_composed_call : ComposedCall → Bool
 is_composed_call (IfEqual value passes) = is_passes passes
@@ -162,6 +182,7 @@ abbrev pub is_operation : Operation → Bool
 is_operation (operations.Map call) = is_map_call call
 is_operation (operations.WaitGroup call) = is_group_call call
 is_operation (operations.Pool call) = is_pool_call call
+is_operation (operations.Var call) = is_var_call call
 is_operation (operations.Composed call) = is_composed_call call
 is_operation operation = true
 
@@ -218,4 +239,5 @@ may_follow d (lines.Call name second call) =
     is_some d.current && (is_name name && (names_object d.plan.objects (declared d name) call && (names_second d call.operation second && (is_call call && (may_start d call.operation
     && (nat_lt (call_count d.plan.scripts) MAX_CALLS && (nat_le (key_count d.plan.scripts (keys_of call)) MAX_KEYS
     && (nat_le (range_count d.plan.scripts + count_by is_range (call ∷ [])) MAX_RANGES
-    && nat_le (try_count d.plan.scripts + tries_of call.operation) MAX_ALL_TRIES))))))))
+    && (nat_le (try_count d.plan.scripts + tries_of call.operation) MAX_ALL_TRIES
+    && nat_le (access_count d.plan.scripts + count_by is_access (call ∷ [])) MAX_ACCESSES)))))))))

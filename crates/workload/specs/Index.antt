@@ -8,14 +8,14 @@ use Rattle.script_calls.specs.Starts.{start_count}
 use Rattle.workload.specs.declared.object.Declared.{Declared}
 use Rattle.workload.specs.Plan.{Plan}
 use Rattle.workload.specs.Readable.{IsReadable}
-use Rattle.workload.specs.Draft.{declared_from, all_keys, call_count, range_count, try_count}
+use Rattle.workload.specs.Draft.{declared_from, all_keys, call_count, range_count, try_count, access_count}
 
 -- names with nothing at each
 abbrev pub marks : List (List ℕ) → List (List ℕ × Unit {0})
 marks names = map (λ name. (name, tt)) names
 
 -- the tables say of the plan what they are asked
-pub record IsIndexed (plan : Plan) (worker : Option ℕ) (table : FinMap (slice_cmp nat_cmp) Declared) (seen : FinMap (slice_cmp nat_cmp) (Unit {0})) (begun : List Bool) (number many waits : ℕ) : Type 0 where
+pub record IsIndexed (plan : Plan) (worker : Option ℕ) (table : FinMap (slice_cmp nat_cmp) Declared) (seen : FinMap (slice_cmp nat_cmp) (Unit {0})) (begun : List Bool) (number many waits accesses : ℕ) : Type 0 where
   pub readable : IsReadable plan
   pub current : option_map_or (λ w. nat_lt w plan.workers) worker true ≡ true
   pub names : (name : List ℕ) → get table name ≡ declared_from 0 name plan.objects
@@ -25,6 +25,7 @@ pub record IsIndexed (plan : Plan) (worker : Option ℕ) (table : FinMap (slice_
   pub calls : number ≡ call_count plan.scripts
   pub ranges : many ≡ range_count plan.scripts
   pub tries : waits ≡ try_count plan.scripts
+  pub variables : accesses ≡ access_count plan.scripts
 
 -- for each worker whether a call starts it, with one more call, which starts this worker, if it starts one
 abbrev pub marked : List Bool → Option ℕ → List Bool

@@ -25,6 +25,7 @@ object_word words.Once = codes "once"
 object_word words.OnceFunc = codes "oncefunc"
 object_word words.OnceValue = codes "oncevalue"
 object_word words.Pool = codes "pool"
+object_word words.Var = codes "var"
 
 -- the word of a call
 abbrev pub verb_word : Verb → List ℕ
@@ -60,6 +61,8 @@ verb_word verbs.Sweep = codes "sweep"
 verb_word verbs.IfEqual = codes "ifeq"
 verb_word verbs.WaitFor = codes "waitfor"
 verb_word verbs.Go = codes "go"
+verb_word verbs.Read = codes "read"
+verb_word verbs.Write = codes "write"
 
 -- the word that a line begins with
 abbrev pub keyword_word : Keyword → List ℕ
@@ -74,14 +77,15 @@ keyword_word (keywords.Call verb) = verb_word verb
 abbrev pub object_words : List ObjectWord
 object_words =
     words.Map ∷ words.Atomic types.Int32 ∷ words.Atomic types.Int64 ∷ words.Atomic types.Uint32 ∷ words.Atomic types.Uint64 ∷ words.Atomic types.Bool
-    ∷ words.Mutex ∷ words.RwMutex ∷ words.Cond ∷ words.WaitGroup ∷ words.Once ∷ words.OnceFunc ∷ words.OnceValue ∷ words.Pool ∷ []
+    ∷ words.Mutex ∷ words.RwMutex ∷ words.Cond ∷ words.WaitGroup ∷ words.Once ∷ words.OnceFunc ∷ words.OnceValue ∷ words.Pool ∷ words.Var ∷ []
 
 -- the calls' words
 abbrev pub call_verbs : List Verb
 call_verbs =
     verbs.Load ∷ verbs.Store ∷ verbs.LoadOrStore ∷ verbs.LoadAndDelete ∷ verbs.Delete ∷ verbs.Swap ∷ verbs.CompareAndSwap ∷ verbs.CompareAndDelete ∷ verbs.Clear ∷ verbs.Range
     ∷ verbs.Add ∷ verbs.And ∷ verbs.Or ∷ verbs.Lock ∷ verbs.Unlock ∷ verbs.TryLock ∷ verbs.RLock ∷ verbs.RUnlock ∷ verbs.TryRLock
-    ∷ verbs.Wait ∷ verbs.Signal ∷ verbs.Broadcast ∷ verbs.Done ∷ verbs.Do ∷ verbs.Call ∷ verbs.Value ∷ verbs.Put ∷ verbs.Get ∷ verbs.Sweep ∷ verbs.IfEqual ∷ verbs.WaitFor ∷ verbs.Go ∷ []
+    ∷ verbs.Wait ∷ verbs.Signal ∷ verbs.Broadcast ∷ verbs.Done ∷ verbs.Do ∷ verbs.Call ∷ verbs.Value ∷ verbs.Put ∷ verbs.Get ∷ verbs.Sweep ∷ verbs.IfEqual ∷ verbs.WaitFor ∷ verbs.Go
+    ∷ verbs.Read ∷ verbs.Write ∷ []
 
 -- the keywords other than calls
 abbrev pub other_keywords : List Keyword

@@ -1,6 +1,7 @@
 pub mod CallWords
 pub mod Canonical
 pub mod Checks
+pub mod Dialect
 pub mod Dormant
 pub mod Draft
 pub mod Forms

@@ -45,6 +45,7 @@ word_of (kinds.Once atomic delta) = words.Once
 word_of (kinds.OnceFunc code) = words.OnceFunc
 word_of (kinds.OnceValue value) = words.OnceValue
 word_of kinds.Pool = words.Pool
+word_of kinds.Var = words.Var
 
 -- the place of the object to which an object refers
 abbrev pub reference_of : ObjectKind → Option ℕ
@@ -80,6 +81,7 @@ has_operation words.Once operations.Once = true
 has_operation words.OnceFunc operations.OnceFunc = true
 has_operation words.OnceValue operations.OnceValue = true
 has_operation words.Pool (operations.Pool call) = true
+has_operation words.Var (operations.Var call) = true
 has_operation (words.Atomic kind) (operations.Composed (IfEqual value passes)) = is_of kind value
 has_operation word operation = false
 

@@ -6,7 +6,7 @@ ghost use Rattle.sync_types.specs.Name.{is_name};
 ghost use Rattle.workload.specs.declared.limits.TheConstants.{MAX_WORKERS};
 ghost use Rattle.workload.specs.Index.{with_keys, marked};
 ghost use Rattle.workload.specs.Plan.{is_dormant};
-ghost use Rattle.workload.specs.Draft.{started, with_line, may_follow, declared, count_of, count_together, limit_of, call_count, key_count, keys_of, is_range, range_count, tries_of, try_count};
+ghost use Rattle.workload.specs.Draft.{started, with_line, may_follow, declared, count_of, count_together, limit_of, call_count, key_count, keys_of, is_range, range_count, tries_of, try_count, is_access, access_count};
 ghost use Rattle.script_calls.specs.Starts.{started_by, start_count};
 
 use crate::keys::Keys;
@@ -37,6 +37,7 @@ pub struct Draft {
     calls: usize,
     ranges: usize,
     tries: usize,
+    accesses: usize,
 }
 
 impl Model for Draft {
@@ -47,7 +48,7 @@ impl Model for Draft {
 
     ghost view = { λ d. record { plan = record { workers = d.workers; objects = d.objects; dormant = d.dormant.items; scripts = d.scripts; schedule = d.schedule }; current = d.current } };
 
-    ghost invariant = { λ d. IsIndexed (record { workers = d.workers; objects = d.objects; dormant = d.dormant.items; scripts = d.scripts; schedule = d.schedule }) d.current d.names d.keys d.started.items d.calls d.ranges d.tries };
+    ghost invariant = { λ d. IsIndexed (record { workers = d.workers; objects = d.objects; dormant = d.dormant.items; scripts = d.scripts; schedule = d.schedule }) d.current d.names d.keys d.started.items d.calls d.ranges d.tries d.accesses };
 }
 
 /// As many empty scripts as there are workers.
@@ -86,6 +87,7 @@ fn counts_together(word: ObjectWord, other: ObjectWord) -> bool
         (ObjectWord::OnceFunc, ObjectWord::OnceFunc) => true,
         (ObjectWord::OnceValue, ObjectWord::OnceValue) => true,
         (ObjectWord::Pool, ObjectWord::Pool) => true,
+        (ObjectWord::Var, ObjectWord::Var) => true,
         _ => false,
     }
 }
@@ -160,6 +162,16 @@ pub fn tries_in(call: &Call) -> usize
     }
 }
 
+/// How many reads and writes of plain variables a call is: one or none.
+pub fn accesses_in(call: &Call) -> usize
+    ensures { result ≡ count_by is_access (call.now ∷ []) }
+{
+    match &call.operation {
+        Operation::Var(_) => 1,
+        _ => 0,
+    }
+}
+
 /// The worker that a call starts, if it starts one.
 fn started_by(call: &Call) -> Option<u32>
     ensures { result ≡ started_by call.now.operation }
@@ -204,6 +216,7 @@ impl Draft {
             calls: 0,
             ranges: 0,
             tries: 0,
+            accesses: 0,
         })
     }
 
@@ -273,6 +286,13 @@ impl Draft {
         self.tries
     }
 
+    /// How many reads and writes of plain variables there are, all workers together.
+    pub fn accesses(&self) -> usize
+        ensures { result ≡ access_count self.now.plan.scripts }
+    {
+        self.accesses
+    }
+
     /// How many items the schedule has.
     pub fn turns(&self) -> usize
         ensures { result ≡ length self.now.plan.schedule }
@@ -323,6 +343,7 @@ impl Draft {
             calls,
             ranges,
             tries,
+            accesses,
         } = self;
         let declared = Declared {
             place: objects.len(),
@@ -343,6 +364,7 @@ impl Draft {
             calls,
             ranges,
             tries,
+            accesses,
         })
     }
 
@@ -363,6 +385,7 @@ impl Draft {
             calls,
             ranges,
             tries,
+            accesses,
         } = self;
         dormant[worker as usize] = true;
         Draft {
@@ -378,6 +401,7 @@ impl Draft {
             calls,
             ranges,
             tries,
+            accesses,
         }
     }
 
@@ -398,6 +422,7 @@ impl Draft {
             calls,
             ranges,
             tries,
+            accesses,
         } = self;
         Draft {
             workers,
@@ -412,6 +437,7 @@ impl Draft {
             calls,
             ranges,
             tries,
+            accesses,
         }
     }
 
@@ -432,6 +458,7 @@ impl Draft {
             calls,
             ranges,
             tries,
+            accesses,
         } = self;
         schedule.extend_from_slice(turns)?;
         Ok(Draft {
@@ -447,6 +474,7 @@ impl Draft {
             calls,
             ranges,
             tries,
+            accesses,
         })
     }
 
@@ -473,6 +501,7 @@ impl Draft {
             calls,
             ranges,
             tries,
+            accesses,
         } = self;
         let Some(worker) = current else {
             unreachable!()
@@ -480,6 +509,7 @@ impl Draft {
         insert_keys(alloc, &mut keys, &call)?;
         let more_ranges = ranges_in(&call);
         let more_tries = tries_in(&call);
+        let more_accesses = accesses_in(&call);
         let started = with_started(started, &call);
         scripts.push_at(worker as usize, call)?;
         Ok(Draft {
@@ -495,6 +525,7 @@ impl Draft {
             calls: calls + 1,
             ranges: ranges + more_ranges,
             tries: tries + more_tries,
+            accesses: accesses + more_accesses,
         })
     }
 

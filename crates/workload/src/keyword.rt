@@ -1,9 +1,19 @@
 //! The words that a line begins with.
 ghost use Rattle.std.specs.Prelude.{◌≡◌, ◌∷◌, ℕ, List};
+ghost use Rattle.workload.specs.Dialect.{knows, keyword_in};
 ghost use Rattle.workload.specs.KeywordWords.{verb_word, call_verbs, keyword_word, first_named, keyword_at};
 
 use crate::object::ObjectWord;
 use sync_types::AtomicKind;
+
+/// Which words a text may have.
+#[derive(Clone, Copy, PartialEq, Eq)]
+pub enum Dialect {
+    /// All but those of plain variables.
+    Plain,
+    /// All: those of a text whose races are asked for.
+    Races,
+}
 
 /// What a line's first word announces.
 #[derive(Clone, Copy, PartialEq, Eq)]
@@ -66,6 +76,9 @@ pub enum Verb {
     /// `waitfor`
     WaitFor,
     Go,
+    /// Of a plain variable, as `write`.
+    Read,
+    Write,
 }
 
 /// What a word of a call behind the object's name stands for.
@@ -73,7 +86,7 @@ pub enum Verb {
 pub enum Operand {
     /// A key of a map.
     Key,
-    /// A value of a map or a pool, 0 to 2^63 - 1.
+    /// A value of a map, a pool or a plain variable, 0 to 2^63 - 1.
     Value,
     /// A number of an atomic of this type.
     Number(AtomicKind),
@@ -103,7 +116,7 @@ pub enum Parameter {
 }
 
 /// The keywords other than calls.
-const OTHERS: [Keyword; 18] = [
+const OTHERS: [Keyword; 19] = [
     Keyword::Schedule,
     Keyword::Worker,
     Keyword::Workers,
@@ -122,6 +135,7 @@ const OTHERS: [Keyword; 18] = [
     Keyword::Object(ObjectWord::OnceFunc),
     Keyword::Object(ObjectWord::OnceValue),
     Keyword::Object(ObjectWord::Pool),
+    Keyword::Object(ObjectWord::Var),
 ];
 
 impl Verb {
@@ -162,6 +176,8 @@ impl Verb {
             Verb::IfEqual => b"ifeq",
             Verb::WaitFor => b"waitfor",
             Verb::Go => b"go",
+            Verb::Read => b"read",
+            Verb::Write => b"write",
         }
     }
 }
@@ -206,12 +222,12 @@ fn verbs_with(first: u8) -> &'static [Verb]
         ],
         b'o' => &[Verb::Or],
         b'p' => &[Verb::Put],
-        b'r' => &[Verb::Range, Verb::RLock, Verb::RUnlock],
+        b'r' => &[Verb::Range, Verb::RLock, Verb::RUnlock, Verb::Read],
         b's' => &[Verb::Store, Verb::Swap, Verb::Signal, Verb::Sweep],
         b't' => &[Verb::TryLock, Verb::TryRLock],
         b'u' => &[Verb::Unlock],
         b'v' => &[Verb::Value],
-        b'w' => &[Verb::Wait, Verb::WaitFor],
+        b'w' => &[Verb::Wait, Verb::WaitFor, Verb::Write],
         _ => &[],
     }
 }
@@ -250,12 +266,35 @@ fn find_keyword(keywords: &[Keyword], word: &[u8]) -> Option<Keyword>
     None
 }
 
-/// The keyword that a word is, if it is one.
-pub fn read_keyword(word: &[u8]) -> Option<Keyword>
+/// The keyword that a word is, if it is one in any dialect.
+fn find_any(word: &[u8]) -> Option<Keyword>
     ensures { result ≡ keyword_at word.now }
 {
     match read_verb(word) {
         Some(verb) => Some(Keyword::Call(verb)),
         None => find_keyword(&OTHERS, word),
+    }
+}
+
+/// Whether texts of a dialect may have a keyword.
+fn knows(dialect: Dialect, keyword: Keyword) -> bool
+    ensures { result ≡ knows dialect keyword }
+{
+    match (dialect, keyword) {
+        (
+            Dialect::Plain,
+            Keyword::Object(ObjectWord::Var) | Keyword::Call(Verb::Read | Verb::Write),
+        ) => false,
+        _ => true,
+    }
+}
+
+/// The keyword that a word is in texts of a dialect, if it is one there.
+pub fn read_keyword(dialect: Dialect, word: &[u8]) -> Option<Keyword>
+    ensures { result ≡ keyword_in dialect word.now }
+{
+    match find_any(word) {
+        Some(keyword) if knows(dialect, keyword) => Some(keyword),
+        _ => None,
     }
 }

@@ -1,5 +1,5 @@
 //! Laws of the grammar.
-ghost use Rattle.std.specs.Prelude.{◌≡◌, ◌↔◌, ◌⊎◌, ◌<◌, ◌≤◌, ℕ, ◌+◌, ◌-◌, ◌*◌, ◌^◌, [], ◌∷◌, ◌++◌, true, false, List, Option, Some, None, count_by, length, slice_get, take, drop};
+ghost use Rattle.std.specs.Prelude.{◌≡◌, ◌↔◌, ◌⊎◌, ◌<◌, ◌≤◌, ℕ, ◌+◌, ◌-◌, ◌*◌, ◌^◌, [], ◌∷◌, ◌++◌, true, false, codes, List, Option, Some, None, count_by, length, slice_get, take, drop};
 ghost use Rattle.std.specs.Option.{option_to_list};
 ghost use Rattle.std.specs.List.{list_any, position_from};
 ghost use Rattle.std.specs.Str.{bytes_eq};
@@ -7,9 +7,10 @@ ghost use Rattle.std.specs.Fmt.{decimal};
 ghost use Rattle.sync_types.specs.declared.name.TheConstants.{MAX_NAME};
 ghost use Rattle.workload.specs.Canonical.{canonical, eights};
 ghost use Rattle.workload.specs.CallWords.{verb_of, operands_of};
-ghost use Rattle.workload.specs.Checks.{Check, first_failing, call_form, form_words, keys_among, tries_among, ranges_in};
+ghost use Rattle.workload.specs.Checks.{Check, first_failing, call_form, form_words, keys_among, tries_among, ranges_in, accesses_in};
+ghost use Rattle.workload.specs.Dialect.{knows, keyword_in, is_variable, has_variables};
 ghost use Rattle.workload.specs.Dormant.{begins_dormant, names_dormant};
-ghost use Rattle.workload.specs.Draft.{Draft, all_keys, declared, distinct_count, is_operation, is_range_operation, may_start, names_second, operation_keys, tries_of};
+ghost use Rattle.workload.specs.Draft.{Draft, all_keys, declared, distinct_count, is_operation, is_range_operation, is_access_operation, may_start, names_second, operation_keys, tries_of};
 ghost use Rattle.workload.specs.Keys.{keys_in, number_in, key_number, key_name};
 ghost use Rattle.workload.specs.Readable.{IsReadable};
 ghost use Rattle.workload.specs.KeywordWords.{keyword_at, keyword_word};
@@ -20,11 +21,12 @@ ghost use Rattle.workload.specs.declared.reason.Reason.{Reason};
 ghost use Rattle.workload.specs.declared.turn.Turn.{Turn};
 ghost use Rattle.workload.specs.Lines.{lines_of, words_of};
 ghost use Rattle.workload.specs.Plan.{Plan, word_of, has_among, is_dormant, has_dormant};
-ghost use Rattle.workload.specs.Reads.{Reads, IsRefused};
+ghost use Rattle.workload.specs.Reads.{Reads, ReadsIn, IsRefused, IsRefusedIn};
 
+use crate::keyword::Dialect;
 use crate::limits::{
-    MAX_ALL_TRIES, MAX_AMOUNT, MAX_ATOMICS, MAX_CALLS, MAX_CODE, MAX_INPUT, MAX_KEYS, MAX_LINE,
-    MAX_MAPS, MAX_OTHERS, MAX_PASSES, MAX_RANGES, MAX_TRIES, MAX_TURNS, MAX_WORKERS,
+    MAX_ACCESSES, MAX_ALL_TRIES, MAX_AMOUNT, MAX_ATOMICS, MAX_CALLS, MAX_CODE, MAX_INPUT, MAX_KEYS,
+    MAX_LINE, MAX_MAPS, MAX_OTHERS, MAX_PASSES, MAX_RANGES, MAX_TRIES, MAX_TURNS, MAX_WORKERS,
 };
 use crate::object::{ObjectKind, ObjectLine};
 use script_calls::laws::who_starts_whom;
@@ -51,9 +53,40 @@ pub fn each_text()
     ensures { (bytes : List ℕ) → ((plan : Plan) × Reads bytes plan) ⊎ ((line : ℕ) × (reason : Reason) × IsRefused bytes line reason) }
 {}
 
-/// The canonical text of a workload is read as it.
+/// The canonical text of a workload without variables is read as it.
 pub fn canonical_reads()
-    ensures { (plan : Plan) → IsReadable plan → Reads (canonical plan) plan }
+    ensures { (plan : Plan) → IsReadable plan → has_variables plan ≡ false → Reads (canonical plan) plan }
+{}
+
+/// A race text too is read as one workload, or is refused at one line and for one reason. The canonical text of any workload is a race text of it.
+pub fn race_texts_are_read_or_refused()
+    ensures one { (bytes : List ℕ) (p q : Plan) → ReadsIn Dialect.Races bytes p → ReadsIn Dialect.Races bytes q → p ≡ q }
+    ensures apart { (bytes : List ℕ) (plan : Plan) (line : ℕ) (reason : Reason) → ReadsIn Dialect.Races bytes plan → IsRefusedIn Dialect.Races bytes line reason → ⊥ }
+    ensures refusal { (bytes : List ℕ) (line other : ℕ) (reason why : Reason) → IsRefusedIn Dialect.Races bytes line reason → IsRefusedIn Dialect.Races bytes other why → (line ≡ other) × (reason ≡ why) }
+    ensures each { (bytes : List ℕ) → ((plan : Plan) × ReadsIn Dialect.Races bytes plan) ⊎ ((line : ℕ) × (reason : Reason) × IsRefusedIn Dialect.Races bytes line reason) }
+    ensures canonical { (plan : Plan) → IsReadable plan → ReadsIn Dialect.Races (canonical plan) plan }
+{}
+
+/// What is read as a plain text has no variable, and is read as the same workload as a race text. What is read as a race text of a
+/// workload without variables is a plain text of it.
+pub fn plain_texts_are_race_texts_without_variables()
+    ensures none { (bytes : List ℕ) (plan : Plan) → Reads bytes plan → has_variables plan ≡ false }
+    ensures races { (bytes : List ℕ) (plan : Plan) → Reads bytes plan → ReadsIn Dialect.Races bytes plan }
+    ensures plain { (bytes : List ℕ) (plan : Plan) → ReadsIn Dialect.Races bytes plan → has_variables plan ≡ false → Reads bytes plan }
+{}
+
+/// A plain text doesn't know the words `var`, `read` and `write`, and has all other words of race texts.
+pub fn dialects()
+    ensures known { (dialect : Dialect) (word : List ℕ) (keyword : Keyword) → keyword_in dialect word ≡ Some keyword ↔ (keyword_at word ≡ Some keyword) × (knows dialect keyword ≡ true) }
+    ensures races { (word : List ℕ) → keyword_in Dialect.Races word ≡ keyword_at word }
+    ensures plain { (keyword_in Dialect.Plain (codes "var") ≡ None) × (keyword_in Dialect.Plain (codes "read") ≡ None) × (keyword_in Dialect.Plain (codes "write") ≡ None) }
+    ensures others { (word : List ℕ) → (keyword_in Dialect.Plain word ≡ keyword_at word) ⊎ ((word ≡ codes "var") ⊎ (word ≡ codes "read") ⊎ (word ≡ codes "write")) }
+{}
+
+/// Only variables are read and written. So no object of a workload that has none has a read or a write.
+pub fn only_variables_are_read_and_written()
+    ensures variable { (objects : List ObjectLine) (kind : ObjectKind) (operation : Operation) → has_among objects kind operation ≡ true → is_access_operation operation ≡ is_variable kind }
+    ensures none { (plan : Plan) (place : ℕ) (object : ObjectLine) (operation : Operation) → has_variables plan ≡ false → slice_get plan.objects place ≡ Some object → has_among plan.objects object.kind operation ≡ true → is_access_operation operation ≡ false }
 {}
 
 /// Two workloads with one canonical text are equal.
@@ -105,7 +138,7 @@ pub fn names_find_their_objects()
 /// A call that its object has among those of the draft, with its numbers in range, its second name, if it has one, that of
 /// the second object, and the worker that it starts, if it starts one, a waiting one that no call starts yet: it passes the
 /// checks of the words that it is printed as. The keys among these words and the number of waits that they say are its own,
-/// and its word says whether it is a `range`.
+/// and its word says whether it is a `range`, and whether it reads or writes a plain variable.
 pub fn calls_pass_their_checks()
     ensures passes { (draft : Draft) (kind : ObjectKind) (second : Option (List ℕ)) (operation : Operation) → has_among draft.plan.objects kind operation ≡ true → names_second draft operation second ≡ true → may_start draft operation ≡ true → is_operation operation ≡ true
         → first_failing (form_words draft (call_form draft (verb_of operation) (word_of kind) (option_to_list second ++ operands_of operation)) (option_to_list second ++ operands_of operation)) ≡ None }
@@ -114,6 +147,7 @@ pub fn calls_pass_their_checks()
     ensures tries { (draft : Draft) (kind : ObjectKind) (second : Option (List ℕ)) (operation : Operation) → has_among draft.plan.objects kind operation ≡ true → names_second draft operation second ≡ true → may_start draft operation ≡ true → is_operation operation ≡ true
         → tries_among (call_form draft (verb_of operation) (word_of kind) (option_to_list second ++ operands_of operation)) (option_to_list second ++ operands_of operation) ≡ tries_of operation }
     ensures ranges { (operation : Operation) → count_by is_range_operation (operation ∷ []) ≡ ranges_in (verb_of operation) }
+    ensures accesses { (operation : Operation) → count_by is_access_operation (operation ∷ []) ≡ accesses_in (verb_of operation) }
 {}
 
 /// The limits of a text by their numbers, of which the grammar speaks by name.
@@ -123,6 +157,7 @@ pub fn limits()
     ensures objects { (MAX_MAPS ≡ 16) × (MAX_ATOMICS ≡ 64) × (MAX_OTHERS ≡ 32) × (MAX_KEYS ≡ 4096) }
     ensures passes { MAX_PASSES ≡ 1000 }
     ensures tries { (MAX_TRIES ≡ 1000) × (MAX_ALL_TRIES ≡ 20000) }
+    ensures variables { MAX_ACCESSES ≡ 1000 }
     ensures numbers { (MAX_AMOUNT ≡ 10000) × (MAX_CODE ≡ 1000) × (MAX_VALUE ≡ 2 ^ 63 - 1) }
 {}
 
@@ -134,9 +169,9 @@ pub fn dormant_lines_say_who_waits()
     ensures nobody { (plan : Plan) → has_dormant plan ≡ false ↔ ((worker : ℕ) → is_dormant plan worker ≡ false) }
 {}
 
-/// A workload has at most 16 maps, 64 atomics, and 32 objects of each of the eight other words.
+/// A workload has at most 16 maps, 64 atomics, and 32 objects of each of the nine other words.
 pub fn a_workload_has_few_objects()
-    ensures { (plan : Plan) → IsReadable plan → length plan.objects ≤ MAX_MAPS + (MAX_ATOMICS + 8 * MAX_OTHERS) }
+    ensures { (plan : Plan) → IsReadable plan → length plan.objects ≤ MAX_MAPS + (MAX_ATOMICS + 9 * MAX_OTHERS) }
 {}
 
 /// In a workload that has a text each `go` is one of a wait group and starts a worker that waits to be started. No two start the

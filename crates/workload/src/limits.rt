@@ -40,6 +40,9 @@ pub const MAX_ALL_TRIES: usize = 20_000;
 /// The most `range` calls, of all workers together.
 pub const MAX_RANGES: usize = 64;
 
+/// The most reads and writes of plain variables, of all workers together.
+pub const MAX_ACCESSES: usize = 1_000;
+
 /// The most different keys, over all maps.
 pub const MAX_KEYS: usize = 4_096;
 

@@ -29,6 +29,8 @@ pub enum ObjectKind {
     OnceValue { value: u64 },
     /// A pool, which is empty at the start. A new item of it is 0.
     Pool,
+    /// A plain variable, which is 0 at the start. Only race texts have any.
+    Var,
 }
 
 /// The word that the line of an object begins with. Objects with one word have the same calls, and
@@ -45,6 +47,7 @@ pub enum ObjectWord {
     OnceFunc,
     OnceValue,
     Pool,
+    Var,
 }
 
 /// An object as a workload declares it.
@@ -85,6 +88,7 @@ impl ObjectWord {
             ObjectWord::OnceFunc => b"oncefunc",
             ObjectWord::OnceValue => b"oncevalue",
             ObjectWord::Pool => b"pool",
+            ObjectWord::Var => b"var",
         }
     }
 }
@@ -105,6 +109,7 @@ impl ObjectKind {
             ObjectKind::OnceFunc { .. } => ObjectWord::OnceFunc,
             ObjectKind::OnceValue { .. } => ObjectWord::OnceValue,
             ObjectKind::Pool => ObjectWord::Pool,
+            ObjectKind::Var => ObjectWord::Var,
         }
     }
 }

@@ -11,7 +11,7 @@ use Rattle.workload.specs.declared.object.ObjectWord.{ObjectWord}
 use Rattle.workload.specs.declared.object.ObjectWord.TheVariants as words
 use Rattle.workload.specs.declared.reason.Reason.TheVariants.{WrongNumberOfWords}
 use Rattle.workload.specs.Draft.{Draft}
-use Rattle.workload.specs.Checks.{Check, operand_check, operand_checks, form_words, form_of, call_form, map_form, atomic_form, bits_form, mutex_form, rw_mutex_form, cond_form, group_form, once_form, once_func_form, once_value_form, pool_form}
+use Rattle.workload.specs.Checks.{Check, operand_check, operand_checks, form_words, form_of, call_form, map_form, atomic_form, bits_form, mutex_form, rw_mutex_form, cond_form, group_form, once_form, once_func_form, once_value_form, pool_form, var_form}
 use Rattle.workload_text.specs.LineResult.{IsFault, blank}
 
 -- whether no operand names an object or a worker
@@ -74,6 +74,10 @@ plain_pool : (verb : Verb) → is_plain_form (pool_form verb) ≡ true
 plain_pool verbs.Put = refl
 plain_pool verb = refl
 
+plain_var : (verb : Verb) → is_plain_form (var_form verb) ≡ true
+plain_var verbs.Read = refl
+plain_var verb = refl
+
 plain_form : (verb : Verb) (word : ObjectWord) → is_plain_form (form_of verb word) ≡ true
 plain_form verb words.Map = plain_map verb
 plain_form verb (words.Atomic kind) = plain_atomic kind verb
@@ -85,6 +89,7 @@ plain_form verb words.Once = (plain_once verb).0
 plain_form verb words.OnceFunc = (plain_once verb).1
 plain_form verb words.OnceValue = (plain_once verb).2
 plain_form verb words.Pool = plain_pool verb
+plain_form verb words.Var = plain_var verb
 
 -- the form of a call is that of its object's calls but where it is a `waitfor` or a `go`
 call_form_is : (d : Draft) (verb : Verb) (word : ObjectWord) (ws : List (List ℕ)) → ((verb ≡ verbs.WaitFor) → ⊥) → ((verb ≡ verbs.Go) → ⊥) → call_form d verb word ws ≡ form_of verb word

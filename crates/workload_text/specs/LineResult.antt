@@ -7,6 +7,7 @@ use Rattle.script_calls.specs.declared.call.Operation.{Operation}
 use Rattle.sync_types.specs.declared.atomic_object.AtomicKind.{AtomicKind}
 use Rattle.workload.specs.declared.fault.LineFault.{LineFault}
 use Rattle.workload.specs.declared.fault.LineFault.TheVariants as faults
+use Rattle.workload.specs.declared.keyword.Dialect.{Dialect}
 use Rattle.workload.specs.declared.keyword.Keyword.{Keyword}
 use Rattle.workload.specs.declared.keyword.Operand.{Operand}
 use Rattle.workload.specs.declared.keyword.Operand.TheVariants as operands
@@ -18,7 +19,7 @@ use Rattle.workload.specs.declared.object.ObjectWord.{ObjectWord}
 use Rattle.workload.specs.declared.turn.Turn.{Turn}
 use Rattle.workload.specs.declared.limits.TheConstants.{MAX_WORKERS}
 use Rattle.workload.specs.declared.line.Line.{Line}
-use Rattle.workload.specs.KeywordWords.{keyword_at}
+use Rattle.workload.specs.Dialect.{knows, keyword_in}
 use Rattle.workload.specs.CallWords.{verb_of, operands_of}
 use Rattle.workload.specs.Words.{spelled, first_spelled, keyword_of, arguments_of, kind_parameters, turn_word}
 use Rattle.workload.specs.Plan.{word_of, has_operation, has_among}
@@ -38,12 +39,12 @@ IsLineOf draft keyword arguments result =
     (λ line. (may_follow draft line ≡ true) × (keyword_of line ≡ keyword) × (arguments_of line ≡ arguments))
     (IsFault (line_checks draft (Some keyword) arguments))
 
--- the line that the words spell and that may follow, or the first check that fails
-abbrev pub IsLine : Draft → List ℕ → List (List ℕ) → Result Line LineFault → Type 0
-IsLine draft word arguments result =
+-- the line that the words spell in a text of this dialect and that may follow, or the first check that fails
+abbrev pub IsLine : Dialect → Draft → List ℕ → List (List ℕ) → Result Line LineFault → Type 0
+IsLine dialect draft word arguments result =
     MatchResult result
-    (λ line. (may_follow draft line ≡ true) × (word ∷ arguments ≡ spelled line))
-    (IsFault (line_checks draft (keyword_at word) arguments))
+    (λ line. (may_follow draft line ≡ true) × (word ∷ arguments ≡ spelled line) × (knows dialect (keyword_of line) ≡ true))
+    (IsFault (line_checks draft (keyword_in dialect word) arguments))
 
 -- a draft that declares nothing. By it operands are checked that name no object, for which any draft does
 abbrev pub blank : Draft
@@ -126,4 +127,4 @@ IsSound line significant = (is_short line ≡ true) × (is_clean line ≡ true) 
 
 -- a line that is refused whatever stands before it
 abbrev pub IsUnsound : List ℕ → LineFault → Type 0
-IsUnsound line fault = (before : Option Draft) → IsFault (checks_of before line) fault
+IsUnsound line fault = (dialect : Dialect) (before : Option Draft) → IsFault (checks_of dialect before line) fault

@@ -4,6 +4,8 @@ use Rattle.std.specs.Fmt.{decimal, signed_decimal}
 use Rattle.script_calls.specs.declared.call.Call.{Call}
 use Rattle.script_calls.specs.declared.call.Reply.{Reply}
 use Rattle.script_calls.specs.declared.call.Reply.TheVariants as replies
+use Rattle.script_calls.specs.declared.call.VarReply.{VarReply}
+use Rattle.script_calls.specs.declared.call.VarReply.TheVariants as var_replies
 use Rattle.sync_types.specs.declared.map_object.MapReply.{MapReply}
 use Rattle.sync_types.specs.declared.map_object.MapReply.TheVariants as map_replies
 use Rattle.sync_types.specs.declared.atomic_object.AtomicReply.{AtomicReply}
@@ -76,6 +78,11 @@ pool_reply_text pool_replies.Done = codes "ok"
 pool_reply_text (pool_replies.Put item) = decimal item ++ codes " put"
 pool_reply_text pool_replies.New = codes "0 new"
 
+-- a reply of a plain variable: nothing, or the value that was read
+abbrev pub var_reply_text : VarReply → List ℕ
+var_reply_text var_replies.Done = codes "ok"
+var_reply_text (var_replies.Held value) = decimal value
+
 -- a reply, whose keys have their numbers among these
 abbrev pub reply_text : List (List ℕ) → Reply ℕ → List ℕ
 reply_text keys (replies.Map reply) = map_reply_text reply
@@ -87,6 +94,7 @@ reply_text keys (replies.Once reply) = once_reply_text reply
 reply_text keys (replies.OnceFunc code) = once_func_reply_text code
 reply_text keys (replies.OnceValue value) = decimal value
 reply_text keys (replies.Pool reply) = pool_reply_text reply
+reply_text keys (replies.Var reply) = var_reply_text reply
 
 -- the line of a completed call: `WORKER.INDEX CALL -> REPLY`
 abbrev pub completed_line : Plan → ℕ → ℕ → Call → Reply ℕ → List ℕ

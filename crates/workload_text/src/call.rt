@@ -1,9 +1,9 @@
 //! Which call an operation is, and which objects it names beside its own.
 ghost use Rattle.std.specs.Prelude.{◌≡◌};
-ghost use Rattle.workload.specs.CallWords.{map_verb, atomic_verb, mutex_verb, rw_mutex_verb, cond_verb, group_verb, pool_verb, composed_verb, verb_of};
+ghost use Rattle.workload.specs.CallWords.{map_verb, atomic_verb, mutex_verb, rw_mutex_verb, cond_verb, group_verb, pool_verb, var_verb, composed_verb, verb_of};
 ghost use Rattle.workload.specs.Plan.{second_of};
 
-use script_calls::{ComposedCall, Operation};
+use script_calls::{ComposedCall, Operation, VarCall};
 use sync_types::{
     AtomicCall, CondCall, MapCall, MutexCall, Name, PoolCall, RwMutexCall, WaitGroupCall,
 };
@@ -99,6 +99,16 @@ pub fn pool_verb(call: PoolCall) -> Verb
     }
 }
 
+/// Which call of a plain variable it is.
+pub fn var_verb(call: VarCall) -> Verb
+    ensures { result ≡ var_verb call }
+{
+    match call {
+        VarCall::Read => Verb::Read,
+        VarCall::Write(_) => Verb::Write,
+    }
+}
+
 /// Which of the calls that are made of others it is.
 pub fn composed_verb(call: ComposedCall) -> Verb
     ensures { result ≡ composed_verb call }
@@ -126,6 +136,7 @@ pub fn verb(operation: &Operation) -> Verb
         Operation::OnceFunc => Verb::Call,
         Operation::OnceValue => Verb::Value,
         Operation::Pool(call) => pool_verb(*call),
+        Operation::Var(call) => var_verb(*call),
         Operation::Composed(call) => composed_verb(*call),
     }
 }

@@ -13,7 +13,7 @@ use crate::object_reading::read_atomic;
 use crate::word_reading::{
     read_amount, read_name, read_none, read_number, read_passes, read_start, read_tries, read_value,
 };
-use script_calls::{ComposedCall, Operation};
+use script_calls::{ComposedCall, Operation, VarCall};
 use std::alloc::Global;
 use sync_types::{
     AtomicCall, AtomicKind, CondCall, MAX_VALUE, MapCall, MutexCall, Name, Number, PoolCall,
@@ -65,7 +65,7 @@ fn read_exchange(alloc: Global, words: &[&[u8]]) -> Result<(Name, u64, u64), Lin
     Ok((read_name(alloc, key)?, read_value(old)?, read_value(new)?))
 }
 
-/// The item of a `put`, alone.
+/// The item of a `put` or the value of a `write`, alone.
 fn read_item(words: &[&[u8]]) -> Result<u64, LineFault>
     ensures { IsOperands (λ item. (item ≤ MAX_VALUE) × (map (λ word. word.now) words.now ≡ decimal item ∷ [])) (Operand.Value ∷ []) (map (λ word. word.now) words.now) result }
 {
@@ -245,6 +245,17 @@ fn read_pool_call(verb: Verb, words: &[&[u8]]) -> Result<Operation, LineFault>
     }
 }
 
+/// A call of a plain variable.
+fn read_var_call(verb: Verb, words: &[&[u8]]) -> Result<Operation, LineFault>
+    ensures { IsCall ObjectWord.Var verb (map (λ word. word.now) words.now) result }
+{
+    match verb {
+        Verb::Read => read_bare(Operation::Var(VarCall::Read), words),
+        Verb::Write => Ok(Operation::Var(VarCall::Write(read_item(words)?))),
+        _ => Err(LineFault::Refused(Reason::WrongKind)),
+    }
+}
+
 /// A call on an object of this word.
 fn read_operation(
     alloc: Global,
@@ -284,6 +295,7 @@ fn read_operation(
             _ => Err(LineFault::Refused(Reason::WrongKind)),
         },
         ObjectWord::Pool => read_pool_call(verb, words),
+        ObjectWord::Var => read_var_call(verb, words),
     }
 }
 

@@ -167,6 +167,7 @@ pub fn read_kind(
         ObjectWord::OnceFunc => read_once_func(draft, words),
         ObjectWord::OnceValue => read_once_value(draft, words),
         ObjectWord::Pool => read_plain(draft, ObjectKind::Pool, words),
+        ObjectWord::Var => read_plain(draft, ObjectKind::Var, words),
     }
 }
 

@@ -3,7 +3,7 @@ ghost use Rattle.std.specs.Prelude.{◌≡◌, ◌+◌, ◌-◌, ◌≤◌, ◌�
 ghost use Rattle.workload.specs.Lines.{lines_of, words_of, is_significant};
 ghost use Rattle.workload.specs.Checks.{checks_of, word_checks};
 ghost use Rattle.workload_text.specs.LineResult.{IsFault, IsSound, IsUnsound};
-ghost use Rattle.workload.specs.Reads.{Continues, IsRead, ReadsOn, Reads, IsFirstFault, fault_at, IsFaultOf};
+ghost use Rattle.workload.specs.Reads.{Continues, IsRead, ReadsOn, Reads, ReadsIn, IsFirstFault, fault_at, IsFaultOf, IsFaultIn};
 ghost use Rattle.workload.specs.declared.limits.TheConstants.{MAX_INPUT};
 
 use crate::reading::{read_line, read_workers};
@@ -11,6 +11,7 @@ use crate::text::{is_clean, is_short, is_significant, split_line, split_words};
 use std::alloc::Global;
 use workload::draft::Draft;
 use workload::fault::{LineFault, ParseFault};
+use workload::keyword::Dialect;
 use workload::limits::MAX_INPUT;
 use workload::reason::Reason;
 use workload::workload::Workload;
@@ -18,11 +19,12 @@ use workload::workload::Workload;
 /// The draft behind a significant line: its first word and the others.
 fn take_words(
     alloc: Global,
+    dialect: Dialect,
     before: Option<Draft>,
     word: &[u8],
     arguments: &[&[u8]],
 ) -> Result<Option<Draft>, LineFault>
-    ensures { MatchResult result (Continues before (word.now ∷ map (λ word. word.now) arguments.now)) (IsFault (word_checks before (word.now ∷ map (λ word. word.now) arguments.now))) }
+    ensures { MatchResult result (Continues dialect before (word.now ∷ map (λ word. word.now) arguments.now)) (IsFault (word_checks dialect before (word.now ∷ map (λ word. word.now) arguments.now))) }
 {
     match before {
         None => {
@@ -30,7 +32,7 @@ fn take_words(
             Ok(Some(Draft::start(alloc, workers)?))
         }
         Some(draft) => {
-            let line = read_line(alloc, &draft, word, arguments)?;
+            let line = read_line(alloc, dialect, &draft, word, arguments)?;
             Ok(Some(draft.with_line(alloc, line)?))
         }
     }
@@ -52,18 +54,19 @@ fn check_line(line: &[u8]) -> Result<bool, LineFault>
 /// The draft behind a significant line. Its words are cut into the list.
 fn take_line<'a>(
     alloc: Global,
+    dialect: Dialect,
     words: &mut Vec<&'a [u8]>,
     before: Option<Draft>,
     line: &'a [u8],
 ) -> Result<Option<Draft>, LineFault>
     requires { IsSound line.now true }
-    ensures { MatchResult result (IsRead before line.now) (IsFault (checks_of before line.now)) }
+    ensures { MatchResult result (IsRead dialect before line.now) (IsFault (checks_of dialect before line.now)) }
 {
     split_words(words, line)?;
     let Some((word, arguments)) = words.split_first() else {
         return Ok(before);
     };
-    take_words(alloc, before, word, arguments)
+    take_words(alloc, dialect, before, word, arguments)
 }
 
 /// The fault of the text that a fault of its line is.
@@ -77,9 +80,9 @@ fn at_line(line: u32, fault: LineFault) -> ParseFault
 }
 
 /// The draft of all lines of a text, of which there is none where no line is significant.
-fn read_lines(alloc: Global, bytes: &[u8]) -> Result<Draft, ParseFault>
+fn read_lines(alloc: Global, dialect: Dialect, bytes: &[u8]) -> Result<Draft, ParseFault>
     requires { length bytes.now ≤ MAX_INPUT }
-    ensures { MatchResult result (λ draft. ReadsOn (lines_of bytes.now) None draft.plan) (IsFirstFault (lines_of bytes.now)) }
+    ensures { MatchResult result (λ draft. ReadsOn dialect (lines_of bytes.now) None draft.plan) (IsFirstFault dialect (lines_of bytes.now)) }
 {
     let mut words = Vec::new(alloc);
     let mut draft = None;
@@ -90,7 +93,7 @@ fn read_lines(alloc: Global, bytes: &[u8]) -> Result<Draft, ParseFault>
         match check_line(line) {
             Err(unsound) => return Err(at_line(next, unsound)),
             Ok(false) => {}
-            Ok(true) => match take_line(alloc, &mut words, draft, line) {
+            Ok(true) => match take_line(alloc, dialect, &mut words, draft, line) {
                 Ok(after) => draft = after,
                 Err(fault) => return Err(at_line(next, fault)),
             },
@@ -107,6 +110,20 @@ fn read_lines(alloc: Global, bytes: &[u8]) -> Result<Draft, ParseFault>
     }
 }
 
+/// Reads a text of a dialect.
+fn parse_in(alloc: Global, dialect: Dialect, bytes: &[u8]) -> Result<Workload, ParseFault>
+    ensures read { IfOk result (ReadsIn dialect bytes.now) }
+    ensures refused { IfErr result (IsFaultIn dialect bytes.now) }
+{
+    if bytes.len() > MAX_INPUT {
+        return Err(ParseFault::Refused {
+            line: 0,
+            reason: Reason::InputTooLong,
+        });
+    }
+    Ok(read_lines(alloc, dialect, bytes)?.finish(alloc)?)
+}
+
 /// Reads a workload text.
 ///
 /// The text is split at line feeds; a blank line and one whose first word begins with `#` say nothing.
@@ -115,11 +132,14 @@ pub fn parse(alloc: Global, bytes: &[u8]) -> Result<Workload, ParseFault>
     ensures read { IfOk result (Reads bytes.now) }
     ensures refused { IfErr result (IsFaultOf bytes.now) }
 {
-    if bytes.len() > MAX_INPUT {
-        return Err(ParseFault::Refused {
-            line: 0,
-            reason: Reason::InputTooLong,
-        });
-    }
-    Ok(read_lines(alloc, bytes)?.finish(alloc)?)
+    parse_in(alloc, Dialect::Plain, bytes)
+}
+
+/// Reads a workload text that may also have plain variables, which are read and written without a lock: the text of a run
+/// whose races are asked for.
+pub fn parse_race(alloc: Global, bytes: &[u8]) -> Result<Workload, ParseFault>
+    ensures read { IfOk result (ReadsIn Dialect.Races bytes.now) }
+    ensures refused { IfErr result (IsFaultIn Dialect.Races bytes.now) }
+{
+    parse_in(alloc, Dialect::Races, bytes)
 }

@@ -1,5 +1,5 @@
 //! The canonical text of a workload.
-ghost use Rattle.std.specs.Prelude.{◌≡◌, ◌∷◌, ◌++◌, [], map, slice_get, IfOk, OnOk};
+ghost use Rattle.std.specs.Prelude.{◌≡◌, ◌∷◌, ◌++◌, [], false, map, slice_get, IfOk, OnOk};
 ghost use Rattle.std.specs.Fmt.{decimal, signed_decimal};
 ghost use Rattle.std.specs.Option.{option_to_list};
 ghost use Rattle.workload.specs.KeywordWords.{keyword_word};
@@ -7,6 +7,7 @@ ghost use Rattle.workload.specs.NumberWords.{number_word};
 ghost use Rattle.workload.specs.CallWords.{operands_of};
 ghost use Rattle.workload.specs.Words.{turn_word, kind_parameters, spelled};
 ghost use Rattle.workload.specs.declared.line.Line.TheVariants as Line;
+ghost use Rattle.workload.specs.Dialect.{has_variables};
 ghost use Rattle.workload.specs.Reads.{Reads};
 ghost use Rattle.workload.specs.Canonical.{text_line, call_line, object_line, name_of, reference_name, second_name, dormant_lines, script_lines, eights, canonical_lines, canonical, behind_spaces, lines_text};
 ghost use Rattle.workload_text.specs.Numbers.{numbers_in};
@@ -169,7 +170,8 @@ fn put_parameters(
         | ObjectKind::Atomic(_)
         | ObjectKind::Mutex
         | ObjectKind::RwMutex
-        | ObjectKind::Pool => Ok(()),
+        | ObjectKind::Pool
+        | ObjectKind::Var => Ok(()),
     }
 }
 
@@ -292,12 +294,13 @@ fn put_lines(alloc: Global, text: &mut Vec<u8>, workload: &Workload) -> Result<(
     put_schedule(alloc, text, workload.schedule())
 }
 
-/// The canonical text of a workload: the `workers` line, the objects in order of declaration, a `dormant`
+/// The canonical text of a workload without variables: the `workers` line, the objects in order of declaration, a `dormant`
 /// line for each worker that waits to be started, from 0 up, for each worker from 0 up a `worker` line and
 /// its calls, and the schedule, eight items a line.
 ///
 /// It is read as the workload again.
 pub fn print(alloc: Global, workload: &Workload) -> Result<Vec<u8>, AllocError>
+    requires { has_variables workload.now ≡ false }
     ensures text { IfOk result (λ text. text.items ≡ canonical workload.now) }
     ensures read { IfOk result (λ text. Reads text.items workload.now) }
 {

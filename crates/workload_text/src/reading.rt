@@ -1,9 +1,9 @@
 //! One line, read after those before it.
-ghost use Rattle.std.specs.Prelude.{◌≡◌, true, map, MatchResult, None};
+ghost use Rattle.std.specs.Prelude.{◌≡◌, ◌∷◌, [], true, count_by, map, MatchResult, None};
 ghost use Rattle.std.specs.Fmt.{decimal};
 ghost use Rattle.workload.specs.Words.{turn_word};
-ghost use Rattle.workload.specs.Draft.{may_follow, is_item, keys_of, tries_of};
-ghost use Rattle.workload.specs.Checks.{dormant_checks, item_checks, ranges_in, limit_checks, first_failing};
+ghost use Rattle.workload.specs.Draft.{may_follow, is_access, is_item, keys_of, tries_of};
+ghost use Rattle.workload.specs.Checks.{dormant_checks, item_checks, ranges_in, accesses_in, limit_checks, first_failing};
 ghost use Rattle.workload_text.specs.LineResult.{IsFault, IsTurns, IsWorkers, IsLineOf, IsLine};
 
 use crate::call_reading::read_call_on;
@@ -13,11 +13,13 @@ use crate::word_reading::{read_name, read_worker};
 use script_calls::Call;
 use std::alloc::Global;
 use sync_types::{MAX_VALUE, Seq};
-use workload::draft::{Draft, tries_in};
+use workload::draft::{Draft, accesses_in, tries_in};
 use workload::fault::LineFault;
-use workload::keyword::{Keyword, Verb, read_keyword};
-use workload::laws::{calls_pass_their_checks, checks_go_in_order, keywords};
-use workload::limits::{MAX_ALL_TRIES, MAX_CALLS, MAX_KEYS, MAX_RANGES, MAX_TURNS, MAX_WORKERS};
+use workload::keyword::{Dialect, Keyword, Verb, read_keyword};
+use workload::laws::{calls_pass_their_checks, checks_go_in_order, dialects, keywords};
+use workload::limits::{
+    MAX_ACCESSES, MAX_ALL_TRIES, MAX_CALLS, MAX_KEYS, MAX_RANGES, MAX_TURNS, MAX_WORKERS,
+};
 use workload::line::Line;
 use workload::object::{ObjectLine, ObjectWord};
 use workload::reason::Reason;
@@ -44,17 +46,19 @@ fn read_turn(workers: u32, word: &[u8]) -> Result<Turn, LineFault>
 
 /// Whether one more call is within the limits.
 fn check_limits(draft: &Draft, verb: Verb, call: &Call) -> Result<(), LineFault>
-    ensures { MatchResult result (λ _. first_failing (limit_checks draft.now (keys_of call.now) (ranges_in verb) (tries_of call.now.operation)) ≡ None) (IsFault (limit_checks draft.now (keys_of call.now) (ranges_in verb) (tries_of call.now.operation))) }
+    ensures { MatchResult result (λ _. first_failing (limit_checks draft.now (keys_of call.now) (ranges_in verb) (tries_of call.now.operation) (count_by is_access (call.now ∷ []))) ≡ None) (IsFault (limit_checks draft.now (keys_of call.now) (ranges_in verb) (tries_of call.now.operation) (count_by is_access (call.now ∷ [])))) }
 {
     let ranges = match verb {
         Verb::Range => draft.ranges().saturating_add(1),
         _ => draft.ranges(),
     };
     let tries = draft.tries().saturating_add(tries_in(call));
+    let accesses = draft.accesses().saturating_add(accesses_in(call));
     if draft.calls() >= MAX_CALLS
         || draft.keys_with_call(call) > MAX_KEYS
         || ranges > MAX_RANGES
         || tries > MAX_ALL_TRIES
+        || accesses > MAX_ACCESSES
     {
         return Err(LineFault::Refused(Reason::LimitReached));
     }
@@ -177,17 +181,19 @@ fn read_schedule(alloc: Global, draft: &Draft, arguments: &[&[u8]]) -> Result<Li
     Ok(Line::Schedule(turns))
 }
 
-/// A line behind the first significant one: its first word and the others.
+/// A line of a text of this dialect, behind the first significant one: its first word and the others.
 pub fn read_line(
     alloc: Global,
+    dialect: Dialect,
     draft: &Draft,
     word: &[u8],
     arguments: &[&[u8]],
 ) -> Result<Line, LineFault>
-    ensures { IsLine draft.now word.now (map (λ word. word.now) arguments.now) result }
+    ensures { IsLine dialect draft.now word.now (map (λ word. word.now) arguments.now) result }
 {
     keywords();
-    match read_keyword(word) {
+    dialects();
+    match read_keyword(dialect, word) {
         None => Err(LineFault::Refused(Reason::UnknownWord)),
         Some(Keyword::Workers) => Err(LineFault::Refused(Reason::NameTaken)),
         Some(Keyword::Object(word)) => read_object(alloc, draft, word, arguments),

@@ -4,10 +4,10 @@ ghost use Rattle.workload.specs.declared.limits.TheConstants.{MAX_KEYS};
 ghost use Rattle.script_calls.specs.Outcome.{has_pairs_to};
 ghost use Rattle.workload.specs.Canonical.{behind_spaces};
 ghost use Rattle.workload_text.specs.Adding.{Adds, HasRoom};
-ghost use Rattle.workload_text.specs.ReportLines.{map_reply_text, pair_text, pairs_text, atomic_reply_text, lock_reply_text, once_reply_text, once_func_reply_text, pool_reply_text, reply_text};
+ghost use Rattle.workload_text.specs.ReportLines.{map_reply_text, pair_text, pairs_text, atomic_reply_text, lock_reply_text, once_reply_text, once_func_reply_text, pool_reply_text, var_reply_text, reply_text};
 
 use crate::line::{push, push_atomic_number, push_number, push_signed, push_truth};
-use script_calls::Reply;
+use script_calls::{Reply, VarReply};
 use sync_types::{AtomicReply, DoReply, LockReply, MapReply, Name, PoolCallReply};
 use workload::keys::key_name;
 
@@ -139,6 +139,17 @@ fn push_pool_reply(line: &mut Vec<u8>, reply: PoolCallReply)
     }
 }
 
+/// Adds a reply of a plain variable.
+fn push_var_reply(line: &mut Vec<u8>, reply: VarReply)
+    requires { HasRoom line.old 30 }
+    ensures { Adds line.old line.new (var_reply_text reply) 30 }
+{
+    match reply {
+        VarReply::Done => push(line, b"ok"),
+        VarReply::Held(value) => push_number(line, value),
+    }
+}
+
 /// Adds a reply, whose keys have their numbers among these.
 pub fn push_reply(line: &mut Vec<u8>, keys: &[Name], reply: &Reply<u32>)
     requires pairs { has_pairs_to MAX_KEYS reply.now ≡ true }
@@ -155,5 +166,6 @@ pub fn push_reply(line: &mut Vec<u8>, keys: &[Name], reply: &Reply<u32>)
         Reply::OnceFunc(code) => push_once_func_reply(line, *code),
         Reply::OnceValue(value) => push_number(line, *value),
         Reply::Pool(reply) => push_pool_reply(line, *reply),
+        Reply::Var(reply) => push_var_reply(line, *reply),
     }
 }

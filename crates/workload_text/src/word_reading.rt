@@ -33,7 +33,7 @@ pub fn read_name(alloc: Global, word: &[u8]) -> Result<Name, LineFault>
     Ok(Name::from_bytes(alloc, word)?)
 }
 
-/// A value of a map.
+/// A value of a map, a pool or a plain variable.
 pub fn read_value(word: &[u8]) -> Result<u64, LineFault>
     ensures { MatchResult result (λ value. (decimal value ≡ word.now) × (value ≤ MAX_VALUE) × (is_number_to MAX_VALUE word.now ≡ true)) (IsFault (operand_check Operand.Value word.now ∷ [])) }
 {

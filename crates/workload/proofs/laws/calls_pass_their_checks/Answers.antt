@@ -1,4 +1,4 @@
-use Rattle.workload.proofs.CallForms.{call_passes, ranges_of}
+use Rattle.workload.proofs.CallForms.{call_passes, ranges_of, accesses_of}
 use Rattle.workload.proofs.laws.calls_pass_their_checks.Goals as goal
 
 pub returns-clause-passes : goal.returns-clause-passes
@@ -12,3 +12,6 @@ returns-clause-tries c = λ draft kind second operation has named may fits. (cal
 
 pub returns-clause-ranges : goal.returns-clause-ranges
 returns-clause-ranges c = λ operation. ranges_of operation
+
+pub returns-clause-accesses : goal.returns-clause-accesses
+returns-clause-accesses c = accesses_of

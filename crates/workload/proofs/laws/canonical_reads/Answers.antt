@@ -2,4 +2,4 @@ use Rattle.workload.proofs.CanonicalReads.{canonical_reads}
 use Rattle.workload.proofs.laws.canonical_reads.Goals as goal
 
 pub returns : goal.returns
-returns c = λ plan readable. canonical_reads plan readable
+returns c = λ plan readable none. canonical_reads plan readable none

@@ -9,5 +9,5 @@ returns-in-Err c =
     let all = lines_of c.args.bytes.now in
     let draft = c.loop-rest.draft in
     let next = c.loop-rest.next in
-    let goes = subst (λ (ls : List (List ℕ)). Goes all draft ls next) c.split_line.ensures.line c.loop-rest.invariant.0 in
-    rw c.at_line.ensures (goes_wrong all draft _ _ next c.in-Err.unsound goes (c.in-Err.ensures draft))
+    let goes = subst (λ (ls : List (List ℕ)). Goes c.args.dialect all draft ls next) c.split_line.ensures.line c.loop-rest.invariant.0 in
+    rw c.at_line.ensures (goes_wrong c.args.dialect all draft _ _ next c.in-Err.unsound goes (c.in-Err.ensures c.args.dialect draft))

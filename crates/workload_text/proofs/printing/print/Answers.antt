@@ -9,4 +9,4 @@ returns-clause-read c =
     let w = c.args.workload.now in
     let first = c.in_ok-put_numbered.ensures ∙ ap (λ t. t ++ text_line (first_spelled c.workers.result)) c.new-text.ensures.items ∙ ap (λ n. text_line (first_spelled n)) c.workers.ensures.workers in
     let text = c.in_ok-put_lines.ensures ∙ ap (λ t. t ++ lines_text (canonical_lines w)) first in
-    subst (λ t. Reads t w) (sym text) (c.canonical_reads.ensures w c.workers.ensures.readable)
+    subst (λ t. Reads t w) (sym text) (c.canonical_reads.ensures w c.workers.ensures.readable c.requires)

@@ -18,7 +18,7 @@ invariant_of-result c =
     let d = c.self.inside in
     let plan : Plan = record { workers = d.workers; objects = d.objects; dormant = d.dormant.items; scripts = d.scripts; schedule = d.schedule } in
     let worker = c.in-Some.worker in
-    let indexed = subst (λ w. IsIndexed plan w d.names d.keys d.started.items d.calls d.ranges d.tries) c.in-Some.is c.self.invariant in
+    let indexed = subst (λ w. IsIndexed plan w d.names d.keys d.started.items d.calls d.ranges d.tries d.accesses) c.in-Some.is c.self.invariant in
     let follows = subst (λ draft. may_follow draft (lines.Call c.args.name c.args.second c.args.call) ≡ true) (sym c.self.view_is) c.requires in
     let at : may_follow (record { plan = plan; current = Some worker }) (lines.Call c.args.name c.args.second c.args.call) ≡ true = subst (λ w. may_follow (record { plan = plan; current = w }) (lines.Call c.args.name c.args.second c.args.call) ≡ true) c.in-Some.is follows in
-    rw (c.ranges_in-more_ranges.ensures, c.tries_in-more_tries.ensures, c.with_started-started.ensures, c.in_ok-push_at.ensures.ok, c.in_ok-insert_keys.ensures) (indexed_call plan worker d.names d.keys d.started.items d.calls d.ranges d.tries c.args.name c.args.second c.args.call indexed at)
+    rw (c.ranges_in-more_ranges.ensures, c.tries_in-more_tries.ensures, c.accesses_in-more_accesses.ensures, c.with_started-started.ensures, c.in_ok-push_at.ensures.ok, c.in_ok-insert_keys.ensures) (indexed_call plan worker d.names d.keys d.started.items d.calls d.ranges d.tries d.accesses c.args.name c.args.second c.args.call indexed at)

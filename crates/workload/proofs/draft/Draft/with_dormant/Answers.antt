@@ -6,4 +6,4 @@ pub invariant_of-result : goal.invariant_of-result
 invariant_of-result c =
     let d = c.self.inside in
     let plan : Plan = record { workers = d.workers; objects = d.objects; dormant = d.dormant.items; scripts = d.scripts; schedule = d.schedule } in
-    indexed_dormant plan d.current d.names d.keys d.started.items d.calls d.ranges d.tries c.args.worker c.self.invariant
+    indexed_dormant plan d.current d.names d.keys d.started.items d.calls d.ranges d.tries d.accesses c.args.worker c.self.invariant
