@@ -1,7 +1,8 @@
 //! What the program does before any thread is started.
-ghost use Rattle.std.specs.Prelude.{◌≡◌, ◌⊎◌, ◌+◌, ◌≤◌, ℕ, List, map, string_bytes};
+ghost use Rattle.std.specs.Prelude.{◌≡◌, ◌⊎◌, ◌+◌, ◌≤◌, ℕ, false, List, map, string_bytes};
 ghost use Rattle.sync_outside.specs.Faults.{Rose};
 ghost use Rattle.workload.specs.declared.limits.TheConstants.{MAX_INPUT};
+ghost use Rattle.workload.specs.Dialect.{has_variables};
 ghost use Rattle.workload.specs.Plan.{Plan};
 ghost use Rattle.step_runner.specs.Outcomes.{StepsTo};
 ghost use Rattle.gosync_call.specs.Command.{asked, file_in, AreRefused, AskFor, AskToMake};
@@ -51,6 +52,7 @@ pub fn front<S: Sources, O: Sink, E: Sink>(
     ensures step { (file : List ℕ) → AskFor (map string_bytes words.now) modes.Step file → (status : Status) × (result ≡ fronts.Ended status) × ComesTo StepsTo (S.contents src.old file) (O.contents out.old) (O.contents out.new) status }
     ensures run { (file : List ℕ) → AskFor (map string_bytes words.now) modes.Run file → IsFrontOfRun (S.contents src.old file) result }
     ensures make { (seed : ℕ) → AskToMake (map string_bytes words.now) seed → (result ≡ fronts.Make seed) ⊎ (result ≡ fronts.Ended (statuses.Unread unreads.Memory)) }
+    ensures plain { (plan : Plan) → result ≡ fronts.Run plan → has_variables plan ≡ false }
     ensures made { (seed : ℕ) → result ≡ fronts.Make seed → AskToMake (map string_bytes words.now) seed }
     ensures unwritten { ((file : List ℕ) → ¬ AskFor (map string_bytes words.now) modes.Step file) → (O.contents out.new ≡ O.contents out.old) × (O.faults out.new ≡ O.faults out.old) }
 

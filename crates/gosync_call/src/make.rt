@@ -16,6 +16,7 @@ use crate::made::write_totals;
 use crate::message::say_run;
 use crate::status::{Ending, Fault, Status};
 use made_workload::laws::runs::a_run_of_a_seed_tells_its_summary;
+use made_workload::laws::workload_of_a_seed;
 use made_workload::{made_workload, totals_of};
 use run_report::numbers::NUMBER_ROOM;
 use script_calls::{Outcome, Report};
@@ -74,6 +75,7 @@ fn run_made<O: Sink, C: Clock + Sync, P: Spawner, G: Gate + Sync, R: Threads + W
     ensures start_faults { P.faults spawner.old ≤ P.faults spawner.new }
 {
     a_run_of_a_seed_tells_its_summary();
+    workload_of_a_seed();
     let Ok(workload) = made_workload(alloc, seed) else {
         return Err(Fault::Memory);
     };

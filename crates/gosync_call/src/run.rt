@@ -1,6 +1,7 @@
 //! The run of a workload with a thread for each worker.
-ghost use Rattle.std.specs.Prelude.{◌≡◌, ◌≤◌, ◌+◌, Err, IfErr, MatchResult};
+ghost use Rattle.std.specs.Prelude.{◌≡◌, ◌≤◌, ◌+◌, false, Err, IfErr, MatchResult};
 ghost use Rattle.sync_outside.specs.Faults.{Rose};
+ghost use Rattle.workload.specs.Dialect.{has_variables};
 ghost use Rattle.gosync_call.specs.ComesTo.{EndsWithReport, Fails};
 ghost use Rattle.gosync_call.specs.Headline.{RunsInJobs};
 ghost use Rattle.gosync_call.specs.declared.status.Fault.TheVariants as faults;
@@ -34,6 +35,7 @@ pub fn run_by_threads<
     spawner: &mut P,
     gate: &G,
 ) -> Result<Ending, Fault>
+    requires plain { has_variables workload.now ≡ false }
     ensures ran { MatchResult result
         (EndsWithReport (RunsInJobs (P.ran spawner.old) (P.ran spawner.new)) workload.now (O.contents out.old) (O.contents out.new))
         (Fails (RunsInJobs (P.ran spawner.old) (P.ran spawner.new)) workload.now (O.contents out.old) (O.contents out.new)) }

@@ -8,14 +8,15 @@ use Rattle.std.proofs.lemmas.List.Concat.{length-flat_map}
 use Rattle.std.proofs.lemmas.List.FromFn.{length-map-range_with_len}
 use Rattle.script_calls.specs.declared.call.Call.{Call}
 use Rattle.script_calls.specs.Starts.{starts, start_count}
-use Rattle.workload.specs.Draft.{all_keys, keys_of, call_count, range_count, distinct_count, try_count, is_call, is_range, tries_of}
+use Rattle.workload.specs.Draft.{all_keys, keys_of, call_count, range_count, distinct_count, try_count, access_count, is_call, is_range, is_access, tries_of}
 use Rattle.workload.specs.Canonical.{canonical}
+use Rattle.workload.specs.Dialect.{has_variables}
 use Rattle.workload.specs.Plan.{starts_dormant}
 use Rattle.workload.specs.Readable.{IsReadable}
 use Rattle.made_workload.specs.Generated.{in_twos, script_by, drawn_for, generated_scripts, generated_plan, generated_text}
 use Rattle.made_workload.proofs.Ranges.{pair, all_pass, sum_of_same}
 use Rattle.made_workload.proofs.Draws.{drawn_rounds}
-use Rattle.made_workload.proofs.Scripts.{is_in_place, script_in_place, script_in_range, length_script, script_keys, script_ranges, script_tries, script_starts, script_waits, round_key}
+use Rattle.made_workload.proofs.Scripts.{is_in_place, script_in_place, script_in_range, length_script, script_keys, script_ranges, script_tries, script_accesses, script_starts, script_waits, round_key}
 
 abbrev script : ℕ → ℕ → List Call
 script seed worker = script_by worker (drawn_for seed worker)
@@ -35,6 +36,9 @@ no_ranges seed = sum_of_same (count_by is_range) (script seed) 0 0 8 (λ worker 
 
 no_tries : (seed : ℕ) → try_count (generated_scripts seed) ≡ 0
 no_tries seed = sum_of_same (sum_by (λ (call : Call). tries_of call.operation)) (script seed) 0 0 8 (λ worker there. script_tries worker (in_twos (drawn_for seed worker)))
+
+no_accesses : (seed : ℕ) → access_count (generated_scripts seed) ≡ 0
+no_accesses seed = sum_of_same (count_by is_access) (script seed) 0 0 8 (λ worker there. script_accesses worker (in_twos (drawn_for seed worker)))
 
 no_starts : (seed other : ℕ) → start_count other (generated_scripts seed) ≡ 0
 no_starts seed other = sum_of_same (count_by (starts other)) (script seed) 0 0 8 (λ worker there. script_starts other worker (in_twos (drawn_for seed worker)))
@@ -73,10 +77,15 @@ readable seed =
       key_room = omega (arith, distinct_count-le (all_keys scripts), few_keys seed);
       range_room = omega (arith, no_ranges seed);
       try_room = omega (arith, no_tries seed);
+      access_room = omega (arith, no_accesses seed);
       starts = λ other. omega (arith, no_starts seed other);
       items = refl;
       turn_room = omega arith;
     }
+
+pub no_variables : (seed : ℕ) → has_variables (generated_plan seed) ≡ false
+unfolding generated_plan
+no_variables seed = refl
 
 pub text_is_canonical : (seed : ℕ) → generated_text seed ≡ canonical (generated_plan seed)
 unfolding generated_text

@@ -11,7 +11,7 @@ use Rattle.sync_types.specs.declared.map_object.MapCall.TheVariants.{Load, Store
 use Rattle.sync_types.specs.declared.value.TheConstants.{MAX_VALUE}
 use Rattle.sync_types.specs.Name.{is_name}
 use Rattle.sync_types.specs.SequentialMap.{map_key}
-use Rattle.workload.specs.Draft.{keys_of, is_call, is_map_call, is_value, is_range, tries_of}
+use Rattle.workload.specs.Draft.{keys_of, is_call, is_map_call, is_value, is_range, is_access, tries_of}
 use Rattle.workload.specs.Plan.{is_on, starts_dormant}
 use Rattle.made_workload.specs.Generated.{key_of, call_by, round, generated_objects}
 use Rattle.made_workload.proofs.Ranges.{both, pair}
@@ -86,6 +86,11 @@ script_ranges worker (words ∷ rounds) = script_ranges worker rounds
 pub script_tries : (worker : ℕ) (rounds : List (ℕ × ℕ)) → sum_by (λ (call : Call). tries_of call.operation) (flat_map (round worker) rounds) ≡ 0
 script_tries worker [] = refl
 script_tries worker (words ∷ rounds) = script_tries worker rounds
+
+-- and no read or write of a plain variable
+pub script_accesses : (worker : ℕ) (rounds : List (ℕ × ℕ)) → count_by is_access (flat_map (round worker) rounds) ≡ 0
+script_accesses worker [] = refl
+script_accesses worker (words ∷ rounds) = script_accesses worker rounds
 
 -- and no `go`
 pub script_starts : (other worker : ℕ) (rounds : List (ℕ × ℕ)) → count_by (starts other) (flat_map (round worker) rounds) ≡ 0

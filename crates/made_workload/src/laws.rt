@@ -8,6 +8,7 @@ ghost use Rattle.rand_pcg.specs.Lcg.{advance};
 ghost use Rattle.rand_pcg.specs.Pcg.{multiplier_64, pcg32};
 ghost use Rattle.script_calls.specs.Runs.{have_tests};
 ghost use Rattle.workload.specs.Canonical.{canonical};
+ghost use Rattle.workload.specs.Dialect.{has_variables};
 ghost use Rattle.workload.specs.Draft.{keys_of, call_count};
 ghost use Rattle.workload.specs.Plan.{has_dormant};
 ghost use Rattle.workload.specs.Readable.{IsReadable};
@@ -39,8 +40,8 @@ pub fn first_words_of_seeds()
     ensures high_half { take 2 (drawn (2 ^ 32 + 7)) ≡ 4065474018 ∷ 4658041 ∷ [] }
 {}
 
-/// Eight workers have 2,000 calls each, by the words that they draw, on three objects. No call passes others over, and no
-/// worker waits to be started. The workload has a text.
+/// Eight workers have 2,000 calls each, by the words that they draw, on three objects. No call passes others over, no
+/// worker waits to be started, and no object is a plain variable. The workload has a text.
 pub fn workload_of_a_seed()
     ensures workers { (seed : ℕ) → (generated_plan seed).workers ≡ 8 }
     ensures objects { (seed : ℕ) → (generated_plan seed).objects ≡ generated_objects }
@@ -49,6 +50,7 @@ pub fn workload_of_a_seed()
     ensures calls { (seed : ℕ) → call_count (generated_plan seed).scripts ≡ 16000 }
     ensures no_tests { (seed : ℕ) → have_tests (generated_plan seed).scripts ≡ false }
     ensures no_dormant { (seed : ℕ) → has_dormant (generated_plan seed) ≡ false }
+    ensures no_variables { (seed : ℕ) → has_variables (generated_plan seed) ≡ false }
     ensures readable { (seed : ℕ) → IsReadable (generated_plan seed) }
 {}
 

@@ -1,9 +1,10 @@
 //! A run over maps and atomics that take turns.
-ghost use Rattle.std.specs.Prelude.{◌≡◌, ◌≤◌, IfOk};
+ghost use Rattle.std.specs.Prelude.{◌≡◌, ◌≤◌, false, IfOk};
 ghost use Rattle.shared_plain.specs.Marks.{own_by, IsMarkOf};
 ghost use Rattle.shared_plain.specs.Plains.{caller_count, kinds_of, maps_of, Takes};
 ghost use Rattle.shared_plain.specs.Settling.{room_of};
 ghost use Rattle.sync_model.specs.Shared.{AreAllCallers};
+ghost use Rattle.workload.specs.Dialect.{has_variables};
 ghost use Rattle.thread_runner.specs.Sites.{AreShared};
 ghost use Rattle.thread_runner.specs.EndsPlans.{HaveMadeNone, HaveSpare};
 
@@ -87,7 +88,9 @@ pub(super) fn threaded_plain<C: Clock + Sync, P: Spawner, G: Gate + Sync, R: Thr
     clock: &C,
     spawner: &mut P,
     gate: &G,
-) -> Result<Outcome, RunFault> {
+) -> Result<Outcome, RunFault>
+    requires { has_variables workload.now ≡ false }
+{
     let (plain, callers, room) = plain_for(alloc, workload)?;
     let (outcome, callers) = threaded_over(
         rt, alloc, workload, &plain, callers, clock, spawner, gate,

@@ -1,6 +1,6 @@
 //! Runs over maps and atomics that take turns.
 use crate::plain_maps::threaded_plain;
-use script_calls::{Outcome, Reply, Report};
+use script_calls::{Outcome, Reply, Report, VarReply};
 use std::alloc::{AllocError, Global};
 use std::sync::Wait;
 use std::test::Fail;
@@ -9,6 +9,7 @@ use sync_outside::{Clock, OpenGate, ThreadSpawner};
 use sync_types::{DoReply, PoolCallReply};
 use system_io::SystemClock;
 use thread_runner::RunFault;
+use workload::laws::plain_texts_are_race_texts_without_variables;
 use workload_text::parse;
 
 // A reply, in words.
@@ -29,6 +30,8 @@ fn told_reply(alloc: Global, reply: &Reply<u32>) -> Result<String, AllocError> {
         Reply::Pool(PoolCallReply::Put(item)) => format!(in alloc; "Pool(Put({item}))"),
         Reply::Pool(PoolCallReply::Done) => String::from_str(alloc, "Pool(Done)"),
         Reply::Pool(PoolCallReply::New) => String::from_str(alloc, "Pool(New)"),
+        Reply::Var(VarReply::Held(value)) => format!(in alloc; "Var(Held({value}))"),
+        Reply::Var(VarReply::Done) => String::from_str(alloc, "Var(Done)"),
     }
 }
 
@@ -59,6 +62,7 @@ fn told_of<C: Clock + Sync, R: Threads + Wait + Sync>(
     text: &str,
     clock: &C,
 ) -> Result<String, AllocError> {
+    plain_texts_are_race_texts_without_variables();
     let Ok(workload) = parse(alloc, text.as_bytes()) else {
         return String::from_str(alloc, "not read");
     };

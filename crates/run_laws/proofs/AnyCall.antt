@@ -153,6 +153,8 @@ module _ (law : LocksEnd) (plan : Plan) (worker before place : ℕ) where
   on_kind kinds.Pool operations.OnceValue none = never_certain
   on_kind kinds.Pool (operations.Pool of) none = pool_certain plan.workers worker (first_part plan place) of
   on_kind kinds.Pool (operations.Composed of) none = never_certain
+  on_kind kinds.Var operation none = never_certain
+  on_kind kind (operations.Var of) none = never_certain
 
   on_object : (object : Option ObjectLine) (operation : Operation) → is_no_range operation ≡ true → IsCertain (call_at plan worker before place object operation)
   on_object None operation none = never_certain

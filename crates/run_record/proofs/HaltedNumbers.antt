@@ -103,18 +103,21 @@ module _ (plan : Plan) where
   at_is : (place : ℕ) (kind : ObjectKind) (number : ℕ) → Contains (halted_at plan place kind) number → IsNumberAt plan place kind number
   at_is place kinds.Map number has = absurd (omega (arith, has.1))
   at_is place (kinds.Atomic type) number has = absurd (omega (arith, has.1))
+  at_is place kinds.Var number has = absurd (omega (arith, has.1))
   at_is place kinds.Pool number has = in_range (first_part plan place) plan.workers number has
   at_is place kind number has = one_is (object_number place) number has
 
   is_at : (place : ℕ) (kind : ObjectKind) (number : ℕ) → IsNumberAt plan place kind number → Contains (halted_at plan place kind) number
   is_at place kinds.Map number is = absurd is
   is_at place (kinds.Atomic type) number is = absurd is
+  is_at place kinds.Var number is = absurd is
   is_at place kinds.Pool number (part, below, is) = subst (Contains (range_with_len (first_part plan place) plan.workers)) (sym is) (range_has (first_part plan place) plan.workers part below)
   is_at place kind number is = (0, omega arith, sym is)
 
   kept_at : (place : ℕ) (kind : ObjectKind) (number : ℕ) → IsNumberAt plan place kind number → kept number (halted_at plan place kind) ≡ number ∷ []
   kept_at place kinds.Map number is = absurd is
   kept_at place (kinds.Atomic type) number is = absurd is
+  kept_at place kinds.Var number is = absurd is
   kept_at place kinds.Pool number (part, below, is) = subst (λ (k : ℕ). kept k (range_with_len (first_part plan place) plan.workers) ≡ k ∷ []) (sym is) (range_kept (first_part plan place) plan.workers part below)
   kept_at place kind number is = subst (λ (k : ℕ). kept k (object_number place ∷ []) ≡ k ∷ []) (sym is) (first_kept (object_number place) [] (λ has. omega (arith, has.1)))
 
@@ -125,6 +128,7 @@ module _ (plan : Plan) where
   own_or_part : (place : ℕ) (kind : ObjectKind) (number : ℕ) → IsNumberAt plan place kind number → IsOwnOrPart place kind number
   own_or_part place kinds.Map number is = absurd is
   own_or_part place (kinds.Atomic type) number is = absurd is
+  own_or_part place kinds.Var number is = absurd is
   own_or_part place kinds.Pool number (part, below, is) = inr (part, below, refl, is)
   own_or_part place kind number is = inl is
 

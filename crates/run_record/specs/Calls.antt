@@ -24,7 +24,7 @@ use Rattle.run_record.specs.StartsKind.{go_call}
 use Rattle.run_record.specs.Tests.{if_equal_call, wait_for_call}
 use Rattle.run_record.specs.WaitGroupKind.{wait_group_call, IsWaitGroupJournal}
 
--- a call on the object at a place, of a worker that has made so many calls on maps and atomics before. An object of another kind has no such call
+-- a call on the object at a place, of a worker that has made so many calls on maps and atomics before. An object of another kind has no such call, and a plain variable has none at all: no record tells of it
 abbrev pub call_on : Plan → (worker before place : ℕ) → ObjectKind → Operation → Part (Reply ℕ)
 call_on plan worker before place kinds.Map (operations.Map call) = map_call (keys_in plan.scripts) (map_number plan.objects place) call
 call_on plan worker before place kinds.Map operations.Range = range_call (keys_in plan.scripts) (map_number plan.objects place) before
@@ -50,7 +50,7 @@ call_at plan worker before place (Some object) operation = call_on plan worker b
 abbrev pub SpellsCall : Plan → (worker before : ℕ) → Call → Part (Reply ℕ)
 SpellsCall plan worker before call = call_at plan worker before call.object (slice_get plan.objects call.object) call.operation
 
--- the journal is one of the object at a place: it follows the machine of the object's kind from the declared start, and keeps the edge law. A map and an atomic have none, and a pool has those of its parts
+-- the journal is one of the object at a place: it follows the machine of the object's kind from the declared start, and keeps the edge law. A map, an atomic and a plain variable have none, and a pool has those of its parts
 abbrev pub IsJournalOf : Plan → ℕ → ObjectKind → List ObjectEntry → Type 0
 IsJournalOf plan place kinds.Map journal = journal ≡ []
 IsJournalOf plan place (kinds.Atomic type) journal = journal ≡ []
@@ -62,3 +62,4 @@ IsJournalOf plan place (kinds.Once atomic delta) journal = IsOnceJournal plan.wo
 IsJournalOf plan place (kinds.OnceFunc code) journal = IsOnceFuncJournal plan.workers journal
 IsJournalOf plan place (kinds.OnceValue value) journal = IsOnceValueJournal plan.workers journal
 IsJournalOf plan place kinds.Pool journal = journal ≡ []
+IsJournalOf plan place kinds.Var journal = journal ≡ []

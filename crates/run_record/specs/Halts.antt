@@ -15,10 +15,11 @@ use Rattle.run_record.specs.declared.entered.ObjectReply.{ObjectReply}
 use Rattle.run_record.specs.declared.made.Made.{Made}
 use Rattle.run_record.specs.declared.made.Made.TheVariants.{Shared, Entered}
 
--- the numbers of what is halted for the object declared at a place: a pool's parts, from 0 up, nothing for a map or an atomic, and any other object itself
+-- the numbers of what is halted for the object declared at a place: a pool's parts, from 0 up, nothing for a map, an atomic or a plain variable, and any other object itself
 abbrev pub halted_at : Plan → ℕ → ObjectKind → List ℕ
 halted_at plan place kinds.Map = []
 halted_at plan place (kinds.Atomic type) = []
+halted_at plan place kinds.Var = []
 halted_at plan place kinds.Pool = range_with_len (first_part plan place) plan.workers
 halted_at plan place kind = object_number place ∷ []
 
@@ -45,10 +46,11 @@ entered_on [] = []
 entered_on (Shared x ∷ items) = entered_on items
 entered_on (Entered object entry ∷ items) = object ∷ entered_on items
 
--- the number is that of the object declared at a place, or of a part of the pool there. What is done on a map or an atomic stands in no journal, so these have none
+-- the number is that of the object declared at a place, or of a part of the pool there. What is done on a map, an atomic or a plain variable stands in no journal, so these have none
 abbrev pub IsNumberAt : Plan → ℕ → ObjectKind → ℕ → Type 0
 IsNumberAt plan place kinds.Map number = ⊥
 IsNumberAt plan place (kinds.Atomic type) number = ⊥
+IsNumberAt plan place kinds.Var number = ⊥
 IsNumberAt plan place kinds.Pool number = (part : ℕ) × (part < plan.workers) × (number ≡ first_part plan place + part)
 IsNumberAt plan place kind number = number ≡ object_number place
 

@@ -13,7 +13,11 @@ use Rattle.script_calls.specs.declared.call.Operation.{Operation}
 use Rattle.script_calls.specs.declared.call.Operation.TheVariants as operations
 use Rattle.script_calls.specs.declared.call.Reply.{Reply}
 use Rattle.script_calls.specs.declared.call.Reply.TheVariants as replies
-use Rattle.script_calls.specs.Replies.{is_reply_to}
+use Rattle.script_calls.specs.declared.call.VarCall.{VarCall}
+use Rattle.script_calls.specs.declared.call.VarCall.TheVariants as var_calls
+use Rattle.script_calls.specs.declared.call.VarReply.{VarReply}
+use Rattle.script_calls.specs.declared.call.VarReply.TheVariants as var_replies
+use Rattle.script_calls.specs.Replies.{is_reply_to, var_form}
 use Rattle.sync_types.specs.Replies.{map_form, is_map_done, is_found, is_settled, is_map_compared, atomic_form, is_atomic_done, is_held, is_atomic_compared, mutex_form, rw_mutex_form, is_lock_done, is_tried, pool_form, is_pool_done, is_item}
 use Rattle.sync_types.specs.SequentialAtomic.{is_of, is_signed}
 use Rattle.sync_types.specs.declared.atomic_object.AtomicKind.{AtomicKind}
@@ -49,8 +53,8 @@ use Rattle.script_calls.specs.declared.call.Call.{Call}
 use Rattle.sync_types.specs.Name.{is_name, is_name_byte}
 use Rattle.workload.specs.Canonical.{behind_spaces}
 use Rattle.workload.specs.NumberWords.{number_word}
-use Rattle.workload_text.specs.ReportLines.{truth_text, map_reply_text, pair_text, pairs_text, atomic_reply_text, lock_reply_text, once_reply_text, once_func_reply_text, pool_reply_text, reply_text}
-use Rattle.run_report.specs.Told.{has_64_bits, map_in_range, once_in_range, atomic_in_range, code_in_range, pool_in_range, is_in_range, is_key, is_number_at, is_number_of}
+use Rattle.workload_text.specs.ReportLines.{truth_text, map_reply_text, pair_text, pairs_text, atomic_reply_text, lock_reply_text, once_reply_text, once_func_reply_text, pool_reply_text, var_reply_text, reply_text}
+use Rattle.run_report.specs.Told.{has_64_bits, map_in_range, once_in_range, atomic_in_range, code_in_range, pool_in_range, var_in_range, is_in_range, is_key, is_number_at, is_number_of}
 use Rattle.run_report.proofs.TextCuts.{lacks, lacks_both, cut, IsNoDigit, decimal_lacks, signed_lacks, name_lacks, first_lacks, rest_lacks, words_apart, words_lack}
 
 small : (n : ℕ) → has_64_bits n ≡ true → n < 2 ^ 64
@@ -404,6 +408,15 @@ pool_lacks pool_replies.Done h = refl
 pool_lacks (pool_replies.Put n) h = lacks_both 10 (decimal n) (codes " put") (number_lacks 10 no_feed n h) refl
 pool_lacks pool_replies.New h = refl
 
+var_apart : (call : VarCall) (a b : VarReply) → var_form call a ≡ true → var_form call b ≡ true → var_in_range a ≡ true → var_in_range b ≡ true → var_reply_text a ≡ var_reply_text b → a ≡ b
+var_apart var_calls.Read (var_replies.Held m) (var_replies.Held n) fa fb ha hb e = ap (λ (v : ℕ). var_replies.Held v) (decimal_one m n ha hb e)
+var_apart (var_calls.Write v) var_replies.Done var_replies.Done fa fb ha hb e = refl
+var_apart call a b fa fb ha hb e = absurd cc
+
+var_lacks : (a : VarReply) → var_in_range a ≡ true → lacks 10 (var_reply_text a) ≡ true
+var_lacks var_replies.Done h = refl
+var_lacks (var_replies.Held n) h = number_lacks 10 no_feed n h
+
 first_text : {x y : List ℕ} {xs ys : List (List ℕ)} → x ∷ xs ≡ y ∷ ys → x ≡ y
 first_text e = cc
 
@@ -492,6 +505,7 @@ module _ (plan : Plan) (are : AreKeys (keys_in plan.scripts)) where
   reply_lacks call (replies.OnceFunc a) h = func_lacks a h
   reply_lacks call (replies.OnceValue a) h = number_lacks 10 no_feed a h
   reply_lacks call (replies.Pool a) h = pool_lacks a h
+  reply_lacks call (replies.Var a) h = var_lacks a h
 
   -- and no two replies to one call have one text
   pub reply_apart : (call : Call) (a b : Reply ℕ) → is_reply_to call.operation a ≡ true → is_reply_to call.operation b ≡ true → is_in_range plan call a ≡ true → is_in_range plan call b ≡ true → reply_text keys a ≡ reply_text keys b → a ≡ b
@@ -550,5 +564,11 @@ module _ (plan : Plan) (are : AreKeys (keys_in plan.scripts)) where
     where
       by_operation : (o : Operation) (a : PoolCallReply) (b : Reply ℕ) → is_reply_to {K = ℕ} o (replies.Pool a) ≡ true → is_reply_to {K = ℕ} o b ≡ true → pool_in_range a ≡ true → is_in_range plan call b ≡ true → pool_reply_text a ≡ reply_text keys b → replies.Pool a ≡ b
       by_operation (operations.Pool of) a (replies.Pool b) fa fb ha hb e = ap (λ (r : PoolCallReply). replies.Pool r) (pool_apart of a b fa fb ha hb e)
+      by_operation (operations.Composed (Go worker)) a b fa fb ha hb e = absurd cc
+      by_operation o a b fa fb ha hb e = absurd cc
+  reply_apart call (replies.Var a) b fa fb ha hb e = by_operation call.operation a b fa fb ha hb e
+    where
+      by_operation : (o : Operation) (a : VarReply) (b : Reply ℕ) → is_reply_to {K = ℕ} o (replies.Var a) ≡ true → is_reply_to {K = ℕ} o b ≡ true → var_in_range a ≡ true → is_in_range plan call b ≡ true → var_reply_text a ≡ reply_text keys b → replies.Var a ≡ b
+      by_operation (operations.Var of) a (replies.Var b) fa fb ha hb e = ap (λ (r : VarReply). replies.Var r) (var_apart of a b fa fb ha hb e)
       by_operation (operations.Composed (Go worker)) a b fa fb ha hb e = absurd cc
       by_operation o a b fa fb ha hb e = absurd cc

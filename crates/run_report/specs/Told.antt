@@ -6,6 +6,8 @@ use Rattle.script_calls.specs.Runs.{made_of}
 use Rattle.script_calls.specs.declared.call.Call.{Call}
 use Rattle.script_calls.specs.declared.call.Reply.{Reply}
 use Rattle.script_calls.specs.declared.call.Reply.TheVariants as replies
+use Rattle.script_calls.specs.declared.call.VarReply.{VarReply}
+use Rattle.script_calls.specs.declared.call.VarReply.TheVariants as var_replies
 use Rattle.script_calls.specs.declared.outcome.Outcome.{Outcome}
 use Rattle.sync_types.specs.SequentialAtomic.{is_of}
 use Rattle.sync_types.specs.declared.atomic_object.AtomicKind.TheVariants.{Int64}
@@ -71,6 +73,10 @@ pool_in_range pool_replies.Done = true
 pool_in_range (pool_replies.Put item) = has_64_bits item
 pool_in_range pool_replies.New = true
 
+abbrev pub var_in_range : VarReply → Bool
+var_in_range var_replies.Done = true
+var_in_range (var_replies.Held value) = has_64_bits value
+
 -- the numbers of a reply are of the call's object, and its keys are the workload's
 abbrev pub is_in_range : Plan → Call → Reply ℕ → Bool
 is_in_range plan call (replies.Map reply) = map_in_range reply
@@ -82,6 +88,7 @@ is_in_range plan call (replies.Once reply) = once_in_range reply
 is_in_range plan call (replies.OnceFunc code) = code_in_range code
 is_in_range plan call (replies.OnceValue value) = has_64_bits value
 is_in_range plan call (replies.Pool reply) = pool_in_range reply
+is_in_range plan call (replies.Var reply) = var_in_range reply
 
 -- a value at the end is of an object that is there
 abbrev pub is_end : Plan → End → Bool

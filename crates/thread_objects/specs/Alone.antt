@@ -6,13 +6,14 @@ use Rattle.sync_types.specs.declared.wait_call.CondCall.TheVariants as cond_call
 use Rattle.workload.specs.declared.object.ObjectKind.{ObjectKind}
 use Rattle.workload.specs.Plan.{has_call}
 
--- maps and atomics are shared as one, a cond's `wait` is on its mutex too, a pool is as many objects as it has parts, and a call that is made of others is on the objects of these
+-- maps and atomics are shared as one, a cond's `wait` is on its mutex too, a pool is as many objects as it has parts, a plain variable is none, and a call that is made of others is on the objects of these
 abbrev pub IsAlone : Operation → Type 0
 IsAlone (operations.Map call) = ⊥
 IsAlone operations.Range = ⊥
 IsAlone (operations.Atomic call) = ⊥
 IsAlone (operations.Cond cond_calls.Wait) = ⊥
 IsAlone (operations.Pool call) = ⊥
+IsAlone (operations.Var call) = ⊥
 IsAlone (operations.Composed call) = ⊥
 IsAlone operation = Unit {0}
 

@@ -26,11 +26,12 @@ pub record Began {M N S E R H : Type 0} (at : H → N → Type 0) (home : H) (wo
 abbrev pub BeganAs : {M N S E R W H : Type 0} → Kind S E R W → (H → N → Type 0) → H → ℕ → ObjectKind → Object M N S E R H → Type 0
 BeganAs kind at home workers declared object = MatchOption (kind.starts workers declared) ⊥ (λ start. Began at home workers start object)
 
--- nothing is here for it: a map or an atomic, or a pool beside its parts
+-- nothing is here for it: a map or an atomic, a pool beside its parts, or a plain variable, which no run with threads has
 abbrev pub IsElsewhere : ObjectKind → Type 0
 IsElsewhere kinds.Map = Unit {0}
 IsElsewhere (kinds.Atomic type) = Unit {0}
 IsElsewhere kinds.Pool = Unit {0}
+IsElsewhere kinds.Var = Unit {0}
 IsElsewhere kind = ⊥
 
 module _ {N H : Type 0} (at : H → N → Type 0) (home : H) where

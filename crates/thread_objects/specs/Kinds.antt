@@ -25,4 +25,5 @@ module _ {N H : Type 0} where
   IsOfKind kinds.Map object = Unit {0}
   IsOfKind (kinds.Atomic type) object = Unit {0}
   IsOfKind kinds.Pool object = Unit {0}
+  IsOfKind kinds.Var object = Unit {0}
   IsOfKind kind object = HasWord (word_of kind) object

@@ -80,6 +80,7 @@ macro_rules! making_arms {
             ObjectKind::Map => Ok($shared),
             ObjectKind::Atomic(_type) => Ok($shared),
             ObjectKind::Pool => Ok($shared),
+            ObjectKind::Var => Ok($shared),
         }
     };
 }

@@ -13,6 +13,7 @@ use Rattle.script_calls.specs.declared.call.ComposedCall.TheVariants.{IfEqual, W
 use Rattle.script_calls.specs.declared.call.Operation.{Operation}
 use Rattle.script_calls.specs.declared.call.Operation.TheVariants as operations
 use Rattle.script_calls.specs.declared.call.Reply.{Reply}
+use Rattle.script_calls.specs.declared.call.VarCall.{VarCall}
 use Rattle.sync_types.specs.declared.map_object.MapCall.{MapCall}
 use Rattle.sync_types.specs.declared.pool_call.PoolCall.{PoolCall}
 use Rattle.protocols.specs.Spelling.{CallAnswer}
@@ -20,6 +21,8 @@ use Rattle.workload.specs.declared.object.ObjectKind.{ObjectKind}
 use Rattle.workload.specs.declared.object.ObjectKind.TheVariants as kinds
 use Rattle.workload.specs.Plan.{Plan, has_among, has_call, has_dormant, is_on, may_hold, starts_dormant}
 use Rattle.workload.specs.declared.object.ObjectLine.{ObjectLine}
+use Rattle.workload.specs.Dialect.{has_variables}
+use Rattle.workload.specs.Draft.{is_access_operation}
 use Rattle.workload.specs.Keys.{keys_in}
 use Rattle.run_record.specs.AtomicKind.{atomic_call}
 use Rattle.run_record.specs.MapKind.{map_call, range_call}
@@ -57,6 +60,12 @@ module _ (plan : Plan) where
 
   pub of_pool : (kind : ObjectKind) (operation : Operation) (call : PoolCall) → has_among plan.objects kind operation ≡ true → operation ≡ operations.Pool call → kind ≡ kinds.Pool
   of_pool kind operation call has is = pool_kind kind call (ap (λ (o : Operation). has_among plan.objects kind o) (sym is) ∙ has)
+
+  -- a workload without variables has no object that is read or written
+  pub no_variable : ((place : ℕ) (object : ObjectLine) (operation : Operation) → has_variables plan ≡ false → slice_get plan.objects place ≡ Some object → has_among plan.objects object.kind operation ≡ true → is_access_operation operation ≡ false)
+      → (place : ℕ) (kind : ObjectKind) (operation : Operation) (call : VarCall) → has_variables plan ≡ false → IsAt plan place kind → has_among plan.objects kind operation ≡ true → operation ≡ operations.Var call → ⊥
+  no_variable law place kind operation call none at has is =
+      false≢true (sym (law place at.0 operation none at.1 (subst (λ (k : ObjectKind). has_among plan.objects k operation ≡ true) (sym at.2) has)) ∙ ap is_access_operation is)
 
   -- an object that has an atomic's call is an atomic
   pub atomic_type : (kind : ObjectKind) (call : AtomicCall) → has_among plan.objects kind (operations.Atomic call) ≡ true → (type : AtomicKind) × (kind ≡ kinds.Atomic type)

@@ -1,5 +1,5 @@
 -- What the workers of a run share, and what a call needs of it.
-use Rattle.std.specs.Prelude.{◌≡◌, ℕ, ◌<◌, ◌≤◌, List, [], length, All, count_by, sum_by, Some, get_or, slice_get, slice_index}
+use Rattle.std.specs.Prelude.{◌≡◌, ℕ, ◌<◌, ◌≤◌, false, List, [], length, All, count_by, sum_by, Some, get_or, slice_get, slice_index}
 use Rattle.std.specs.List.{flat_map}
 use Rattle.sync_types.specs.declared.atomic_object.AtomicKind.{AtomicKind}
 use Rattle.script_calls.specs.declared.call.Call.{Call}
@@ -10,6 +10,7 @@ use Rattle.sync_model.specs.Shared.{cost_of}
 use Rattle.workload.specs.declared.object.ObjectKind.{ObjectKind}
 use Rattle.workload.specs.declared.object.ObjectKind.TheVariants as kinds
 use Rattle.workload.specs.declared.object.ObjectLine.{ObjectLine}
+use Rattle.workload.specs.Dialect.{has_variables}
 use Rattle.workload.specs.Keys.{keys_in}
 use Rattle.workload.specs.Plan.{Plan}
 use Rattle.thread_objects.specs.declared.object.AnyObject.{AnyObject}
@@ -38,11 +39,12 @@ pub record AreShared (plan : Plan) (maps : ℕ) (types : List AtomicKind) (takes
   pub all_types : types ≡ flat_map (λ object. types_of object.kind) plan.objects
   pub keys : (key : ℕ) → key < length (keys_in plan.scripts) → takes key
 
--- what all workers of a run share: its objects, with Stop, as the workload declares them, its maps and atomics, and the numbers of these and of its pools
+-- what all workers of a run share: its objects, with Stop, as the workload declares them, its maps and atomics, and the numbers of these and of its pools. There is no plain variable
 pub record IsSite {N H : Type 0} (at : H → N → Type 0) (home : H) (plan : Plan) (maps : ℕ) (types : List AtomicKind) (takes : ℕ → Type 0) (objects : List (AnyObject N H)) (numbers : List ℕ) : Type 0 where
   pub declared : AreDeclared at home plan objects
   pub shared : AreShared plan maps types takes
   pub numbered : AreNumbers plan.objects numbers
+  pub plain : has_variables plan ≡ false
 
 -- the call stands in the worker's script
 abbrev pub IsScripted : Plan → (worker : ℕ) → Call → Type 0

@@ -33,6 +33,7 @@ use sync_outside::Clock;
 use sync_types::{BoundedSeq, CondCall};
 use thread_objects::laws::objects_are_of_their_kinds;
 use thread_objects::{AnyPass, CallAnswer, Worker, atomic_at};
+use workload::laws::only_variables_are_read_and_written;
 use workload::{ObjectKind, Workload};
 
 // Of which kind the object at a place is.
@@ -114,6 +115,7 @@ fn call_at<S: Shared, C: Clock, R: Wait>(
         (desk_with S.Mark.own S.Mark.front (owns_of passes.old) caller.old.note) answer (desk_with S.Mark.own S.Mark.front (owns_of passes.new) caller.new.note)) }
 {
     objects_are_of_their_kinds::<S::Mark>();
+    only_variables_are_read_and_written();
     match operation {
         Operation::Map(call) => Some(map_at(rt, site, caller, place, call)),
         Operation::Atomic(call) => Some(atomic_at(rt, &site.catalog, caller, place, *call)),
@@ -133,6 +135,7 @@ fn call_at<S: Shared, C: Clock, R: Wait>(
             )),
             _ => unreachable!(),
         },
+        Operation::Var(_) => unreachable!(),
         Operation::Pool(call) => Some(call_pool(
             rt,
             worker,

@@ -1,7 +1,8 @@
 //! A run of a workload by threads, over any shared maps and atomics.
-ghost use Rattle.std.specs.Prelude.{◌≡◌, ◌≤◌, ◌+◌, IfOk, IfErr, OnOk, List, Err, [], map, vec_capacity};
+ghost use Rattle.std.specs.Prelude.{◌≡◌, ◌≤◌, ◌+◌, false, IfOk, IfErr, OnOk, List, Err, [], map, vec_capacity};
 ghost use Rattle.sync_model.specs.Shared.{AreAllCallers};
 ghost use Rattle.sync_outside.specs.Faults.{Rose, RoseBy};
+ghost use Rattle.workload.specs.Dialect.{has_variables};
 ghost use Rattle.thread_objects.specs.AsDeclared.{AreDeclared};
 ghost use Rattle.thread_objects.specs.Rows.{AreColumns};
 ghost use Rattle.thread_runner.specs.Sites.{AreShared, IsSite};
@@ -209,6 +210,7 @@ where
     S::Mark: Send,
     S::Cursor: Send,
     <S::Mark as Note>::Home: Sync,
+    requires plain { has_variables workload.now ≡ false }
     requires shared { AreShared workload.now (S.maps shared.now) (S.kinds shared.now) (S.takes shared.now) }
     requires count { S.count shared.now ≡ workload.now.workers }
     requires callers { AreAllCallers S.Mark.at S.Mark.own (S.home_of shared.now) callers.items workload.now.workers }

@@ -1,6 +1,7 @@
 //! A run of a workload by threads, with its maps and atomics.
-ghost use Rattle.std.specs.Prelude.{◌≡◌, ◌≤◌, ◌+◌, IfOk, IfErr, Err};
+ghost use Rattle.std.specs.Prelude.{◌≡◌, ◌≤◌, ◌+◌, false, IfOk, IfErr, Err};
 ghost use Rattle.sync_outside.specs.Faults.{Rose, RoseBy};
+ghost use Rattle.workload.specs.Dialect.{has_variables};
 ghost use Rattle.run_record.specs.Explains.{Explains};
 ghost use Rattle.run_record.specs.InOneOrder.{InOneOrder};
 ghost use Rattle.run_record.specs.Record.{Record};
@@ -38,6 +39,7 @@ where
     M::Mark: Send,
     M::Cursor: Send,
     <M::Mark as Note>::Home: Sync,
+    requires plain { has_variables workload.now ≡ false }
     ensures explained { IfOk result (λ outcome. (r : Record) × Explains workload.now outcome r × InOneOrder r) }
     ensures refused { result ≡ Err faults.StartRefused → Rose (P.faults spawner.old) (P.faults spawner.new) }
     ensures stays { ¬ (result ≡ Err faults.StartRefused) → P.faults spawner.new ≡ P.faults spawner.old }
@@ -54,7 +56,8 @@ where
     Ok(finish(workload, maps, callers, room, plan, outcome))
 }
 
-/// Makes the calls of a workload's workers in threads, one for each worker, and answers what the run comes to. Its maps are
+/// Makes the calls of a workload's workers in threads, one for each worker, and answers what the run comes to. The workload has
+/// no plain variable: threads would race on it. Its maps are
 /// hash tries and its atomics words, in one table: loads, walks over a map and calls on atomics wait for nobody. Each call
 /// passes the gate before and after. All memory is taken before the first start.
 ///
@@ -72,6 +75,7 @@ pub fn threaded<C: Clock + Sync, P: Spawner, G: Gate + Sync, R: Threads + Wait +
     spawner: &mut P,
     gate: &G,
 ) -> Result<Outcome, RunFault>
+    requires plain { has_variables workload.now ≡ false }
     ensures explained { IfOk result (λ outcome. (r : Record) × Explains workload.now outcome r × InOneOrder r) }
     ensures refused { result ≡ Err faults.StartRefused → Rose (P.faults spawner.old) (P.faults spawner.new) }
     ensures stays { ¬ (result ≡ Err faults.StartRefused) → P.faults spawner.new ≡ P.faults spawner.old }

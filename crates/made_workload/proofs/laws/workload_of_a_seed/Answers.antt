@@ -1,6 +1,6 @@
 use Rattle.std.proofs.Common.{refl}
 use Rattle.made_workload.specs.Generated.{generated_plan}
-use Rattle.made_workload.proofs.Readable.{script_at, script_calls, all_calls, readable}
+use Rattle.made_workload.proofs.Readable.{no_variables, script_at, script_calls, all_calls, readable}
 use Rattle.made_workload.proofs.RunRounds.{no_tests}
 use Rattle.made_workload.proofs.laws.workload_of_a_seed.Goals as goal
 
@@ -32,3 +32,6 @@ returns-clause-no_dormant c = λ seed. refl
 
 pub returns-clause-readable : goal.returns-clause-readable
 returns-clause-readable c = readable
+
+pub returns-clause-no_variables : goal.returns-clause-no_variables
+returns-clause-no_variables c = no_variables
