@@ -20,7 +20,8 @@ use Rattle.step_runner.specs.declared.turns.answer.Answer.TheVariants as answers
 use Rattle.step_runner.specs.declared.turns.object_state.ObjectState.{ObjectState}
 use Rattle.step_runner.specs.declared.turns.object_state.ObjectState.TheVariants as states
 use Rattle.step_runner.specs.TurnsLeft.{refers_to, mutex_left, rw_left, left_at, left_in, turns_left, TakesBy, mutex_told, rw_told, told_at, is_told, TellsOwn}
-use Rattle.step_runner.specs.Items.{Item, items_on, items_on_both, items_by, items_at, goes_back, unlocks}
+use Rattle.step_runner.specs.declared.turns.item.Item.{Item}
+use Rattle.step_runner.specs.Items.{items_on, items_on_both, items_by, items_at, goes_back, unlocks}
 use Rattle.step_runner.specs.Objects.{kind_of}
 use Rattle.step_runner.specs.Ready.{IsReady}
 use Rattle.step_runner.specs.Stands.{IsOutAt}
@@ -222,6 +223,7 @@ left_few x (states.Once o place delta) = omega (arith, few (once.waits_at o x ||
 left_few x (states.OnceFunc o code) = omega (arith, few (once.waits_at o x || once.runs_at o x))
 left_few x (states.OnceValue o value) = omega (arith, few (once.waits_at o x || once.runs_at o x))
 left_few x (states.Pool p) = omega arith
+left_few x (states.Var held) = omega arith
 
 any_few : (x : ℕ) (o : Option ObjectState) → left_of x o ≤ 2
 any_few x None = omega arith
@@ -239,6 +241,7 @@ with_reference x objects (states.WaitGroup g first) = omega (arith, left_few x (
 with_reference x objects (states.OnceFunc o code) = omega (arith, left_few x (states.OnceFunc o code))
 with_reference x objects (states.OnceValue o value) = omega (arith, left_few x (states.OnceValue o value))
 with_reference x objects (states.Pool p) = omega (arith, left_few x (states.Pool p))
+with_reference x objects (states.Var held) = omega (arith, left_few x (states.Var held))
 
 pub at_most_four : (x : ℕ) (call : Call) (objects : List ObjectState) → turns_left (map kind_of objects) call x objects ≤ 4
 at_most_four x call objects = by_object (slice_get objects call.object) refl
@@ -263,3 +266,4 @@ out_untold x (states.Once o place delta) out = refl
 out_untold x (states.OnceFunc o code) out = refl
 out_untold x (states.OnceValue o value) out = refl
 out_untold x (states.Pool p) out = refl
+out_untold x (states.Var held) out = refl

@@ -20,7 +20,8 @@ use Rattle.step_runner.specs.declared.turns.answer.Answer.{Answer}
 use Rattle.step_runner.specs.declared.turns.answer.Answer.TheVariants as answers
 use Rattle.step_runner.specs.declared.turns.object_state.ObjectState.{ObjectState}
 use Rattle.step_runner.specs.TurnsLeft.{refers_to, TakesBy, told_at, is_told, TellsOwn}
-use Rattle.step_runner.specs.Items.{Item, goes_back, unlocks}
+use Rattle.step_runner.specs.declared.turns.item.Item.{Item}
+use Rattle.step_runner.specs.Items.{goes_back, unlocks}
 use Rattle.step_runner.specs.Objects.{kind_of}
 use Rattle.step_runner.specs.Stands.{IsOutAt, IsOutBut}
 use Rattle.step_runner.specs.StandsWithin.{IsReadyWithin, most_turns, turns_by_operation, turns_within}

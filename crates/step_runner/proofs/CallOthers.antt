@@ -42,7 +42,9 @@ use Rattle.step_runner.specs.declared.turns.object_state.ObjectState.{ObjectStat
 use Rattle.step_runner.specs.declared.turns.object_state.ObjectState.TheVariants as states
 use Rattle.step_runner.specs.TurnsLeft.{mutex_left, rw_left, once_left, left_at, mutex_told, rw_told, told_at}
 use Rattle.step_runner.specs.Due.{mutex_due, rw_due, group_due, cond_due, once_due}
-use Rattle.step_runner.specs.Items.{Item, entered, stage_items, items_on, items_on_both, is_unlock, unlocks}
+use Rattle.step_runner.specs.declared.turns.item.Deed.TheVariants as deeds
+use Rattle.step_runner.specs.declared.turns.item.Item.{Item}
+use Rattle.step_runner.specs.Items.{stage_items, items_on, items_on_both, is_unlock, unlocks}
 use Rattle.step_runner.specs.Objects.{IsMachineOf}
 use Rattle.step_runner.specs.Stages.{make}
 use Rattle.step_runner.specs.TurnAtObjects.{once_made, turn_on, turn_on_both}
@@ -83,7 +85,7 @@ mutex_eases law x by moment object stage m valid apart = by_test (mutex_moves.te
         let was = law.told m x by e valid told in
         let zero : mutex_left (mutex.place_of (mutex.next m by e).0 x) ≡ 0 =
         ap mutex_left (law.moved m x by e valid) ∙ ap (λ (p : MutexPlace). mutex_left (mutex_moves.place_after x by p (mutex.next m by e).1)) was.1 ∙ told_waiting x by (mutex.next m by e).1 told in
-        (omega (arith, zero), λ untold now. ap (λ (f : MutexEvent). is_unlock (entered (events.Mutex f) (answered.Mutex (mutex.next m by e).1)) || false) was.0)
+        (omega (arith, zero), λ untold now. ap (λ (f : MutexEvent). is_unlock (deeds.Entered (events.Mutex f) (answered.Mutex (mutex.next m by e).1)) || false) was.0)
     by_test false told =
         let same = law.unmoved m x by e valid apart told in
         (omega (arith, ap mutex_left same), λ untold now. no (sym untold ∙ (sym (ap mutex_told same) ∙ now)))
@@ -95,7 +97,7 @@ mutex_due_eases law x by moment object (Some stage) m valid apart = mutex_eases 
 
 -- by the table of moves
 abbrev RwEases : RwEvent → RwReply → RwPlace → RwPlace → Type 0
-RwEases e r p q = (rw_left q ≤ rw_left p) × (rw_told p ≡ false → rw_told q ≡ true → is_unlock (entered (events.RwMutex e) (answered.RwMutex r)) || false ≡ true)
+RwEases e r p q = (rw_left q ≤ rw_left p) × (rw_told p ≡ false → rw_told q ≡ true → is_unlock (deeds.Entered (events.RwMutex e) (answered.RwMutex r)) || false ≡ true)
 
 rw_same : (e : RwEvent) (r : RwReply) (p q : RwPlace) → q ≡ p → RwEases e r p q
 rw_same e r p q same = (omega (arith, ap rw_left same), λ untold told. no (sym untold ∙ (sym (ap rw_told same) ∙ told)))
@@ -171,6 +173,7 @@ turn_eases laws workers x by moment object (operations.WaitGroup call) (states.W
 turn_eases laws workers x by moment object operations.OnceFunc (states.OnceFunc o code) is apart = (omega (arith, once_same laws.giving x by moment code o apart), λ was told. no told)
 turn_eases laws workers x by moment object operations.OnceValue (states.OnceValue o value) is apart = (omega (arith, once_same laws.giving x by moment value o apart), λ was told. no told)
 turn_eases laws workers x by moment object (operations.Pool call) (states.Pool p) is apart = (omega arith, λ was told. no told)
+turn_eases laws workers x by moment object (operations.Var call) (states.Var held) is apart = (omega arith, λ was told. no told)
 turn_eases laws workers x by moment object operation o is apart = (omega arith, λ untold told. no (sym untold ∙ told))
 
 -- ---- at two objects

@@ -97,7 +97,9 @@ use Rattle.step_runner.specs.declared.turns.object_state.ObjectState.TheVariants
 use Rattle.step_runner.specs.TurnsLeft.{mutex_left, rw_left, once_left, left_at, TakesOf, TakesBy, mutex_told, rw_told, told_at, TellsOwn}
 use Rattle.step_runner.specs.Completes.{IsCompleted}
 use Rattle.step_runner.specs.Due.{mutex_due, rw_due, locked, group_due, returned, cond_due, waited, once_due, ran_or}
-use Rattle.step_runner.specs.Items.{Item, entered, stage_items, items_on, items_on_both, add_items, once_items, look_items, unless_found, pool_items, is_requeued, goes_back}
+use Rattle.step_runner.specs.declared.turns.item.Deed.TheVariants as deeds
+use Rattle.step_runner.specs.declared.turns.item.Item.{Item}
+use Rattle.step_runner.specs.Items.{stage_items, items_on, items_on_both, add_items, once_items, look_items, unless_found, pool_items, is_requeued, goes_back}
 use Rattle.step_runner.specs.Objects.{IsMachineOf}
 use Rattle.step_runner.specs.PoolTurn.{looked, pool_step}
 use Rattle.step_runner.specs.Stages.{outcome_of, make, answer_by}
@@ -152,7 +154,7 @@ mutex_at call mutex_place.Handed = refl
 
 abbrev MutexTakes : MutexStage → ℕ → MutexPlace → MutexPlace → MutexReply → Type 0
 MutexTakes stage now p q r =
-    let back = is_requeued (entered (events.Mutex (mutex_event stage now)) (answered.Mutex r)) || false in
+    let back = is_requeued (deeds.Entered (events.Mutex (mutex_event stage now)) (answered.Mutex r)) || false in
     TakesStep back (mutex_left p) (mutex_left q) (mutex_meaning stage r) × TellsOwn back (mutex_told p) (mutex_told q)
 
 -- the worker itself
@@ -199,7 +201,7 @@ mutex_due_takes law None x moment object m valid of = (tt, λ told. told)
 mutex_due_takes law (Some stage) x moment object m valid of =
     let n = mutex.next m x (mutex_event stage moment) in
     let takes = mutex_made_takes law stage x moment (mutex.place_of m x) m of.0 refl valid of.1 in
-    let back = is_requeued (entered (events.Mutex (mutex_event stage moment)) (answered.Mutex n.1)) || false in
+    let back = is_requeued (deeds.Entered (events.Mutex (mutex_event stage moment)) (answered.Mutex n.1)) || false in
     (takes_by locked back (mutex_left (mutex.place_of m x)) (mutex_left (mutex.place_of n.0 x)) (λ outcome. tt) (mutex_meaning stage n.1) takes.0, takes.1)
 
 -- ---- of a reader/writer mutex
@@ -228,7 +230,7 @@ rw_at call rw_place.Admitted = tt
 
 abbrev RwTakes : RwMutexStage → ℕ → RwPlace → RwPlace → RwReply → Type 0
 RwTakes stage now p q r =
-    let back = is_requeued (entered (events.RwMutex (rw_event stage now)) (answered.RwMutex r)) || false in
+    let back = is_requeued (deeds.Entered (events.RwMutex (rw_event stage now)) (answered.RwMutex r)) || false in
     TakesStep back (rw_left p) (rw_left q) (rw_meaning stage r) × TellsOwn back (rw_told p) (rw_told q)
 
 -- an arrival that waits
@@ -280,7 +282,7 @@ rw_due_takes law None x moment object m valid of = (tt, λ told. told)
 rw_due_takes law (Some stage) x moment object m valid of =
     let n = rw.next m x (rw_event stage moment) in
     let takes = rw_takes stage moment (rw.place_of m x) (rw.place_of n.0 x) n.1 of.0 of.1 (law.own m x (rw_event stage moment) valid) in
-    let back = is_requeued (entered (events.RwMutex (rw_event stage moment)) (answered.RwMutex n.1)) || false in
+    let back = is_requeued (deeds.Entered (events.RwMutex (rw_event stage moment)) (answered.RwMutex n.1)) || false in
     (takes_by locked back (rw_left (rw.place_of m x)) (rw_left (rw.place_of n.0 x)) (λ outcome. tt) (rw_meaning stage n.1) takes.0, takes.1)
 
 -- ---- of a wait group
@@ -416,7 +418,7 @@ module _ {T : Type 0} where
       (once_answers law.uses value o x moment below))
 
 -- events of other machines are no going back
-once_forward : {T : Type 0} (event : OnceEvent T → ObjectEvent) (answer : OnceReply T → ObjectReply) → ((e : OnceEvent T) (r : OnceReply T) → is_requeued (entered (event e) (answer r)) ≡ false) → (x moment object : ℕ) (value : T) (o : once.OnceState T)
+once_forward : {T : Type 0} (event : OnceEvent T → ObjectEvent) (answer : OnceReply T → ObjectReply) → ((e : OnceEvent T) (r : OnceReply T) → is_requeued (deeds.Entered (event e) (answer r)) ≡ false) → (x moment object : ℕ) (value : T) (o : once.OnceState T)
     → goes_back (once_items event answer x moment object value o) ≡ false
 once_forward event answer forward x moment object value o = by_due (once_due value (once_standing.runs_at o x) (once.place_of o x))
   where
@@ -450,6 +452,7 @@ turn_takes laws workers x moment object (operations.Map call) (states.Map m) bel
 turn_takes laws workers x moment object operations.Range (states.Map m) below is = (tt, λ told. told)
 turn_takes laws workers x moment object (operations.Atomic call) (states.Atomic number) below is = (tt, λ told. told)
 turn_takes laws workers x moment object (operations.Composed (IfEqual value passes)) (states.Atomic number) below is = (tt, λ told. told)
+turn_takes laws workers x moment object (operations.Var call) (states.Var held) below is = (tt, λ told. told)
 turn_takes laws workers x moment object (operations.Mutex call) (states.Mutex m) below is =
     let due = mutex_due call (mutex.place_of m x) in
     let Answered : MutexStage → Type 0 = λ stage. mutex_standing.is_answer (mutex_event stage moment) (mutex.next m x (mutex_event stage moment)).1 ≡ true in
@@ -511,7 +514,7 @@ few false = omega arith
 
 -- an unlock leaves its worker where it is
 unlock_stays : (x now : ℕ) (p q : MutexPlace) (r : MutexReply) → p ≡ mutex_place.Out → mutex_standing.is_answer (mutex_event mutex_stage.Unlock now) r ≡ true → mutex_moves.tells x r ≡ false → q ≡ mutex_moves.place_after x x p r
-    → (q ≡ p) × (is_requeued (entered (events.Mutex (mutex_event mutex_stage.Unlock now)) (answered.Mutex r)) ≡ false)
+    → (q ≡ p) × (is_requeued (deeds.Entered (events.Mutex (mutex_event mutex_stage.Unlock now)) (answered.Mutex r)) ≡ false)
 unlock_stays x now p q (mutex_reply.Unlocked mutex_unlocking.Free) at is told moved = (moved, refl)
 unlock_stays x now p q (mutex_reply.Unlocked (mutex_unlocking.Woke ticket)) at is told moved = (moved ∙ ap (λ (b : Bool). if b then mutex_place.Woken else p) told, refl)
 unlock_stays x now p q (mutex_reply.Unlocked (mutex_unlocking.Handed ticket)) at is told moved = (moved ∙ ap (λ (b : Bool). if b then mutex_place.Handed else p) told, refl)
@@ -527,7 +530,7 @@ any_takes old new less (answers.Misused misuse) = tt
 -- a wait of a cond locks the mutex again
 abbrev AgainTakes : MutexStage → ℕ → ℕ → ℕ → MutexPlace → MutexPlace → MutexReply → Type 0
 AgainTakes stage now c d p q r =
-    let back = is_requeued (entered (events.Mutex (mutex_event stage now)) (answered.Mutex r)) || false in
+    let back = is_requeued (deeds.Entered (events.Mutex (mutex_event stage now)) (answered.Mutex r)) || false in
     TakesBy back (c + mutex_left p) (d + mutex_left q) (answer_by (waited (Some stage)) (outcome_of (mutex_meaning stage r))) × TellsOwn back (mutex_told p) (mutex_told q)
 
 lock_again : (x now c d : ℕ) (p q : MutexPlace) (r : MutexReply) → p ≡ mutex_place.Out → d ≤ 1 → mutex_standing.is_answer (mutex_event mutex_stage.Lock now) r ≡ true → q ≡ mutex_moves.place_after x x p r → AgainTakes mutex_stage.Lock now c d p q r

@@ -37,7 +37,8 @@ use Rattle.step_runner.specs.declared.turns.answer.Answer.{Answer}
 use Rattle.step_runner.specs.declared.turns.object_state.ObjectState.{ObjectState}
 use Rattle.step_runner.specs.declared.turns.object_state.ObjectState.TheVariants as states
 use Rattle.step_runner.specs.Due.{mutex_due, rw_due, group_due, cond_due, once_due, looks_of}
-use Rattle.step_runner.specs.Items.{Item, stage_items, unless_found, look_items, pool_items, items_on, add_items, sum_items, items_on_both, items_by, items_at}
+use Rattle.step_runner.specs.declared.turns.item.Item.{Item}
+use Rattle.step_runner.specs.Items.{stage_items, unless_found, look_items, pool_items, items_on, add_items, sum_items, items_on_both, items_by, items_at}
 use Rattle.step_runner.specs.Objects.{kind_of}
 use Rattle.step_runner.specs.PoolTurn.{looked}
 use Rattle.step_runner.specs.TurnAtObjects.{once_made}
@@ -79,6 +80,7 @@ on_by (operations.WaitGroup call) worker moment object (states.WaitGroup g first
 on_by operations.OnceFunc worker moment object (states.OnceFunc o code) = stage_by events.OnceFunc answered.OnceFunc once.next once_event worker moment object (once_due code (runs_at o worker) (once.place_of o worker)) o
 on_by operations.OnceValue worker moment object (states.OnceValue o value) = stage_by events.OnceValue answered.OnceValue once.next once_event worker moment object (once_due value (runs_at o worker) (once.place_of o worker)) o
 on_by (operations.Pool call) worker moment object (states.Pool p) = pool_by worker moment object call p
+on_by (operations.Var call) worker moment object (states.Var held) = (refl, tt)
 on_by operation worker moment object o = tt
 
 add_by : (worker object : ℕ) (delta : ℤ) (number : Number) (made : Result (OnceOutcome ℤ) Answer) → AllBy worker (add_items worker object delta number made)

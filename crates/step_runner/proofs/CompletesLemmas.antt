@@ -32,6 +32,7 @@ completes operations.Range worker moment (states.Map m) one has = tt
 completes (operations.Atomic call) worker moment (states.Atomic number) one has = tt
 completes (operations.Composed (IfEqual value passes)) worker moment (states.Atomic number) one has = tt
 completes (operations.Pool call) worker moment (states.Pool p) one has = pool_completes worker moment call p
+completes (operations.Var call) worker moment (states.Var held) one has = tt
 completes operation worker moment o one has = absurd cc
 
 -- an object that refers to another one has no such call

@@ -86,6 +86,7 @@ new_idle laws x workers room (kinds.Once place delta) = laws.adding workers x
 new_idle laws x workers room (kinds.OnceFunc code) = laws.giving workers x
 new_idle laws x workers room (kinds.OnceValue value) = laws.giving workers x
 new_idle laws x workers room kinds.Pool = tt
+new_idle laws x workers room kinds.Var = tt
 
 -- ---- the next call
 
@@ -122,6 +123,7 @@ module _ (plan : Plan) (x before place : ℕ) where
   whole_on operations.OnceValue (states.OnceValue o value) has alone idle out =
       λ i. once_left (stages events.OnceValue answered.OnceValue once_event once_meaning (object_number place)) (returns value) replies.OnceValue replies.OnceValue (idle.1 i) (idle.0 i)
   whole_on (operations.Pool call) (states.Pool p) has alone idle out = refl
+  whole_on (operations.Var call) (states.Var held) has alone idle out = refl
   whole_on (operations.Cond call) o has alone idle out = absurd (cond_refers o call has alone)
   whole_on operations.Once o has alone idle out = absurd (once_refers o has alone)
   whole_on (operations.Composed (WaitFor atomic value tries)) o has alone idle out = absurd (wait_for_alone o atomic tries value has)

@@ -18,7 +18,8 @@ use Rattle.step_runner.specs.declared.turns.object_state.ObjectState.{ObjectStat
 use Rattle.step_runner.specs.declared.turns.object_state.ObjectState.TheVariants as states
 use Rattle.step_runner.specs.Due.{returned}
 use Rattle.step_runner.specs.Goes.{add_item, HasGone}
-use Rattle.step_runner.specs.Items.{Item, items_at}
+use Rattle.step_runner.specs.declared.turns.item.Item.{Item}
+use Rattle.step_runner.specs.Items.{items_at}
 use Rattle.step_runner.specs.Objects.{kind_of, IsMachineOf}
 use Rattle.step_runner.specs.Ready.{IsReady}
 use Rattle.step_runner.specs.Stages.{outcome_of, answer_by}

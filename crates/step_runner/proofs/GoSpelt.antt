@@ -28,7 +28,8 @@ use Rattle.step_runner.specs.declared.turns.answer.Answer.{Answer}
 use Rattle.step_runner.specs.declared.turns.answer.Answer.TheVariants as answers
 use Rattle.step_runner.specs.declared.turns.object_state.ObjectState.{ObjectState}
 use Rattle.step_runner.specs.declared.turns.object_state.ObjectState.TheVariants as states
-use Rattle.step_runner.specs.Items.{Item, items_at}
+use Rattle.step_runner.specs.declared.turns.item.Item.{Item}
+use Rattle.step_runner.specs.Items.{items_at}
 use Rattle.step_runner.specs.Left.{left_at}
 use Rattle.step_runner.specs.MapKeys.{HasObjectKeysIn}
 use Rattle.step_runner.specs.Objects.{kind_of, EachAt}
@@ -117,7 +118,7 @@ module _ (plan : Plan) (worker place started : ℕ) where
       let made = items_at add worker moment objects in
       let w = group_there plan.workers worker place (group_calls.Add (pos 1)) objects ready in
       let n = group_there plan.workers worker place (group_calls.Add (pos 1)) step.0 (laws.ready plan.workers worker moment worker add add objects ready ready) in
-      let own = laws.own plan worker before moment add objects ready keys out within in
+      let own = laws.own plan worker before moment add objects ready refl keys out within in
       let count = before + length (shared_in (recorded plan before made)) in
       let of_add : Tells plan added added (recorded plan before made) step.1 =
       subst (λ (old : Part (Reply ℕ)). Tells plan old added (recorded plan before made) step.1) (left_add before objects w)

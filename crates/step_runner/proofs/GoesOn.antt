@@ -69,6 +69,7 @@ use Rattle.run_record.specs.declared.entered.ObjectEvent.TheVariants as events
 use Rattle.run_record.specs.declared.entered.ObjectReply.{ObjectReply}
 use Rattle.run_record.specs.declared.entered.ObjectReply.TheVariants as answered
 use Rattle.run_record.specs.declared.made.Made.{Made}
+use Rattle.workload.specs.Draft.{is_access_operation}
 use Rattle.workload.specs.Keys.{keys_in, key_number}
 use Rattle.workload.specs.Plan.{Plan, has_call, reference_of}
 use Rattle.step_runner.specs.declared.turns.object_state.ObjectState.{ObjectState}
@@ -168,33 +169,34 @@ swept_can first (part ∷ parts) =
     halted (record_pool.swept_by first (part ∷ parts)) (then_halts (record_pool.pool_part (first + part) pool_stage.Sweep) _ (stage_halts events.Pool answered.Pool pool_event pool_meaning (first + part) pool_stage.Sweep))
 
 module _ (plan : Plan) (x before place : ℕ) where
-  on_can : (operation : Operation) (o : ObjectState) → has_call (kind_of o) operation ≡ true → reference_of (kind_of o) ≡ None → CanBe (left_on plan x before place operation o)
-  on_can (operations.Map call) (states.Map m) has alone =
+  on_can : (operation : Operation) (o : ObjectState) → has_call (kind_of o) operation ≡ true → reference_of (kind_of o) ≡ None → is_access_operation operation ≡ false → CanBe (left_on plan x before place operation o)
+  on_can (operations.Map call) (states.Map m) has alone plain =
       (_, _, (map_replies.Done, places plan ((calls.Map (map_number plan.objects place) (renamed_call (key_number (keys_in plan.scripts)) call), shared.Map map_replies.Done) ∷ []), refl))
-  on_can operations.Range (states.Map m) has alone =
+  on_can operations.Range (states.Map m) has alone plain =
       (_, _, ([], [], places plan (cursor_showing (keys_in plan.scripts) (map_number plan.objects place) before []), (IsPermutation-refl [], λ k d low below. absurd (omega (arith, below))), refl))
-  on_can (operations.Atomic call) (states.Atomic number) has alone = (_, _, (atomic_replies.Done, places plan ((calls.Atomic (atomic_number plan.objects place) call, shared.Atomic atomic_replies.Done) ∷ []), refl))
-  on_can (operations.Composed (IfEqual value passes)) (states.Atomic number) has alone =
+  on_can (operations.Atomic call) (states.Atomic number) has alone plain = (_, _, (atomic_replies.Done, places plan ((calls.Atomic (atomic_number plan.objects place) call, shared.Atomic atomic_replies.Done) ∷ []), refl))
+  on_can (operations.Composed (IfEqual value passes)) (states.Atomic number) has alone plain =
       (_, _, (_, (_, (atomic_replies.Done, places plan ((calls.Atomic (atomic_number plan.objects place) Load, shared.Atomic atomic_replies.Done) ∷ []), refl), refl), refl))
-  on_can (operations.Mutex call) (states.Mutex m) has alone = halted (mutex_left (object_number place) call (mutex_waits (mutex.place_of m x))) (mutex_can (object_number place) call (mutex_waits (mutex.place_of m x)))
-  on_can (operations.RwMutex call) (states.RwMutex m) has alone = halted (rw_left (object_number place) call (rw_waits (rw.place_of m x))) (rw_can (object_number place) call (rw_waits (rw.place_of m x)))
-  on_can (operations.WaitGroup call) (states.WaitGroup g first) has alone = halted (group_left (object_number place) call (group_standing.waits_at g x)) (group_can (object_number place) call (group_standing.waits_at g x))
-  on_can operations.OnceFunc (states.OnceFunc o code) has alone =
+  on_can (operations.Mutex call) (states.Mutex m) has alone plain = halted (mutex_left (object_number place) call (mutex_waits (mutex.place_of m x))) (mutex_can (object_number place) call (mutex_waits (mutex.place_of m x)))
+  on_can (operations.RwMutex call) (states.RwMutex m) has alone plain = halted (rw_left (object_number place) call (rw_waits (rw.place_of m x))) (rw_can (object_number place) call (rw_waits (rw.place_of m x)))
+  on_can (operations.WaitGroup call) (states.WaitGroup g first) has alone plain = halted (group_left (object_number place) call (group_standing.waits_at g x)) (group_can (object_number place) call (group_standing.waits_at g x))
+  on_can operations.OnceFunc (states.OnceFunc o code) has alone plain =
       halted (left_on plan x before place operations.OnceFunc (states.OnceFunc o code))
       (once_can events.OnceFunc answered.OnceFunc (object_number place) (returns code) (λ kept. replies.OnceFunc (failure kept)) (λ kept. replies.OnceFunc (failure kept)) code [] (refl, refl) (once_standing.runs_at o x) (once_standing.waits_at o x))
-  on_can operations.OnceValue (states.OnceValue o value) has alone =
+  on_can operations.OnceValue (states.OnceValue o value) has alone plain =
       halted (left_on plan x before place operations.OnceValue (states.OnceValue o value))
       (once_can events.OnceValue answered.OnceValue (object_number place) (returns value) replies.OnceValue replies.OnceValue value [] (refl, refl) (once_standing.runs_at o x) (once_standing.waits_at o x))
-  on_can (operations.Pool (pool_calls.Put item)) (states.Pool p) has alone =
+  on_can (operations.Pool (pool_calls.Put item)) (states.Pool p) has alone plain =
       halted (left_on plan x before place (operations.Pool (pool_calls.Put item)) (states.Pool p))
       (read_halts _ (record_pool.pool_part (first_part plan place + x) (pool_stage.Put item)) (stage_halts events.Pool answered.Pool pool_event pool_meaning (first_part plan place + x) (pool_stage.Put item)))
-  on_can (operations.Pool pool_calls.Sweep) (states.Pool p) has alone = swept_can (first_part plan place) (range_with_len 0 plan.workers)
-  on_can (operations.Pool pool_calls.Get) (states.Pool p) has alone = found_can x (first_part plan place) (record_pool.looks_of plan.workers x)
-  on_can (operations.Cond call) o has alone = absurd (cond_refers o call has alone)
-  on_can operations.Once o has alone = absurd (once_refers o has alone)
-  on_can (operations.Composed (WaitFor atomic value tries)) o has alone = absurd (wait_for_alone o atomic tries value has)
-  on_can (operations.Composed (Go started)) o has alone = absurd (go_alone o started has)
-  on_can operation o has alone = absurd cc
+  on_can (operations.Pool pool_calls.Sweep) (states.Pool p) has alone plain = swept_can (first_part plan place) (range_with_len 0 plan.workers)
+  on_can (operations.Pool pool_calls.Get) (states.Pool p) has alone plain = found_can x (first_part plan place) (record_pool.looks_of plan.workers x)
+  on_can (operations.Cond call) o has alone plain = absurd (cond_refers o call has alone)
+  on_can operations.Once o has alone plain = absurd (once_refers o has alone)
+  on_can (operations.Composed (WaitFor atomic value tries)) o has alone plain = absurd (wait_for_alone o atomic tries value has)
+  on_can (operations.Composed (Go started)) o has alone plain = absurd (go_alone o started has)
+  on_can (operations.Var call) o has alone plain = absurd cc
+  on_can operation o has alone plain = absurd cc
 
   both_can : (other : ℕ) (operation : Operation) (o target : ObjectState) → Pair operation o target → CanBe (left_on_both plan x before place other operation o target)
   both_can other (operations.Cond call) (states.Cond c at) (states.Mutex m) pair =
@@ -205,12 +207,12 @@ module _ (plan : Plan) (x before place : ℕ) where
       (held, places plan ((calls.Atomic (atomic_number plan.objects other) (Add (Int64 delta)), shared.Atomic (atomic_replies.Held (Int64 held))) ∷ []), refl) (once_standing.runs_at o x) (once_standing.waits_at o x))
   both_can other operation o target pair = absurd pair
 
-pub left_can : (plan : Plan) (x before : ℕ) (call : Call) (objects : List ObjectState) → IsReady plan.workers x call objects → CanBe (left_at plan x before call objects)
-left_can plan x before call objects r = by_reference (reference_of (kind_of r.object)) refl
+pub left_can : (plan : Plan) (x before : ℕ) (call : Call) (objects : List ObjectState) → IsReady plan.workers x call objects → is_access_operation call.operation ≡ false → CanBe (left_at plan x before call objects)
+left_can plan x before call objects r plain = by_reference (reference_of (kind_of r.object)) refl
   where
     by_reference : (o : Option ℕ) → reference_of (kind_of r.object) ≡ o → CanBe (left_at plan x before call objects)
     by_reference None none =
-        let can = on_can plan x before call.object call.operation r.object r.has none in
+        let can = on_can plan x before call.object call.operation r.object r.has none plain in
         (can.0, can.1, subst (λ (P : Part (Reply ℕ)). P can.0 can.1) (sym (left_alone call objects r.object r.there plan x before none)) can.2)
     by_reference (Some other) some =
         let t = r.refers other some in

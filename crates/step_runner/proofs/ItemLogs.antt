@@ -43,9 +43,11 @@ use Rattle.run_record.specs.declared.entered.ObjectReply.TheVariants as answered
 use Rattle.step_runner.specs.declared.turns.answer.Answer.{Answer}
 use Rattle.step_runner.specs.declared.turns.object_state.ObjectState.{ObjectState}
 use Rattle.step_runner.specs.declared.turns.object_state.ObjectState.TheVariants as states
-use Rattle.step_runner.specs.LeadsTo.{on_object, told_in, told_by, FollowsTo, CallsTo, MapGoes, AtomicGoes, LeadsTo}
+use Rattle.step_runner.specs.LeadsTo.{on_object, told_in, told_by, FollowsTo, CallsTo, MapGoes, AtomicGoes, LeadsTo, VarGoes}
 use Rattle.step_runner.specs.Due.{mutex_due, rw_due, group_due, cond_due, once_due, looks_of}
-use Rattle.step_runner.specs.Items.{Item, Deed, stage_items, once_items, pool_item, unless_found, look_items, pool_items, items_on, add_items, items_on_both, items_at}
+use Rattle.step_runner.specs.declared.turns.item.Deed.{Deed}
+use Rattle.step_runner.specs.declared.turns.item.Item.{Item}
+use Rattle.step_runner.specs.Items.{stage_items, once_items, pool_item, unless_found, look_items, pool_items, items_on, add_items, items_on_both, items_at}
 use Rattle.step_runner.specs.PoolTurn.{looked, found_or, found_by, pool_step}
 use Rattle.step_runner.specs.Ready.{IsReady}
 use Rattle.step_runner.specs.Stages.{make}
@@ -89,6 +91,7 @@ comes_nowhere (states.Once o place delta) = ([], refl, tt, refl)
 comes_nowhere (states.OnceFunc o code) = ([], refl, tt, refl)
 comes_nowhere (states.OnceValue o value) = ([], refl, tt, refl)
 comes_nowhere (states.Pool p) = ([], refl, tt, refl)
+comes_nowhere (states.Var held) = refl
 
 pub comes_on : (a b c : ObjectState) (one two : List Item) → LeadsTo a one b → LeadsTo b two c → LeadsTo a (one ++ two) c
 comes_on (states.Map l) (states.Map m) (states.Map n) one two first later = join_calls MapGoes l m n one two first later
@@ -101,6 +104,7 @@ comes_on (states.Once l p d) (states.Once m q e) (states.Once n r f) one two fir
 comes_on (states.OnceFunc l p) (states.OnceFunc m q) (states.OnceFunc n r) one two first later = join_logs events.OnceFunc answered.OnceFunc once.next l m n one two first later
 comes_on (states.OnceValue l p) (states.OnceValue m q) (states.OnceValue n r) one two first later = join_logs events.OnceValue answered.OnceValue once.next l m n one two first later
 comes_on (states.Pool l) (states.Pool m) (states.Pool n) one two first later = join_logs events.Pool answered.Pool pool.next l m n one two first later
+comes_on (states.Var l) (states.Var m) (states.Var n) one two first later = join_calls VarGoes l m n one two first later
 comes_on (states.Map m) (states.Map n) c one two first later = absurd later
 comes_on (states.Map m) b c one two first later = absurd first
 comes_on (states.Atomic m) (states.Atomic n) c one two first later = absurd later
@@ -121,6 +125,8 @@ comes_on (states.OnceValue m p) (states.OnceValue n q) c one two first later = a
 comes_on (states.OnceValue m p) b c one two first later = absurd first
 comes_on (states.Pool m) (states.Pool n) c one two first later = absurd later
 comes_on (states.Pool m) b c one two first later = absurd first
+comes_on (states.Var m) (states.Var n) c one two first later = absurd later
+comes_on (states.Var m) b c one two first later = absurd first
 
 -- ---- a stage, and a pool's looks
 
@@ -168,6 +174,7 @@ on_comes (operations.WaitGroup call) worker moment object (states.WaitGroup g fi
 on_comes operations.OnceFunc worker moment object (states.OnceFunc o code) = once_comes events.OnceFunc answered.OnceFunc worker moment object code o
 on_comes operations.OnceValue worker moment object (states.OnceValue o value) = once_comes events.OnceValue answered.OnceValue worker moment object value o
 on_comes (operations.Pool call) worker moment object (states.Pool p) = pool_comes worker moment object call p
+on_comes (operations.Var call) worker moment object (states.Var held) = (operations.Var call, _, _, refl, (refl, refl), refl)
 on_comes operation worker moment object o = comes_nowhere o
 
 -- ---- which items are on which object
@@ -217,6 +224,7 @@ on_at (operations.WaitGroup call) worker moment object (states.WaitGroup g first
 on_at operations.OnceFunc worker moment object (states.OnceFunc o code) = stage_at events.OnceFunc answered.OnceFunc once.next once_event worker moment object (once_due code (runs_at o worker) (once.place_of o worker)) o
 on_at operations.OnceValue worker moment object (states.OnceValue o value) = stage_at events.OnceValue answered.OnceValue once.next once_event worker moment object (once_due value (runs_at o worker) (once.place_of o worker)) o
 on_at (operations.Pool call) worker moment object (states.Pool p) = pool_at worker moment object call p
+on_at (operations.Var call) worker moment object (states.Var held) = (refl, tt)
 on_at operation worker moment object o = tt
 
 -- ---- at two objects: what is made is made on one or on the other, and each comes by its own

@@ -5,6 +5,11 @@ mod EndLemmas
 mod MadeLemmas
 mod MetCalls
 mod NextCalls
+mod ItemsNoted
+mod NotedLemmas
+mod TraceLaws
+mod TraceLemmas
+mod TraceReplies
 mod OneTurnCalls
 mod Numbered
 mod PlacedRun
@@ -21,6 +26,7 @@ mod SpeltMisuse
 mod SpeltOutcome
 mod SpeltRun
 mod SpeltSoFar
+mod NoAccess
 mod SpeltSome
 mod SpeltStarts
 mod SpeltTurns

@@ -32,6 +32,7 @@ new_kind workers room (kinds.Once place delta) = refl
 new_kind workers room (kinds.OnceFunc code) = refl
 new_kind workers room (kinds.OnceValue value) = refl
 new_kind workers room kinds.Pool = refl
+new_kind workers room kinds.Var = refl
 
 pub new_machine : Begins → (workers room : ℕ) (kind : ObjectKind) → IsMachineOf workers (new_object workers room kind)
 new_machine begins workers room kinds.Map = tt
@@ -44,3 +45,4 @@ new_machine begins workers room (kinds.Once place delta) = length-replicate work
 new_machine begins workers room (kinds.OnceFunc code) = length-replicate workers false
 new_machine begins workers room (kinds.OnceValue value) = length-replicate workers false
 new_machine begins workers room kinds.Pool = (length-replicate workers (empty room), length-replicate workers (empty room))
+new_machine begins workers room kinds.Var = tt

@@ -45,6 +45,7 @@ module _ {K L : Type 0} (rename : K → L) (most : ℕ) where
   same_pairs (replies.OnceFunc code) = refl
   same_pairs (replies.OnceValue value) = refl
   same_pairs (replies.Pool reply) = refl
+  same_pairs (replies.Var reply) = refl
 
   of_list : (list : List (Reply K)) → list_all (has_pairs_to most) (map (with_keys_renamed rename) list) ≡ list_all (has_pairs_to most) list
   of_list [] = refl

@@ -60,6 +60,7 @@ turn_keeps laws workers (operations.Map call) worker moment (states.Map m) has =
 turn_keeps laws workers operations.Range worker moment (states.Map m) has = same workers (states.Map m)
 turn_keeps laws workers (operations.Atomic call) worker moment (states.Atomic number) has = record { kind = ap (λ kind. kinds.Atomic kind) (after_type call number has); machine = λ h. h }
 turn_keeps laws workers (operations.Composed (IfEqual value passes)) worker moment (states.Atomic number) has = same workers (states.Atomic number)
+turn_keeps laws workers (operations.Var call) worker moment (states.Var held) has = record { kind = refl; machine = λ h. h }
 turn_keeps laws workers (operations.Mutex call) worker moment (states.Mutex m) has = record {
   kind = refl;
   machine = mutex_machine laws workers worker moment (mutex_due call (mutex.place_of m worker)) m;

@@ -297,6 +297,7 @@ turn_uses uses workers (operations.Map call) worker moment (states.Map m) below 
 turn_uses uses workers operations.Range worker moment (states.Map m) below is = omega arith
 turn_uses uses workers (operations.Atomic call) worker moment (states.Atomic number) below is = omega arith
 turn_uses uses workers (operations.Composed (IfEqual value passes)) worker moment (states.Atomic number) below is = omega arith
+turn_uses uses workers (operations.Var call) worker moment (states.Var held) below is = omega arith
 turn_uses uses workers (operations.Mutex call) worker moment (states.Mutex m) below is = mutex_uses uses.mutexes call worker moment m (omega (arith, below, is.1)) is.0
 turn_uses uses workers (operations.RwMutex call) worker moment (states.RwMutex m) below is = rw_uses uses.rw_mutexes call worker moment m (omega (arith, below, is.1)) is.0
 turn_uses uses workers (operations.WaitGroup call) worker moment (states.WaitGroup g first) below is = group_uses uses call worker moment first g (omega (arith, below, is))

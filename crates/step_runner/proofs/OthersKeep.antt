@@ -137,6 +137,7 @@ Same x (states.Once m place delta) (states.Once n other amount) = ((once_standin
 Same x (states.OnceFunc m code) (states.OnceFunc n other) = ((once_standing.runs_at n x ≡ once_standing.runs_at m x) × (once_standing.waits_at n x ≡ once_standing.waits_at m x)) × (other ≡ code)
 Same x (states.OnceValue m value) (states.OnceValue n other) = ((once_standing.runs_at n x ≡ once_standing.runs_at m x) × (once_standing.waits_at n x ≡ once_standing.waits_at m x)) × (other ≡ value)
 Same x (states.Pool m) (states.Pool n) = Unit {0}
+Same x (states.Var m) (states.Var n) = Unit {0}
 Same x o n = ⊥
 
 pub same_self : (x : ℕ) (o : ObjectState) → Same x o o
@@ -150,6 +151,7 @@ same_self x (states.Once m place delta) = ((refl, refl), (refl, refl))
 same_self x (states.OnceFunc m code) = ((refl, refl), refl)
 same_self x (states.OnceValue m value) = ((refl, refl), refl)
 same_self x (states.Pool m) = tt
+same_self x (states.Var m) = tt
 
 -- ---- another's turn
 
@@ -195,6 +197,7 @@ module _ (laws : Laws) (x by moment : ℕ) (apart : x ≢ by) where
   turn_same workers operations.OnceFunc (states.OnceFunc o code) is = (once_same laws.machines.giving code o, refl)
   turn_same workers operations.OnceValue (states.OnceValue o value) is = (once_same laws.machines.giving value o, refl)
   turn_same workers (operations.Pool call) (states.Pool p) is = tt
+  turn_same workers (operations.Var call) (states.Var held) is = tt
   turn_same workers operation o is = same_self x o
 
   sum_same : (o : once.OnceState ℤ) (place : ℕ) (delta : ℤ) (number : Number) → let new = (turn_on_both operations.Once by moment (states.Once o place delta) (states.Atomic number)).0 in Same x (states.Once o place delta) new.0 × Same x (states.Atomic number) new.1
@@ -237,6 +240,8 @@ module _ (plan : Plan) (x before place : ℕ) where
   left_same (states.OnceValue m value) (states.OnceValue n other) operation same = refl
   left_same (states.Pool m) (states.Pool n) (operations.Pool call) same = refl
   left_same (states.Pool m) (states.Pool n) operation same = refl
+  left_same (states.Var m) (states.Var n) (operations.Var call) same = refl
+  left_same (states.Var m) (states.Var n) operation same = refl
   left_same o n operation same = absurd same
 
   pub left_both_same : (other : ℕ) (operation : Operation) (o target n t : ObjectState) → Pair operation o target → Same x o n → Same x target t
@@ -266,6 +271,7 @@ idle_same x (states.Once m at delta) (states.Once n other amount) same idle = (s
 idle_same x (states.OnceFunc m code) (states.OnceFunc n other) same idle = (same.0.1 ∙ idle.0, same.0.0 ∙ idle.1)
 idle_same x (states.OnceValue m value) (states.OnceValue n other) same idle = (same.0.1 ∙ idle.0, same.0.0 ∙ idle.1)
 idle_same x (states.Pool m) (states.Pool n) same idle = tt
+idle_same x (states.Var m) (states.Var n) same idle = tt
 idle_same x o n same idle = absurd same
 
 pub stands_same : (x : ℕ) (o n : ObjectState) (operation : Operation) → Same x o n → StandsOn operation x o → StandsOn operation x n
@@ -290,6 +296,8 @@ stands_same x (states.OnceValue m value) (states.OnceValue n other) operations.O
 stands_same x (states.OnceValue m value) (states.OnceValue n other) operation same stands = (same.0.1 ∙ stands.0, same.0.0 ∙ stands.1)
 stands_same x (states.Pool m) (states.Pool n) (operations.Map call) same stands = tt
 stands_same x (states.Pool m) (states.Pool n) operation same stands = tt
+stands_same x (states.Var m) (states.Var n) (operations.Map call) same stands = tt
+stands_same x (states.Var m) (states.Var n) operation same stands = tt
 stands_same x o n operation same stands = absurd same
 
 pub both_stands_same : (x : ℕ) (operation : Operation) (o target n t : ObjectState) → Pair operation o target → Same x o n → Same x target t → StandsOnBoth operation x o target → StandsOnBoth operation x n t

@@ -98,6 +98,7 @@ turn_other laws workers x by (operations.WaitGroup call) moment (states.WaitGrou
 turn_other laws workers x by operations.OnceFunc moment (states.OnceFunc o code) is apart out = tt
 turn_other laws workers x by operations.OnceValue moment (states.OnceValue o value) is apart out = tt
 turn_other laws workers x by (operations.Pool call) moment (states.Pool p) is apart out = tt
+turn_other laws workers x by (operations.Var call) moment (states.Var held) is apart out = tt
 turn_other laws workers x by operation moment o is apart out = out
 
 -- of two objects, each by itself

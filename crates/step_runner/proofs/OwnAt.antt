@@ -9,12 +9,13 @@ use Rattle.run_record.specs.Parts.{Part}
 use Rattle.run_record.specs.Record.{shared_in}
 use Rattle.run_record.specs.declared.made.Made.{Made}
 use Rattle.workload.specs.declared.object.ObjectKind.{ObjectKind}
-use Rattle.workload.specs.Draft.{all_keys}
+use Rattle.workload.specs.Draft.{all_keys, is_access_operation}
 use Rattle.workload.specs.Plan.{Plan, reference_of}
 use Rattle.step_runner.specs.declared.turns.answer.Answer.{Answer}
 use Rattle.step_runner.specs.declared.turns.answer.Answer.TheVariants as answers
 use Rattle.step_runner.specs.declared.turns.object_state.ObjectState.{ObjectState}
-use Rattle.step_runner.specs.Items.{Item, items_on, items_on_both, items_at}
+use Rattle.step_runner.specs.declared.turns.item.Item.{Item}
+use Rattle.step_runner.specs.Items.{items_on, items_on_both, items_at}
 use Rattle.step_runner.specs.MapKeys.{HasObjectKeysIn}
 use Rattle.step_runner.specs.Objects.{kind_of, EachAt}
 use Rattle.step_runner.specs.Ready.{IsReady}
@@ -95,7 +96,7 @@ module _ (worker : ℕ) (call : Call) (objects : List ObjectState) (other : ℕ)
       (λ k o apart found. each_but (λ place. IsIdle worker) objects call.object old next at elsewhere is k o found) idle
   behind_both (answers.Misused misuse) is = tt
 
-module _ (laws : Laws) (kinds : KindsKept) (plan : Plan) (worker before moment : ℕ) (call : Call) (objects : List ObjectState) (r : IsReady plan.workers worker call objects) where
+module _ (laws : Laws) (kinds : KindsKept) (plan : Plan) (worker before moment : ℕ) (call : Call) (objects : List ObjectState) (r : IsReady plan.workers worker call objects) (plain : is_access_operation call.operation ≡ false) where
   abbrev pub Own : Part (Reply ℕ) → List Made → List ObjectState × Answer → Type 0
   Own old made x = Tells plan old (left_at plan worker (before + length (shared_in made)) call x.0) made x.1 × StandsBehind worker call x.1 x.0
 
@@ -110,7 +111,7 @@ module _ (laws : Laws) (kinds : KindsKept) (plan : Plan) (worker before moment :
         let kind = same_kind objects new call.object object step.0 (ap (λ (x : List ObjectState × Answer). map kind_of x.0) (sym turn) ∙ kinds plan.workers worker moment call objects r) r.there there in
         let none_new = ap reference_of kind ∙ none in
         let stands = subst (λ (T : Type 0). T) (stands_alone call objects object r.there worker none) within.here in
-        let own = turn_own laws plan worker before call.object moment call.operation object r.has none r.below r.machine (keys call.object object r.there) (out_waitless objects call worker call.object object out r.there) stands in
+        let own = turn_own laws plan worker before call.object moment call.operation object r.has none r.below r.machine (keys call.object object r.there) (out_waitless objects call worker call.object object out r.there) stands plain in
         let made = recorded plan before (items_on call.operation worker moment call.object object) in
         let told = subst (λ (P : Part (Reply ℕ)). Tells plan (left_on plan worker before call.object call.operation object) P made step.1) (sym (left_alone call new step.0 there plan worker (before + length (shared_in made)) none_new)) own.0 in
         let elsewhere : (k : ℕ) (o : ObjectState) → k ≢ call.object → slice_get objects k ≡ Some o → IsIdle worker o = λ k o apart at. within.elsewhere k o at apart in

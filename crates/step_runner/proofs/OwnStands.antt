@@ -9,6 +9,7 @@ use Rattle.sync_types.specs.declared.atomic_object.Number.TheVariants.{Int64}
 use Rattle.script_calls.specs.declared.call.ComposedCall.TheVariants.{IfEqual}
 use Rattle.script_calls.specs.declared.call.Operation.{Operation}
 use Rattle.script_calls.specs.declared.call.Operation.TheVariants as operations
+use Rattle.script_calls.specs.declared.call.VarCall.TheVariants as var_calls
 use Rattle.script_calls.specs.declared.call.Reply.{Reply}
 use Rattle.script_calls.specs.declared.call.Reply.TheVariants as replies
 use Rattle.sync_types.specs.declared.lock_call.LockReply.{LockReply}
@@ -324,6 +325,8 @@ turn_own laws workers x (operations.Map call) moment (states.Map m) below is out
 turn_own laws workers x operations.Range moment (states.Map m) below is out = (refl, tt)
 turn_own laws workers x (operations.Atomic call) moment (states.Atomic held) below is out = (laws.forms.atomic call held, tt)
 turn_own laws workers x (operations.Composed (IfEqual value passes)) moment (states.Atomic held) below is out = (refl, tt)
+turn_own laws workers x (operations.Var var_calls.Read) moment (states.Var held) below is out = (refl, tt)
+turn_own laws workers x (operations.Var (var_calls.Write value)) moment (states.Var held) below is out = (refl, tt)
 turn_own laws workers x (operations.Mutex call) moment (states.Mutex m) below is out = mutex_own laws.mutexes call x moment m (omega (arith, below, is.1)) is.0 out
 turn_own laws workers x (operations.RwMutex call) moment (states.RwMutex m) below is out = rw_own laws.rw_mutexes call x moment m (omega (arith, below, is.1)) is.0 out
 turn_own laws workers x (operations.WaitGroup call) moment (states.WaitGroup g first) below is out = group_own call x moment first g

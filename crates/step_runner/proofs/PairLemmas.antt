@@ -93,6 +93,7 @@ turn_on_keeps names most operations.OnceFunc worker moment (states.OnceFunc o co
     (tt, once_few most worker moment code o (replies.OnceFunc (failure code)) (λ kept. replies.OnceFunc (failure kept)) refl (λ kept. refl))
 turn_on_keeps names most operations.OnceValue worker moment (states.OnceValue o value) named room has = (tt, once_few most worker moment value o (replies.OnceValue value) replies.OnceValue refl (λ kept. refl))
 turn_on_keeps names most (operations.Pool call) worker moment (states.Pool p) named room has = (tt, pool_few most worker moment call p)
+turn_on_keeps names most (operations.Var call) worker moment (states.Var held) named room has = (tt, refl)
 turn_on_keeps names most operation worker moment o named room has = (has, tt)
 
 -- ---- at an object and the one to which it refers

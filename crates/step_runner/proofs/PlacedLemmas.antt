@@ -11,7 +11,8 @@ use Rattle.workload.specs.declared.object.ObjectKind.TheVariants as kinds
 use Rattle.workload.specs.Plan.{has_call, reference_of}
 use Rattle.step_runner.specs.declared.turns.object_state.ObjectState.{ObjectState}
 use Rattle.step_runner.specs.declared.turns.object_state.ObjectState.TheVariants as states
-use Rattle.step_runner.specs.Items.{Item, items_on, items_at}
+use Rattle.step_runner.specs.declared.turns.item.Item.{Item}
+use Rattle.step_runner.specs.Items.{items_on, items_at}
 use Rattle.step_runner.specs.Objects.{kind_of}
 use Rattle.step_runner.specs.PlacedCalls.{is_placed, IsAnswered, IsTested}
 use Rattle.step_runner.specs.Ready.{IsReady}
@@ -24,6 +25,7 @@ on_answered : (operation : Operation) (worker moment object : ℕ) (o : ObjectSt
 on_answered (operations.Map call) worker moment object (states.Map m) one has = (_, refl, refl)
 on_answered operations.Range worker moment object (states.Map m) one has = (_, refl, refl)
 on_answered (operations.Atomic call) worker moment object (states.Atomic number) one has = (_, refl, refl)
+on_answered (operations.Var call) worker moment object (states.Var held) one has = (_, refl, refl)
 on_answered operation worker moment object o one has = absurd cc
 
 -- an object that refers to another one has no such call

@@ -19,7 +19,8 @@ use Rattle.step_runner.specs.declared.turns.answer.Answer.{Answer}
 use Rattle.step_runner.specs.declared.turns.answer.Answer.TheVariants.{Completed}
 use Rattle.step_runner.specs.declared.turns.object_state.ObjectState.{ObjectState}
 use Rattle.step_runner.specs.declared.turns.object_state.ObjectState.TheVariants as states
-use Rattle.step_runner.specs.Items.{Item, items_by, items_at}
+use Rattle.step_runner.specs.declared.turns.item.Item.{Item}
+use Rattle.step_runner.specs.Items.{items_by, items_at}
 use Rattle.step_runner.specs.Objects.{kind_of}
 use Rattle.step_runner.specs.PlacedCalls as turns
 use Rattle.step_runner.specs.Ready.{IsReady}

@@ -48,6 +48,7 @@ turn_on_stays law (operations.WaitGroup call) worker moment (states.WaitGroup g 
 turn_on_stays law operations.OnceFunc worker moment (states.OnceFunc o code) has is = tt
 turn_on_stays law operations.OnceValue worker moment (states.OnceValue o value) has is = tt
 turn_on_stays law (operations.Pool call) worker moment (states.Pool p) has is = tt
+turn_on_stays law (operations.Var call) worker moment (states.Var held) has is = tt
 turn_on_stays law operation worker moment o has is = is
 
 -- ---- the sum of a once

@@ -204,6 +204,7 @@ turn_on_fits one left (operations.RwMutex call) worker moment (states.RwMutex m)
 turn_on_fits one left (operations.WaitGroup call) worker moment (states.WaitGroup g first) is some fit = tt
 turn_on_fits one left operations.OnceFunc worker moment (states.OnceFunc o code) is some fit = tt
 turn_on_fits one left operations.OnceValue worker moment (states.OnceValue o value) is some fit = tt
+turn_on_fits one left (operations.Var call) worker moment (states.Var held) is some fit = tt
 turn_on_fits one left operation worker moment o is some fit = fit
 
 -- ---- an object and the one to which it refers

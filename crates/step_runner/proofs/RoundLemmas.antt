@@ -95,10 +95,10 @@ no_turns plan s none (worker ∷ workers) = ap (λ x. and_then x (items_of plan 
 
 -- ---- rounds
 
-round_uses : (plan : Plan) → GoesOn plan → UsesUp plan → (s : State) → IsStateOf plan s → ItemsUse plan s (items_of plan (round plan.workers) s)
+pub round_uses : (plan : Plan) → GoesOn plan → UsesUp plan → (s : State) → IsStateOf plan s → ItemsUse plan s (items_of plan (round plan.workers) s)
 round_uses plan goes_on uses s of = workers_use plan goes_on uses (range_with_len 0 plan.workers) s of
 
-round_valid : (plan : Plan) → GoesOn plan → (s : State) → IsStateOf plan s → IsStateOf plan (items_of plan (round plan.workers) s).0
+pub round_valid : (plan : Plan) → GoesOn plan → (s : State) → IsStateOf plan s → IsStateOf plan (items_of plan (round plan.workers) s).0
 round_valid plan goes_on s of = items_valid plan goes_on (round plan.workers) s of
 
 -- the same rest for each state with less to do

@@ -14,7 +14,7 @@ use Rattle.step_runner.specs.declared.turns.answer.Answer.{Answer}
 use Rattle.step_runner.specs.declared.turns.answer.Answer.TheVariants as answers
 use Rattle.step_runner.specs.declared.turns.object_state.ObjectState.{ObjectState}
 use Rattle.step_runner.specs.LeadsTo.{on_object, LeadsTo}
-use Rattle.step_runner.specs.Items.{Item}
+use Rattle.step_runner.specs.declared.turns.item.Item.{Item}
 use Rattle.step_runner.specs.Objects.{new_object, kind_of}
 use Rattle.step_runner.specs.StandsWithin.{IsReadyWithin}
 use Rattle.step_runner.specs.TurnWithin.{turn_within, items_within}

@@ -1,5 +1,5 @@
 -- The lists of a run fall into lines of its outcome.
-use Rattle.std.proofs.Common.{◌≡◌, ℕ, ◌+◌, ◌≤◌, Bool, List, [], ◌∷◌, ◌++◌, map, length, get_or, refl, sym, ap, ◌∙◌, subst, arith, Option, Some}
+use Rattle.std.proofs.Common.{◌≡◌, ℕ, ◌+◌, ◌≤◌, Bool, List, [], ◌∷◌, ◌++◌, map, length, get_or, refl, sym, ap, ◌∙◌, subst, arith, Option, Some, false}
 use Rattle.std.specs.Prelude.{slice_get}
 use Rattle.std.specs.List.{range_with_len}
 use Rattle.std.proofs.lemmas.List.{length-map}
@@ -10,13 +10,14 @@ use Rattle.script_calls.specs.declared.outcome.Outcome.TheVariants as outcomes
 use Rattle.script_calls.specs.declared.outcome.Report.{Report}
 use Rattle.script_calls.specs.Outcome.{left_by}
 use Rattle.script_calls.specs.Runs.{RunsAlong}
+use Rattle.workload.specs.Dialect.{has_variables}
 use Rattle.workload.specs.declared.turn.Turn.{Turn}
 use Rattle.workload.specs.Draft.{all_keys, distinct_count}
 use Rattle.workload.specs.Plan.{Plan}
 use Rattle.run_record.specs.Explains.{AreLines}
 use Rattle.run_record.specs.Lines.{Line, LineEnd, calls_made, items_of, replies_of, IsLineOf}
 use Rattle.run_record.specs.Record.{Record}
-use Rattle.step_runner.specs.Items.{Item}
+use Rattle.step_runner.specs.declared.turns.item.Item.{Item}
 use Rattle.step_runner.specs.Recorded.{recorded_reply}
 use Rattle.step_runner.specs.declared.step.Step.{Step}
 use Rattle.step_runner.specs.Ends.{numbered}
@@ -49,16 +50,16 @@ run_kept laws plan goes =
     let standing = standing_kept laws.stands plan goes in
     let keys = keys_kept laws.keys plan (distinct_count (all_keys plan.scripts)) (few (distinct_count (all_keys plan.scripts))) in
     record {
-      turn = λ worker s run. record { standing = standing.turn worker s run.standing; keys = keys.turn worker s run.keys };
-      moment = λ moment s run. record { standing = standing.moment moment s run.standing; keys = keys.moment moment s run.keys };
+      turn = λ worker s run. record { standing = standing.turn worker s run.standing; keys = keys.turn worker s run.keys; plain = run.plain };
+      moment = λ moment s run. record { standing = standing.moment moment s run.standing; keys = keys.moment moment s run.keys; plain = run.plain };
     }
 
 -- at every moment
-pub run_falls : SpeltLaws → (plan : Plan) (over : Bool) → GoesOn plan → IsStateOf plan (start plan) → (list : List Turn) (worker : ℕ)
+pub run_falls : SpeltLaws → (plan : Plan) (over : Bool) → has_variables plan ≡ false → GoesOn plan → IsStateOf plan (start plan) → (list : List Turn) (worker : ℕ)
     → Falls plan over worker (all_made plan list (start plan)) (λ number. made_for plan worker number list (start plan)) (get_or (after_items plan list (start plan)).replies worker [])
     (next_call plan worker (after_items plan list (start plan))) (misuse_of plan worker list (start plan))
-run_falls laws plan over goes of list worker =
-    let run : Run plan (start plan) = record { standing = start_stands laws.stands plan of; keys = start_keys laws.keys plan (distinct_count (all_keys plan.scripts)) } in
+run_falls laws plan over plain goes of list worker =
+    let run : Run plan (start plan) = record { standing = start_stands laws.stands plan of; keys = start_keys laws.keys plan (distinct_count (all_keys plan.scripts)); plain = plain } in
     items_fall laws.spells laws.stands laws.uses plan over goes (run_kept laws plan goes) list nothing (start plan) run (begun laws.spells laws.stands plan of) worker
 
 -- ---- all workers
@@ -118,12 +119,12 @@ Lined plan outcome count = (r : Record)
     → r.lists ≡ lists_of plan (all_made plan (plan.schedule ++ rounds count plan.workers) (start plan)) (outcome_endings plan outcome (plan.schedule ++ rounds count plan.workers))
     → (lines : List Line) × AreLines plan r outcome lines × EndAs (outcome_endings plan outcome (plan.schedule ++ rounds count plan.workers)) lines
 
-module _ (laws : SpeltLaws) (plan : Plan) (goes : GoesOn plan) (of : IsStateOf plan (start plan)) (kept : (list : List Turn) → IsStateOf plan (after_items plan list (start plan))) where
+module _ (laws : SpeltLaws) (plan : Plan) (plain : has_variables plan ≡ false) (goes : GoesOn plan) (of : IsStateOf plan (start plan)) (kept : (list : List Turn) → IsStateOf plan (after_items plan list (start plan))) where
   lined : (outcome : Outcome) (count : ℕ) (s : State) (step : Step) → after_all plan (plan.schedule ++ rounds count plan.workers) (start plan) ≡ (s, step) → (left_by outcome).replies ≡ numbered plan s.replies → Lined plan outcome count
   lined outcome count s step is replies r lists =
       let turns = plan.schedule ++ rounds count plan.workers in
       are_lines plan (all_made plan turns (start plan)) (after_items plan turns (start plan)) (kept turns) (λ worker number. made_for plan worker number turns (start plan)) (λ worker. misuse_of plan worker turns (start plan)) outcome
-      (run_falls laws plan (is_over outcome) goes of turns) (replies ∙ ap (λ (x : State × Step). numbered plan x.0.replies) (sym is)) r lists
+      (run_falls laws plan (is_over outcome) plain goes of turns) (replies ∙ ap (λ (x : State × Step). numbered plan x.0.replies) (sym is)) r lists
 
   pub outcome_lined : (outcome : Outcome) → StepsTo plan outcome → (count : ℕ) × Lined plan outcome count
   outcome_lined (outcomes.Done report) done = (done.reached.count, lined (outcomes.Done report) done.reached.count done.state done.reached.step done.reached.is (ap (λ (r : Report). r.replies) done.leaves))

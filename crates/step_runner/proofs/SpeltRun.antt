@@ -12,6 +12,7 @@ use Rattle.script_calls.specs.declared.call.Call.{Call}
 use Rattle.script_calls.specs.declared.call.Reply.{Reply}
 use Rattle.sync_types.specs.declared.misuse.Misuse.{Misuse}
 use Rattle.protocols.specs.Spelling.{CallAnswer}
+use Rattle.workload.specs.Dialect.{has_variables}
 use Rattle.workload.specs.declared.turn.Turn.{Turn}
 use Rattle.workload.specs.declared.turn.Turn.TheVariants as items
 use Rattle.workload.specs.Draft.{all_keys, distinct_count}
@@ -24,7 +25,7 @@ use Rattle.run_record.specs.declared.made.Made.{Made}
 use Rattle.step_runner.specs.declared.turns.answer.Answer.{Answer}
 use Rattle.step_runner.specs.declared.turns.answer.Answer.TheVariants as answers
 use Rattle.step_runner.specs.declared.turns.object_state.ObjectState.{ObjectState}
-use Rattle.step_runner.specs.Items.{Item}
+use Rattle.step_runner.specs.declared.turns.item.Item.{Item}
 use Rattle.step_runner.specs.Objects.{EachAt}
 use Rattle.step_runner.specs.Stands.{IsOutAt, IsOutBut}
 use Rattle.step_runner.specs.StandsWithin.{waits_within, IsWithinCall, StandsAfter, left_within}
@@ -47,6 +48,7 @@ use Rattle.step_runner.proofs.NextCalls.{IsOfScript, IsClosing, left_with, next_
 use Rattle.step_runner.proofs.RunKeys.{HasKeys}
 use Rattle.step_runner.proofs.RunLemmas.{GoesOn, Kept}
 use Rattle.step_runner.proofs.SpeltLines.{count-append, recorded-append, flat-push, spelt-push, map-push}
+use Rattle.step_runner.proofs.NoAccess.{no_access}
 use Rattle.step_runner.proofs.SpeltSoFar.{Spells, Trace, calls_in, Fallen, Rests, StandsAs, SoFar, FallsAs, stayed_line, misused_line, rest_left, count_spelt, ends_line}
 use Rattle.step_runner.proofs.SpeltSome.{some_spell}
 use Rattle.step_runner.proofs.SpeltStarts.{awake_done, done_spelt, closes_misused}
@@ -99,6 +101,7 @@ none_behind (x ∷ earlier) later none = absurd cc
 pub record Run (plan : Plan) (s : State) : Type 0 where
   pub standing : Standing plan s
   pub keys : HasKeys (all_keys plan.scripts) (distinct_count (all_keys plan.scripts)) s
+  pub plain : has_variables plan ≡ false
 
 -- behind a turn: so far, or as a line, where the turn was a misuse
 abbrev Behind : Plan → Bool → ℕ → ℕ → Trace → State × Step → Type 0
@@ -246,7 +249,7 @@ module _ (laws : Spells) (stand_laws : TurnStands) (uses : TurnsUse) (plan : Pla
             → FallsAs plan over worker (more plan made by s) (get_or s.replies worker []) (next_call plan worker s) (if by == worker then Some misuse else None)
         misused_by call objects waits misuse takes =
             subst (λ (b : Bool). FallsAs plan over worker (more plan made by s) (get_or s.replies worker []) (next_call plan worker s) (if b then Some misuse else None)) (sym (not_by (by == worker) refl))
-            (ends_line laws plan over worker (more plan made by s) (moved by objects waits s) (state_of call objects waits (answers.Misused misuse) takes) (other_moved call objects waits (answers.Misused misuse) takes))
+            (ends_line laws plan run.plain over worker (more plan made by s) (moved by objects waits s) (state_of call objects waits (answers.Misused misuse) takes) (other_moved call objects waits (answers.Misused misuse) takes))
 
   -- ---- the worker itself
 
@@ -312,7 +315,7 @@ module _ (laws : Spells) (stand_laws : TurnStands) (uses : TurnsUse) (plan : Pla
 
       told : (objects : List ObjectState) (waits : ℕ) (answer : Answer) → Takes plan by s call objects waits answer → Told ((objects, waits), answer)
       told objects waits answer takes =
-          takes_by Told plan by s call objects waits answer of takes (λ r. laws.own plan by so_many s.moment (begun_by by s) call s.objects r run.keys.maps (own_out stand_laws plan by s run.standing call some) own_stands.0)
+          takes_by Told plan by s call objects waits answer of takes (λ r. laws.own plan by so_many s.moment (begun_by by s) call s.objects r (no_access plan.workers by call.operation call.object s.objects plan run.plain of.objects r) run.keys.maps (own_out stand_laws plan by s run.standing call some) own_stands.0)
 
       own_live : (t : State) → stand_of by t ≡ Live → stand_of by t ≡ Waits → by_worker by (more plan made by s).all ≡ []
       own_live t is waits = absurd (live_waits (sym is ∙ waits))
@@ -513,7 +516,7 @@ module _ (laws : Spells) (stand_laws : TurnStands) (uses : TurnsUse) (plan : Pla
   nothing_behind made s = λ i. record { all = sym (append-nil made.all) i; parts = λ worker number. sym (append-nil (made.parts worker number)) i }
 
   pub items_fall : (list : List Turn) (made : Trace) (s : State) → Run plan s → ((worker : ℕ) → SoFar plan worker made s) → (worker : ℕ) → After worker (joined made list s) (after_items plan list s) (misuse_of plan worker list s)
-  items_fall [] made s run all worker = subst (λ (m : Trace). After worker m s None) (nothing_behind made s) (ends_line laws plan over worker made s run.standing.of (all worker))
+  items_fall [] made s run all worker = subst (λ (m : Trace). After worker m s None) (nothing_behind made s) (ends_line laws plan run.plain over worker made s run.standing.of (all worker))
   items_fall (items.Worker by ∷ rest) made s run all worker =
       later_fall rest made by s (turn_of plan by s) (kept.turn by s run) (turn_behind laws stand_laws uses plan over goes by s run made all) (items_fall rest) worker
   items_fall (items.Moment moment ∷ rest) made s run all worker =

@@ -9,9 +9,10 @@ use Rattle.script_calls.specs.declared.call.Call.{Call}
 use Rattle.script_calls.specs.declared.call.Reply.{Reply}
 use Rattle.sync_types.specs.declared.misuse.Misuse.{Misuse}
 use Rattle.protocols.specs.Spelling.{CallAnswer}
+use Rattle.workload.specs.Dialect.{has_variables}
 use Rattle.workload.specs.declared.object.ObjectKind.{ObjectKind}
 use Rattle.workload.specs.declared.object.ObjectLine.{ObjectLine}
-use Rattle.workload.specs.Draft.{all_keys}
+use Rattle.workload.specs.Draft.{all_keys, is_access_operation}
 use Rattle.workload.specs.Keys.{keys_in, key_number}
 use Rattle.workload.specs.Plan.{Plan, is_dormant}
 use Rattle.run_record.specs.Calls.{SpellsCall}
@@ -20,7 +21,7 @@ use Rattle.run_record.specs.Record.{shared_in}
 use Rattle.run_record.specs.StartsKind.{done_part}
 use Rattle.run_record.specs.declared.made.Made.{Made}
 use Rattle.step_runner.specs.declared.turns.object_state.ObjectState.{ObjectState}
-use Rattle.step_runner.specs.Items.{Item}
+use Rattle.step_runner.specs.declared.turns.item.Item.{Item}
 use Rattle.step_runner.specs.MapKeys.{HasObjectKeysIn}
 use Rattle.step_runner.specs.Objects.{new_object, kind_of, EachAt}
 use Rattle.step_runner.specs.Stands.{IsOutBut}
@@ -37,6 +38,7 @@ use Rattle.step_runner.specs.Turns.{script_left, closing_calls, begun_by, next_c
 use Rattle.step_runner.proofs.NextCalls.{IsOfScript, IsClosing, live_left, next_is, none_next}
 use Rattle.step_runner.proofs.Numbered.{NamesAside}
 use Rattle.step_runner.proofs.ScriptRuns.{none_first, none_left}
+use Rattle.step_runner.proofs.NoAccess.{no_access}
 use Rattle.step_runner.proofs.SpeltSome.{some_left}
 use Rattle.step_runner.proofs.SpeltStarts.{stays, opens, none_done, done_spelt, closes, closes_later}
 use Rattle.step_runner.proofs.SpeltTurns.{items_in, count_in, made_in, ByTurns}
@@ -52,7 +54,7 @@ pub record RunsTold : Type 0 where
 
 -- what the laws of turns say
 pub record Spells : Type 0 where
-  pub own : (plan : Plan) (worker before moment begun : ℕ) (call : Call) (objects : List ObjectState) → IsReadyWithin plan.workers worker call objects
+  pub own : (plan : Plan) (worker before moment begun : ℕ) (call : Call) (objects : List ObjectState) → IsReadyWithin plan.workers worker call objects → is_access_operation call.operation ≡ false
       → EachAt (λ place. HasObjectKeysIn (all_keys plan.scripts)) objects → IsOutBut (waits_within (map kind_of objects) call begun) worker objects → IsWithinCall worker call begun objects
       → Tells plan (left_within plan worker before call objects begun)
       (left_within plan worker (before + length (shared_in (recorded plan before (items_within call worker moment begun objects)))) call (turn_within call worker moment begun objects).0.0 (turn_within call worker moment begun objects).0.1)
@@ -67,7 +69,7 @@ pub record Spells : Type 0 where
   pub enters : (plan : Plan) (worker before : ℕ) (call : Call) (objects : List ObjectState) → IsReadyWithin plan.workers worker call objects → map kind_of objects ≡ map (λ (line : ObjectLine). line.kind) plan.objects
       → EachAt (λ place. IsIdle worker) objects → IsOutBut None worker objects
       → IsWithinCall worker call 0 objects × ((items : List Made) (answer : CallAnswer (Reply ℕ)) → left_within plan worker before call objects 0 items answer → SpellsCall plan worker before call items answer)
-  pub goes_on : (plan : Plan) (worker before begun : ℕ) (call : Call) (objects : List ObjectState) → IsReadyWithin plan.workers worker call objects
+  pub goes_on : (plan : Plan) (worker before begun : ℕ) (call : Call) (objects : List ObjectState) → IsReadyWithin plan.workers worker call objects → is_access_operation call.operation ≡ false
       → (later : List Made) × (answer : CallAnswer (Reply ℕ)) × left_within plan worker before call objects begun later answer
   pub by_itself : (worker moment begun : ℕ) (call : Call) (objects : List ObjectState) → filter (λ item. item.caller == worker) (items_within call worker moment begun objects) ≡ items_within call worker moment begun objects
   pub runs : RunsTold
@@ -208,7 +210,7 @@ rest_left laws plan worker made given f =
 pub count_spelt : (plan : Plan) (worker : ℕ) (made : Trace) (given : List (Reply (List ℕ))) (f : Fallen plan worker made given) → length given ≡ length f.spelt
 count_spelt plan worker made given f = sym (length-map given (recorded_reply plan)) ∙ ap (length {A = Reply ℕ}) (sym f.replies) ∙ length-map f.spelt (λ (x : SpeltCall). x.reply)
 
-module _ (laws : Spells) (plan : Plan) (over : Bool) (worker : ℕ) (made : Trace) (s : State) (of : IsStateOf plan s) (h : SoFar plan worker made s) where
+module _ (laws : Spells) (plan : Plan) (plain : has_variables plan ≡ false) (over : Bool) (worker : ℕ) (made : Trace) (s : State) (of : IsStateOf plan s) (h : SoFar plan worker made s) where
   abbrev given : List (Reply (List ℕ))
   given = get_or s.replies worker []
 
@@ -256,7 +258,7 @@ module _ (laws : Spells) (plan : Plan) (over : Bool) (worker : ℕ) (made : Trac
       (subst (EndsBy plan worker before unfinished f.rest) (sym (append-nil f.last)) (subst (λ (rest : List Call). EndsBy plan worker before unfinished rest f.last) (sym (rest_left laws plan worker made given f)) (by_sort (next_is plan worker s call some)))) refl
     where
       can : (later : List Made) × (answer : CallAnswer (Reply ℕ)) × left_within plan worker (before + count_in f.last) call s.objects (begun_by worker s) later answer
-      can = laws.goes_on plan worker (before + count_in f.last) (begun_by worker s) call s.objects (ready plan worker s call of some)
+      can = laws.goes_on plan worker (before + count_in f.last) (begun_by worker s) call s.objects (ready plan worker s call of some) (no_access plan.workers worker call.operation call.object s.objects plan plain of.objects (ready plan worker s call of some))
 
       spells : SpellsCall plan worker before call (f.last ++ can.0) can.1
       spells = (stands_by (Some call) some).1 can.0 can.1 can.2

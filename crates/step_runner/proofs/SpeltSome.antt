@@ -167,6 +167,7 @@ module _ (plan : Plan) (worker before place : ℕ) (below : worker < plan.worker
   on_kind (kinds.OnceFunc code) operation = on_func code operation
   on_kind (kinds.OnceValue value) operation = on_value value operation
   on_kind kinds.Pool operation = on_pool operation
+  on_kind kinds.Var operation = λ items answer never. absurd never
 
   at_line : (o : Option ObjectLine) (operation : Operation) → Makes (call_at plan worker before place o operation)
   at_line None operation = λ items answer never. absurd never

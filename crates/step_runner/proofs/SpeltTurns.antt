@@ -8,7 +8,7 @@ use Rattle.workload.specs.Plan.{Plan}
 use Rattle.run_record.specs.Lines.{SpeltCall}
 use Rattle.run_record.specs.Record.{shared_in}
 use Rattle.run_record.specs.declared.made.Made.{Made}
-use Rattle.step_runner.specs.Items.{Item}
+use Rattle.step_runner.specs.declared.turns.item.Item.{Item}
 use Rattle.step_runner.specs.Recorded.{recorded}
 use Rattle.step_runner.specs.CallTurns.{stands_before}
 use Rattle.step_runner.specs.RunItems.{made_by}

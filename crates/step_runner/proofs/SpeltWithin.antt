@@ -1,5 +1,5 @@
 -- What the items of a turn spell of its call, whether the call is a `waitfor`, a `go` or one that makes one turn at its objects.
-use Rattle.std.proofs.Common.{◌≡◌, ◌≢◌, ℕ, zero, suc, ◌+◌, ◌-◌, Bool, List, [], ◌++◌, map, length, filter, Option, None, refl, sym, ap, ◌∙◌, subst}
+use Rattle.std.proofs.Common.{◌≡◌, ◌≢◌, ℕ, zero, suc, ◌+◌, ◌-◌, Bool, List, [], ◌++◌, map, length, filter, Option, None, refl, sym, ap, ◌∙◌, subst, false}
 use Rattle.std.specs.Prelude.{◌==◌, pos}
 use Rattle.std.proofs.lemmas.List.Elements.{filter-append}
 use Rattle.script_calls.specs.declared.call.Call.{Call}
@@ -17,13 +17,14 @@ use Rattle.run_record.specs.Tests.{compared, waits_for}
 use Rattle.run_record.specs.declared.made.Made.{Made}
 use Rattle.workload.specs.declared.object.ObjectKind.{ObjectKind}
 use Rattle.workload.specs.declared.object.ObjectLine.{ObjectLine}
-use Rattle.workload.specs.Draft.{all_keys}
+use Rattle.workload.specs.Draft.{all_keys, is_access_operation}
 use Rattle.workload.specs.Plan.{Plan}
 use Rattle.step_runner.specs.declared.turns.answer.Answer.{Answer}
 use Rattle.step_runner.specs.declared.turns.answer.Answer.TheVariants as answers
 use Rattle.step_runner.specs.declared.turns.object_state.ObjectState.{ObjectState}
 use Rattle.step_runner.specs.declared.turns.object_state.ObjectState.TheVariants as states
-use Rattle.step_runner.specs.Items.{Item, items_at}
+use Rattle.step_runner.specs.declared.turns.item.Item.{Item}
+use Rattle.step_runner.specs.Items.{items_at}
 use Rattle.step_runner.specs.Left.{left_at}
 use Rattle.step_runner.specs.MapKeys.{HasObjectKeysIn}
 use Rattle.step_runner.specs.Objects.{kind_of, EachAt}
@@ -71,14 +72,14 @@ module _ (laws : TurnLaws) (plan : Plan) (worker before moment begun place : ℕ
       Tells plan (left_within plan worker before call objects begun) (left_within plan worker (before + length (shared_in made)) call taken.0.0 taken.0.1) made taken.1 × StandsAfter worker call taken.1 taken.0.1 taken.0.0
 
   pub own_spelt : (operation : Operation) → let call = call_of place operation in
-      IsReadyWithin plan.workers worker call objects → EachAt (λ k. HasObjectKeysIn (all_keys plan.scripts)) objects → IsOutBut (waits_within (map kind_of objects) call begun) worker objects → IsWithinCall worker call begun objects → OwnSpelt call
-  own_spelt (operations.Composed (WaitFor atomic value tries)) ready keys out within =
+      IsReadyWithin plan.workers worker call objects → is_access_operation operation ≡ false → EachAt (λ k. HasObjectKeysIn (all_keys plan.scripts)) objects → IsOutBut (waits_within (map kind_of objects) call begun) worker objects → IsWithinCall worker call begun objects → OwnSpelt call
+  own_spelt (operations.Composed (WaitFor atomic value tries)) ready plain keys out within =
       own_within laws plan worker moment place atomic tries value before (before + length (shared_in (recorded plan before (wait_for_items worker moment place atomic value tries begun objects)))) begun objects ready keys out within
-  own_spelt (operations.Composed (Go started)) ready keys out within =
+  own_spelt (operations.Composed (Go started)) ready plain keys out within =
       own_go plan worker place started laws before (before + length (shared_in (recorded plan before (items_within (call_of place (operations.Composed (Go started))) worker moment begun objects)))) moment begun objects ready keys out within
-  own_spelt operation ready keys out within =
+  own_spelt operation ready plain keys out within =
       let call = call_of place operation in
-      let told = laws.own plan worker before moment call objects ready keys out within in
+      let told = laws.own plan worker before moment call objects ready plain keys out within in
       (told.0, stands_after worker place begun operation (turn_at call worker moment objects).1 (turn_at call worker moment objects).0 tt told.1)
 
 -- ---- another's turns
@@ -200,26 +201,26 @@ enters_whole law plan worker before place (operations.Composed (Go started)) obj
 enters_whole law plan worker before place operation objects ready same idle out = law plan worker before (call_of place operation) objects ready same idle out
 
 abbrev pub GoesOnAt : Type 0
-GoesOnAt = (plan : Plan) (worker before : ℕ) (call : Call) (objects : List ObjectState) → IsReady plan.workers worker call objects → CanBe (left_at plan worker before call objects)
+GoesOnAt = (plan : Plan) (worker before : ℕ) (call : Call) (objects : List ObjectState) → IsReady plan.workers worker call objects → is_access_operation call.operation ≡ false → CanBe (left_at plan worker before call objects)
 
 pub goes_on : GoesOnAt → (plan : Plan) (worker before place : ℕ) (operation : Operation) (begun : ℕ) (objects : List ObjectState) → let call = call_of place operation in
-    IsReadyWithin plan.workers worker call objects → CanBe (left_within plan worker before call objects begun)
-goes_on law plan worker before place (operations.Composed (WaitFor atomic value tries)) zero objects ready =
+    IsReadyWithin plan.workers worker call objects → is_access_operation operation ≡ false → CanBe (left_within plan worker before call objects begun)
+goes_on law plan worker before place (operations.Composed (WaitFor atomic value tries)) zero objects ready plain =
     let w = wait_there plan.workers worker place objects ready.0 in
     let a = atomic_number plan.objects atomic in
     subst (λ (P : Part (Reply ℕ)). CanBe P) (sym (left_unbegun plan plan.workers worker before place w.0 objects w.1 atomic tries value))
     (read_can compared (waits_for (object_number place) (object_number w.0) a value tries) (waits_can plan (object_number place) (object_number w.0) a value tries))
-goes_on law plan worker before place (operations.Composed (WaitFor atomic value tries)) (suc begun) objects ready =
+goes_on law plan worker before place (operations.Composed (WaitFor atomic value tries)) (suc begun) objects ready plain =
     let w = wait_there plan.workers worker place objects ready.0 in
     let a = atomic_number plan.objects atomic in
     let rest = waits_for (object_number place) (object_number w.0) a value (tries - suc begun) in
     let first = left_at plan worker before (wait_on place) objects in
     subst (λ (P : Part (Reply ℕ)). CanBe P) (sym (left_begun plan plan.workers worker before place w.0 objects w.1 atomic tries value begun))
-    (read_can compared (and_then first (λ waited. rest)) (waited_can first rest (law plan worker before (wait_on place) objects ready.0) (waits_can plan (object_number place) (object_number w.0) a value (tries - suc begun))))
-goes_on law plan worker before place (operations.Composed (Go started)) begun objects ready =
+    (read_can compared (and_then first (λ waited. rest)) (waited_can first rest (law plan worker before (wait_on place) objects ready.0 refl) (waits_can plan (object_number place) (object_number w.0) a value (tries - suc begun))))
+goes_on law plan worker before place (operations.Composed (Go started)) begun objects ready plain =
     let w = group_there plan.workers worker place (group_calls.Add (pos 1)) objects ready in
     subst (λ (P : Part (Reply ℕ)). CanBe P) (sym (left_go plan worker place started before objects w begun)) (go_can (object_number place) (starts_number plan) started)
-goes_on law plan worker before place operation begun objects ready = law plan worker before (call_of place operation) objects ready
+goes_on law plan worker before place operation begun objects ready plain = law plan worker before (call_of place operation) objects ready plain
 
 -- ---- whose items they are
 

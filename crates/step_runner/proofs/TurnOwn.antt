@@ -42,7 +42,7 @@ use Rattle.run_record.specs.declared.entered.ObjectEvent.TheVariants as events
 use Rattle.run_record.specs.declared.entered.ObjectReply.{ObjectReply}
 use Rattle.run_record.specs.declared.entered.ObjectReply.TheVariants as answered
 use Rattle.run_record.specs.declared.made.Made.{Made}
-use Rattle.workload.specs.Draft.{all_keys}
+use Rattle.workload.specs.Draft.{all_keys, is_access_operation}
 use Rattle.workload.specs.Keys.{keys_in, key_number}
 use Rattle.workload.specs.Plan.{Plan, has_call, is_target, reference_of}
 use Rattle.step_runner.specs.declared.turns.answer.Answer.{Answer}
@@ -204,45 +204,46 @@ module _ (laws : Laws) (plan : Plan) (worker before place moment : ℕ) where
       )
 
   pub turn_own : (operation : Operation) (o : ObjectState) → has_call (kind_of o) operation ≡ true → reference_of (kind_of o) ≡ None → worker < plan.workers → IsMachineOf plan.workers o → HasObjectKeysIn (all_keys plan.scripts) o
-      → (may_wait operation ≡ false → IsOutAt worker o) → StandsOn operation worker o → OwnTurn operation o
-  turn_own (operations.Map call) (states.Map m) has alone below is keys out stands =
+      → (may_wait operation ≡ false → IsOutAt worker o) → StandsOn operation worker o → is_access_operation operation ≡ false → OwnTurn operation o
+  turn_own (operations.Map call) (states.Map m) has alone below is keys out stands plain =
       ((map_reply call m, places plan (shared_calls plan before place (operations.Map call) (replies.Map (map_reply call m))), refl), tt)
-  turn_own operations.Range (states.Map m) has alone below is keys out stands =
+  turn_own operations.Range (states.Map m) has alone below is keys out stands plain =
       let pairs = map {B = ℕ × ℕ} (λ (pair : List ℕ × ℕ). (key_number (keys_in plan.scripts) pair.0, pair.1)) (entries m) in
       let cursor = cursor_showing (keys_in plan.scripts) (map_number plan.objects place) before pairs in (
         subst (λ (l : List Made). range_call (keys_in plan.scripts) (map_number plan.objects place) before l (Done (Ok (replies.Pairs pairs)))) (sym (append-nil (map (made_shared plan) cursor)))
             (pairs, pairs, places plan cursor, range_sorted laws.keys plan m keys, refl),
         tt,
       )
-  turn_own (operations.Atomic call) (states.Atomic number) has alone below is keys out stands =
+  turn_own (operations.Atomic call) (states.Atomic number) has alone below is keys out stands plain =
       ((atomic_reply call number, places plan (shared_calls plan before place (operations.Atomic call) (replies.Atomic (atomic_reply call number))), refl), tt)
-  turn_own (operations.Composed (IfEqual value passes)) (states.Atomic number) has alone below is keys out stands =
+  turn_own (operations.Composed (IfEqual value passes)) (states.Atomic number) has alone below is keys out stands plain =
       ((Done (Ok (is_same number value)), (Done (Ok (replies.Atomic (Held number))), (Held number, places plan (shared_calls plan before place (operations.Atomic Load) (replies.Atomic (Held number))), refl), refl), refl), tt)
-  turn_own (operations.Mutex call) (states.Mutex m) has alone below is keys out stands =
+  turn_own (operations.Mutex call) (states.Mutex m) has alone below is keys out stands plain =
       let step = turn_on (operations.Mutex call) worker moment (states.Mutex m) in
       (mutex_tells laws.machines.mutexes plan place worker moment before call (mutex.place_of m worker) m refl (omega (arith, below, is.1)) is.0, behind (operations.Mutex call) worker step.1 step.0 tt tt)
-  turn_own (operations.RwMutex call) (states.RwMutex m) has alone below is keys out stands =
+  turn_own (operations.RwMutex call) (states.RwMutex m) has alone below is keys out stands plain =
       let step = turn_on (operations.RwMutex call) worker moment (states.RwMutex m) in
       let fits = stands_fit call worker m stands out in (
         rw_tells laws.machines.rw_mutexes plan place worker moment before call (rw.place_of m worker) m refl fits (omega (arith, below, is.1)) is.0,
         behind (operations.RwMutex call) worker step.1 step.0 (stands_on laws.machines.mutexes call worker moment (rw.place_of m worker) m fits is.0 stands) tt,
       )
-  turn_own (operations.WaitGroup call) (states.WaitGroup g first) has alone below is keys out stands =
+  turn_own (operations.WaitGroup call) (states.WaitGroup g first) has alone below is keys out stands plain =
       let step = turn_on (operations.WaitGroup call) worker moment (states.WaitGroup g first) in
       let told = group_tells laws.machines.groups plan place worker moment before call (group.place_of g worker) g refl stands (omega (arith, below, is)) in
       (told.0, group_behind call worker first _ step.1 told.1)
-  turn_own operations.OnceFunc (states.OnceFunc o code) has alone below is keys out stands = func_own o code stands (omega (arith, below, is))
-  turn_own operations.OnceValue (states.OnceValue o value) has alone below is keys out stands = value_own o value stands (omega (arith, below, is))
-  turn_own (operations.Pool call) (states.Pool p) has alone below is keys out stands =
+  turn_own operations.OnceFunc (states.OnceFunc o code) has alone below is keys out stands plain = func_own o code stands (omega (arith, below, is))
+  turn_own operations.OnceValue (states.OnceValue o value) has alone below is keys out stands plain = value_own o value stands (omega (arith, below, is))
+  turn_own (operations.Pool call) (states.Pool p) has alone below is keys out stands plain =
       let step = turn_on (operations.Pool call) worker moment (states.Pool p) in (
         whole_tells laws.pools plan place worker moment below (pool_call plan.workers worker (first_part plan place) call) _ _ step.1 (pool_whole laws.pools plan place worker moment below before call p is.0 is.1),
         behind (operations.Pool call) worker step.1 step.0 tt tt,
       )
-  turn_own (operations.Cond call) o has alone below is keys out stands = absurd (cond_refers o call has alone)
-  turn_own operations.Once o has alone below is keys out stands = absurd (once_refers o has alone)
-  turn_own (operations.Composed (WaitFor atomic number tries)) o has alone below is keys out stands = absurd (wait_for_alone o atomic tries number has)
-  turn_own (operations.Composed (Go started)) o has alone below is keys out stands = absurd (go_alone o started has)
-  turn_own operation o has alone below is keys out stands = absurd cc
+  turn_own (operations.Cond call) o has alone below is keys out stands plain = absurd (cond_refers o call has alone)
+  turn_own operations.Once o has alone below is keys out stands plain = absurd (once_refers o has alone)
+  turn_own (operations.Composed (WaitFor atomic number tries)) o has alone below is keys out stands plain = absurd (wait_for_alone o atomic tries number has)
+  turn_own (operations.Composed (Go started)) o has alone below is keys out stands plain = absurd (go_alone o started has)
+  turn_own (operations.Var call) o has alone below is keys out stands plain = absurd cc
+  turn_own operation o has alone below is keys out stands plain = absurd cc
 
   -- ---- at two objects
 

@@ -9,7 +9,8 @@ use Rattle.step_runner.specs.declared.turns.answer.Answer.{Answer}
 use Rattle.step_runner.specs.declared.turns.answer.Answer.TheVariants as answers
 use Rattle.step_runner.specs.declared.turns.object_state.ObjectState.{ObjectState}
 use Rattle.step_runner.specs.Completes.{IsCompleted}
-use Rattle.step_runner.specs.Items.{Item, items_at}
+use Rattle.step_runner.specs.declared.turns.item.Item.{Item}
+use Rattle.step_runner.specs.Items.{items_at}
 use Rattle.step_runner.specs.TurnAtObjects.{turn_at}
 use Rattle.step_runner.specs.TurnWithin.{wait_on, load_of, is_met, Taken, begin_wait, tells, unless_last, unless_met, look, behind_wait, wait_for_turn, unless_last_items, unless_met_items, look_items, behind_wait_items, wait_for_items}
 

@@ -22,13 +22,14 @@ use Rattle.run_record.specs.Parts.{Part, and_then, read_as}
 use Rattle.run_record.specs.Record.{object_number, shared_in}
 use Rattle.run_record.specs.Tests.{tests, compared, waits_for}
 use Rattle.run_record.specs.declared.made.Made.{Made}
-use Rattle.workload.specs.Draft.{all_keys}
+use Rattle.workload.specs.Draft.{all_keys, is_access_operation}
 use Rattle.workload.specs.Plan.{Plan}
 use Rattle.step_runner.specs.declared.turns.answer.Answer.{Answer}
 use Rattle.step_runner.specs.declared.turns.answer.Answer.TheVariants as answers
 use Rattle.step_runner.specs.declared.turns.object_state.ObjectState.{ObjectState}
 use Rattle.step_runner.specs.declared.turns.object_state.ObjectState.TheVariants as states
-use Rattle.step_runner.specs.Items.{Item, items_at}
+use Rattle.step_runner.specs.declared.turns.item.Item.{Item}
+use Rattle.step_runner.specs.Items.{items_at}
 use Rattle.step_runner.specs.Left.{left_at}
 use Rattle.step_runner.specs.MachinesStand.{MutexStands}
 use Rattle.step_runner.specs.MapKeys.{HasObjectKeysIn}
@@ -122,7 +123,7 @@ pub record TurnLaws : Type 0 where
   pub keys : (names : List (List ℕ)) (worker moment place : ℕ) (objects : List ObjectState) → EachAt (λ k. HasObjectKeysIn names) objects → EachAt (λ k. HasObjectKeysIn names) (turn_at (wait_on place) worker moment objects).0
   pub out : (workers worker moment : ℕ) (call : Call) (objects : List ObjectState) → IsReady workers worker call objects → IsOutBut (waits_at (map kind_of objects) call) worker objects
       → IsOutBut (waits_behind (turn_at call worker moment objects).1 (waits_at (map kind_of objects) call)) worker (turn_at call worker moment objects).0
-  pub own : (plan : Plan) (worker before moment : ℕ) (call : Call) (objects : List ObjectState) → IsReady plan.workers worker call objects → EachAt (λ k. HasObjectKeysIn (all_keys plan.scripts)) objects
+  pub own : (plan : Plan) (worker before moment : ℕ) (call : Call) (objects : List ObjectState) → IsReady plan.workers worker call objects → is_access_operation call.operation ≡ false → EachAt (λ k. HasObjectKeysIn (all_keys plan.scripts)) objects
       → IsOutBut (waits_at (map kind_of objects) call) worker objects → IsWithin worker call objects
       → Tells plan (left_at plan worker before call objects) (left_at plan worker (before + length (shared_in (recorded plan before (items_at call worker moment objects)))) call (turn_at call worker moment objects).0)
       (recorded plan before (items_at call worker moment objects)) (turn_at call worker moment objects).1
@@ -205,7 +206,7 @@ module _ (laws : TurnLaws) (plan : Plan) (worker moment place atomic tries : ℕ
         let same : suc left ≡ tries - begun = omega (arith, leb-false tries begun more) in
         let next : begun + 1 ≡ suc begun = omega arith in
         let is = begins laws.mutexes plan plan.workers worker moment place mutex objects w idle out in
-        let own = laws.own plan worker counted moment wait objects ready keys (λ k o at far. out k o at (λ e. cc)) (within_whole plan plan.workers worker place mutex objects w idle out) in
+        let own = laws.own plan worker counted moment wait objects ready refl keys (λ k o at far. out k o at (λ e. cc)) (within_whole plan plan.workers worker place mutex objects w idle out) in
         let n = wait_kept plan.workers worker place mutex objects step.0 w (laws.kinds plan.workers worker moment wait objects ready) (laws.ready plan.workers worker moment worker wait wait objects ready ready) in
         let of_wait : Tells plan (left_at plan worker counted wait objects) (left_at plan worker later wait step.0) made step.1 =
         subst (λ (new : Part (Reply ℕ)). Tells plan (left_at plan worker counted wait objects) new made step.1) (left_any plan plan.workers worker place mutex step.0 n (counted + length (shared_in made)) later) own.0 in
@@ -307,7 +308,7 @@ module _ (laws : TurnLaws) (plan : Plan) (worker moment place atomic tries : ℕ
       let ready_on = laws.ready plan.workers worker moment worker wait wait objects ready.0 ready.0 in
       let n = wait_kept plan.workers worker place w.0 objects step.0 w.1 (laws.kinds plan.workers worker moment wait objects ready.0) ready_on in
       let number = atomic_there plan.workers worker atomic step.0 (laws.ready plan.workers worker moment worker wait (load_of atomic) objects ready.0 ready.1) in
-      let own = laws.own plan worker before moment wait objects ready.0 keys out within in
+      let own = laws.own plan worker before moment wait objects ready.0 refl keys out within in
       let tells : (k : ℕ) → Tells plan (left_at plan worker before wait objects) (left_at plan worker k wait step.0) (recorded plan before made) step.1 =
       λ k. subst (λ (new : Part (Reply ℕ)). Tells plan (left_at plan worker before wait objects) new (recorded plan before made) step.1)
       (left_any plan plan.workers worker place w.0 step.0 n (before + length (shared_in (recorded plan before made))) k) own.0 in

@@ -16,7 +16,7 @@ use Rattle.step_runner.specs.declared.turns.answer.Answer.{Answer}
 use Rattle.step_runner.specs.declared.turns.answer.Answer.TheVariants as answers
 use Rattle.step_runner.specs.declared.turns.object_state.ObjectState.{ObjectState}
 use Rattle.step_runner.specs.Completes.{takes_one_turn, IsCompleted}
-use Rattle.step_runner.specs.Items.{Item}
+use Rattle.step_runner.specs.declared.turns.item.Item.{Item}
 use Rattle.step_runner.specs.MapKeys.{AreAmong, HasObjectKeysIn}
 use Rattle.step_runner.specs.Objects.{kind_of, EachAt}
 use Rattle.step_runner.specs.Pairs.{ShowsTo}

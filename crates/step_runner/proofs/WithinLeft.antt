@@ -13,7 +13,8 @@ use Rattle.workload.specs.declared.object.ObjectKind.{ObjectKind}
 use Rattle.step_runner.specs.declared.turns.answer.Answer.{Answer}
 use Rattle.step_runner.specs.declared.turns.answer.Answer.TheVariants as answers
 use Rattle.step_runner.specs.declared.turns.object_state.ObjectState.{ObjectState}
-use Rattle.step_runner.specs.Items.{Item, items_at, is_requeued, is_unlock, goes_back, unlocks}
+use Rattle.step_runner.specs.declared.turns.item.Item.{Item}
+use Rattle.step_runner.specs.Items.{items_at, is_requeued, is_unlock, goes_back, unlocks}
 use Rattle.step_runner.specs.Objects.{kind_of}
 use Rattle.step_runner.specs.Ready.{IsReady}
 use Rattle.step_runner.specs.StandsWithin.{ReadyBy, IsReadyWithin, most_turns, turns_by_operation, turns_within}

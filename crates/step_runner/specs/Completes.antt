@@ -6,7 +6,7 @@ use Rattle.script_calls.specs.declared.call.Operation.TheVariants as operations
 use Rattle.step_runner.specs.declared.turns.answer.Answer.{Answer}
 use Rattle.step_runner.specs.declared.turns.answer.Answer.TheVariants as answers
 
--- whether an operation is one of a map, an atomic or a pool
+-- whether an operation is one of a map, an atomic, a pool or a plain variable
 abbrev pub takes_one_turn : Operation → Bool
 takes_one_turn (operations.Map call) = true
 takes_one_turn operations.Range = true
@@ -19,6 +19,7 @@ takes_one_turn operations.Once = false
 takes_one_turn operations.OnceFunc = false
 takes_one_turn operations.OnceValue = false
 takes_one_turn (operations.Pool call) = true
+takes_one_turn (operations.Var call) = true
 takes_one_turn (operations.Composed (IfEqual value passes)) = true
 takes_one_turn (operations.Composed (WaitFor atomic value tries)) = false
 takes_one_turn (operations.Composed (Go worker)) = false

@@ -12,7 +12,8 @@ use Rattle.step_runner.specs.declared.turns.answer.Answer.{Answer}
 use Rattle.step_runner.specs.declared.turns.answer.Answer.TheVariants as answers
 use Rattle.step_runner.specs.declared.turns.object_state.ObjectState.{ObjectState}
 use Rattle.step_runner.specs.declared.turns.object_state.ObjectState.TheVariants as states
-use Rattle.step_runner.specs.Items.{Item, entered}
+use Rattle.step_runner.specs.declared.turns.item.Deed.TheVariants as deeds
+use Rattle.step_runner.specs.declared.turns.item.Item.{Item}
 use Rattle.step_runner.specs.TurnWithin.{start_item}
 
 module _ (call : Call) (worker started : ℕ) where
@@ -22,7 +23,7 @@ module _ (call : Call) (worker started : ℕ) where
 
   -- the group is asked to add 1, and answers this
   abbrev pub add_item : GroupReply → Item
-  add_item reply = record { object = call.object; caller = worker; deed = entered (events.WaitGroup (Add (pos 1))) (answered.WaitGroup reply) }
+  add_item reply = record { object = call.object; caller = worker; deed = deeds.Entered (events.WaitGroup (Add (pos 1))) (answered.WaitGroup reply) }
 
   module _ (old new : List ObjectState) (made : List Item) where
     -- the sum is the counter

@@ -48,30 +48,23 @@ use Rattle.run_record.specs.declared.entered.ObjectReply.{ObjectReply}
 use Rattle.run_record.specs.declared.entered.ObjectReply.TheVariants as answered
 use Rattle.workload.specs.Plan.{reference_of}
 use Rattle.step_runner.specs.declared.turns.answer.Answer.{Answer}
+use Rattle.step_runner.specs.declared.turns.item.Deed.{Deed}
+use Rattle.step_runner.specs.declared.turns.item.Deed.TheVariants as deeds
+use Rattle.step_runner.specs.declared.turns.item.Item.{Item}
 use Rattle.step_runner.specs.declared.turns.object_state.ObjectState.{ObjectState}
 use Rattle.step_runner.specs.declared.turns.object_state.ObjectState.TheVariants as states
 use Rattle.step_runner.specs.Due.{mutex_due, rw_due, group_due, cond_due, once_due, looks_of}
 use Rattle.step_runner.specs.Objects.{kind_of}
 use Rattle.step_runner.specs.PoolTurn.{looked}
 use Rattle.step_runner.specs.TurnAtObjects.{once_made}
-
--- what is done on an object: a call on a map or an atomic, with its reply, or an event of any other object, with its answer
-pub data Deed : Type 0 where
-  placed : Operation → Reply (List ℕ) → Deed
-  entered : ObjectEvent → ObjectReply → Deed
-
--- one item of a run: the worker that makes it, and the place of its object in order of declaration. Starts stands behind all objects
-pub record Item : Type 0 where
-  pub object : ℕ
-  pub caller : ℕ
-  pub deed : Deed
+use Rattle.step_runner.specs.Variables.{var_reply}
 
 -- ---- of one machine
 
 module _ {S E R G : Type 0} (event : E → ObjectEvent) (answer : R → ObjectReply) (next : S → ℕ → E → S × R) (event_of : G → ℕ → E) (worker moment object : ℕ) where
   -- the event of a stage, and what the machine answers to it
   abbrev pub stage_item : G → S → Item
-  stage_item stage s = record { object = object; caller = worker; deed = entered (event (event_of stage moment)) (answer (next s worker (event_of stage moment)).1) }
+  stage_item stage s = record { object = object; caller = worker; deed = deeds.Entered (event (event_of stage moment)) (answer (next s worker (event_of stage moment)).1) }
 
   -- of the stage that is due, if one is
   abbrev pub stage_items : Option G → S → List Item
@@ -103,9 +96,9 @@ module _ (worker moment object : ℕ) where
 
 -- ---- of a turn
 
--- the call is placed on the map or atomic at this place
+-- the call is placed on the map, atomic or plain variable at this place
 abbrev pub placed_at : ℕ → ℕ → Operation → Reply (List ℕ) → List Item
-placed_at worker object operation reply = record { object = object; caller = worker; deed = placed operation reply } ∷ []
+placed_at worker object operation reply = record { object = object; caller = worker; deed = deeds.Placed operation reply } ∷ []
 
 -- by the operation that is called and at the call's object, which stands at this place, where that refers to no other
 abbrev pub items_on : Operation → ℕ → ℕ → ℕ → ObjectState → List Item
@@ -119,6 +112,7 @@ items_on (operations.WaitGroup call) worker moment object (states.WaitGroup g fi
 items_on operations.OnceFunc worker moment object (states.OnceFunc o code) = once_items events.OnceFunc answered.OnceFunc worker moment object code o
 items_on operations.OnceValue worker moment object (states.OnceValue o value) = once_items events.OnceValue answered.OnceValue worker moment object value o
 items_on (operations.Pool call) worker moment object (states.Pool p) = pool_items worker moment object call p
+items_on (operations.Var call) worker moment object (states.Var held) = placed_at worker object (operations.Var call) (replies.Var (var_reply call held))
 items_on operation worker moment object o = []
 
 -- the `add` of a once's function to the number at this place, where this turn ends the function
@@ -156,8 +150,8 @@ items_at call worker moment objects =
 
 -- a waiter that was told to go on lost against a newcomer
 abbrev pub is_requeued : Deed → Bool
-is_requeued (entered event (answered.Mutex (mutex_reply.Resumed mutex_resumption.Requeued))) = true
-is_requeued (entered event (answered.RwMutex (rw_reply.Resumed rw_resumption.Requeued))) = true
+is_requeued (deeds.Entered event (answered.Mutex (mutex_reply.Resumed mutex_resumption.Requeued))) = true
+is_requeued (deeds.Entered event (answered.RwMutex (rw_reply.Resumed rw_resumption.Requeued))) = true
 is_requeued deed = false
 
 -- whether the worker goes back to the queue
@@ -166,8 +160,8 @@ goes_back made = list_any (λ item. is_requeued item.deed) made
 
 -- of a mutex, or of a reader/writer mutex by its writer
 abbrev pub is_unlock : Deed → Bool
-is_unlock (entered (events.Mutex mutex_event.Unlock) answer) = true
-is_unlock (entered (events.RwMutex rw_event.WriteUnlock) answer) = true
+is_unlock (deeds.Entered (events.Mutex mutex_event.Unlock) answer) = true
+is_unlock (deeds.Entered (events.RwMutex rw_event.WriteUnlock) answer) = true
 is_unlock deed = false
 
 -- whether the worker unlocks

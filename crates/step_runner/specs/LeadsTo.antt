@@ -25,7 +25,10 @@ use Rattle.run_record.specs.declared.entered.ObjectReply.{ObjectReply}
 use Rattle.run_record.specs.declared.entered.ObjectReply.TheVariants as answered
 use Rattle.step_runner.specs.declared.turns.object_state.ObjectState.{ObjectState}
 use Rattle.step_runner.specs.declared.turns.object_state.ObjectState.TheVariants as states
-use Rattle.step_runner.specs.Items.{Item, Deed, placed, entered}
+use Rattle.step_runner.specs.declared.turns.item.Deed.{Deed}
+use Rattle.step_runner.specs.declared.turns.item.Deed.TheVariants as deeds
+use Rattle.step_runner.specs.declared.turns.item.Item.{Item}
+use Rattle.step_runner.specs.Variables.{var_reply, var_after}
 
 -- the items on the object at a place, in order
 abbrev pub on_object : ℕ → List Item → List Item
@@ -38,7 +41,7 @@ told_in item = (item.caller, item.deed)
 module _ {E R : Type 0} (event : E → ObjectEvent) (answer : R → ObjectReply) where
   -- an entry of one kind's log, as an item says it
   abbrev pub told_by : Entry E R → ℕ × Deed
-  told_by e = (e.caller, entered (event e.event) (answer e.reply))
+  told_by e = (e.caller, deeds.Entered (event e.event) (answer e.reply))
 
 module _ {S E R : Type 0} (event : E → ObjectEvent) (answer : R → ObjectReply) (next : S → ℕ → E → S × R) where
   -- the items are a log that follows the machine from the first state, and leads to the last
@@ -49,7 +52,7 @@ module _ {S : Type 0} (goes : Operation → S → Reply (List ℕ) → S → Typ
   -- the items are calls, each of which goes so from what stands after those before it, and the last stands after all of them
   abbrev pub CallsTo : S → List Item → S → Type 0
   CallsTo first [] last = last ≡ first
-  CallsTo first (item ∷ made) last = (operation : Operation) × (reply : Reply (List ℕ)) × (next : S) × (item.deed ≡ placed operation reply) × goes operation first reply next × CallsTo next made last
+  CallsTo first (item ∷ made) last = (operation : Operation) × (reply : Reply (List ℕ)) × (next : S) × (item.deed ≡ deeds.Placed operation reply) × goes operation first reply next × CallsTo next made last
 
 -- what a call of a map answers and leaves, as the one-thread map does. A `range` is one call here
 abbrev pub MapGoes : Operation → FinMap (slice_cmp nat_cmp) ℕ → Reply (List ℕ) → FinMap (slice_cmp nat_cmp) ℕ → Type 0
@@ -61,6 +64,11 @@ MapGoes operation m reply next = ⊥
 abbrev pub AtomicGoes : Operation → Number → Reply (List ℕ) → Number → Type 0
 AtomicGoes (operations.Atomic call) number reply next = (reply ≡ replies.Atomic (atomic_reply call number)) × (next ≡ atomic_after call number)
 AtomicGoes operation number reply next = ⊥
+
+-- and of a plain variable
+abbrev pub VarGoes : Operation → ℕ → Reply (List ℕ) → ℕ → Type 0
+VarGoes (operations.Var call) held reply next = (reply ≡ replies.Var (var_reply call held)) × (next ≡ var_after call held)
+VarGoes operation held reply next = ⊥
 
 -- the object comes from one state to another by just these items on it
 abbrev pub LeadsTo : ObjectState → List Item → ObjectState → Type 0
@@ -74,4 +82,5 @@ LeadsTo (states.Once m place delta) made (states.Once n other amount) = FollowsT
 LeadsTo (states.OnceFunc m code) made (states.OnceFunc n other) = FollowsTo events.OnceFunc answered.OnceFunc once.next m made n
 LeadsTo (states.OnceValue m value) made (states.OnceValue n other) = FollowsTo events.OnceValue answered.OnceValue once.next m made n
 LeadsTo (states.Pool m) made (states.Pool n) = FollowsTo events.Pool answered.Pool pool.next m made n
+LeadsTo (states.Var m) made (states.Var n) = CallsTo VarGoes m made n
 LeadsTo first made last = ⊥

@@ -4,12 +4,14 @@ pub mod Computed
 pub mod Ends
 pub mod LeftToDo
 pub mod MadeCalls
+pub mod Noted
 pub mod Outcomes
 pub mod Places
 pub mod RunItems
 pub mod Spelt
 pub mod State
 pub mod Turns
+pub mod Traces
 pub mod Goes
 pub mod TurnWithin
 pub mod StandsWithin
@@ -35,4 +37,5 @@ pub mod TurnAtObjects
 pub mod Left
 pub mod Recorded
 pub mod Tells
+pub mod Variables
 pub mod Within

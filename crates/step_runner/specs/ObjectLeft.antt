@@ -22,6 +22,7 @@ object_left (states.Once o place delta) = once_left o
 object_left (states.OnceFunc o code) = once_left o
 object_left (states.OnceValue o value) = once_left o
 object_left (states.Pool p) = 0
+object_left (states.Var held) = 0
 
 -- what a turn's answer says of what was left and is left. No event: all is the same; an event that completes no call: less is left; one that
 -- completes a call: less than 4 more

@@ -28,6 +28,7 @@ new_object workers room (kinds.Once place delta) = states.Once (once.start worke
 new_object workers room (kinds.OnceFunc code) = states.OnceFunc (once.start workers) code
 new_object workers room (kinds.OnceValue value) = states.OnceValue (once.start workers) value
 new_object workers room kinds.Pool = states.Pool (pool.start workers room)
+new_object workers room kinds.Var = states.Var 0
 
 -- an atomic is of the type of the number that it holds
 abbrev pub kind_of : ObjectState → ObjectKind
@@ -41,6 +42,7 @@ kind_of (states.Once o place delta) = kinds.Once place delta
 kind_of (states.OnceFunc o code) = kinds.OnceFunc code
 kind_of (states.OnceValue o value) = kinds.OnceValue value
 kind_of (states.Pool p) = kinds.Pool
+kind_of (states.Var held) = kinds.Var
 
 -- what a turn needs of an object that is a machine: a mutex's state is valid, and the workers are the callers. LeadsTo.antt says by what the
 -- machine comes to the state
@@ -55,6 +57,7 @@ IsMachineOf workers (states.Once o place delta) = once.callers_of o ≡ workers
 IsMachineOf workers (states.OnceFunc o code) = once.callers_of o ≡ workers
 IsMachineOf workers (states.OnceValue o value) = once.callers_of o ≡ workers
 IsMachineOf workers (states.Pool p) = (length p.primary ≡ workers) × (length p.victims ≡ workers)
+IsMachineOf workers (states.Var held) = Unit {0}
 
 -- what is so of each object, by its place
 abbrev pub EachAt : (ℕ → ObjectState → Type 0) → List ObjectState → Type 0

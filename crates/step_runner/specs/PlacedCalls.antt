@@ -13,21 +13,23 @@ use Rattle.step_runner.specs.declared.turns.answer.Answer.{Answer}
 use Rattle.step_runner.specs.declared.turns.answer.Answer.TheVariants.{Completed}
 use Rattle.step_runner.specs.declared.turns.object_state.ObjectState.{ObjectState}
 use Rattle.step_runner.specs.declared.turns.object_state.ObjectState.TheVariants as states
-use Rattle.step_runner.specs.Items.{Item, placed}
+use Rattle.step_runner.specs.declared.turns.item.Deed.TheVariants as deeds
+use Rattle.step_runner.specs.declared.turns.item.Item.{Item}
 
--- whether an operation is one of a map or an atomic
+-- whether an operation is one of a map, an atomic or a plain variable
 abbrev pub is_placed : Operation → Bool
 is_placed (operations.Map call) = true
 is_placed operations.Range = true
 is_placed (operations.Atomic call) = true
+is_placed (operations.Var call) = true
 is_placed operation = false
 
 -- the turn makes the call's one item, and completes the call with the reply in it
 abbrev pub IsAnswered : Call → ℕ → List Item → Answer → Type 0
-IsAnswered call worker made answer = (reply : Reply (List ℕ)) × (made ≡ record { object = call.object; caller = worker; deed = placed call.operation reply } ∷ []) × (answer ≡ Completed reply)
+IsAnswered call worker made answer = (reply : Reply (List ℕ)) × (made ≡ record { object = call.object; caller = worker; deed = deeds.Placed call.operation reply } ∷ []) × (answer ≡ Completed reply)
 
 -- the turn makes one load of the call's atomic, and completes the call by what it found: whether that is the value
 abbrev pub IsTested : Call → Number → ℕ → List ObjectState → List Item → Answer → Type 0
 IsTested call value worker objects made answer =
     (found : Number) × (slice_get objects call.object ≡ Some (states.Atomic found))
-    × (made ≡ record { object = call.object; caller = worker; deed = placed (operations.Atomic Load) (replies.Atomic (Held found)) } ∷ []) × (answer ≡ Completed (replies.Atomic (Compared (is_same found value))))
+    × (made ≡ record { object = call.object; caller = worker; deed = deeds.Placed (operations.Atomic Load) (replies.Atomic (Held found)) } ∷ []) × (answer ≡ Completed (replies.Atomic (Compared (is_same found value))))

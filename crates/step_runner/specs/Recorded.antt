@@ -25,7 +25,9 @@ use Rattle.run_record.specs.declared.entered.ObjectEvent.TheVariants as events
 use Rattle.run_record.specs.declared.entered.ObjectReply.{ObjectReply}
 use Rattle.run_record.specs.declared.made.Made.{Made}
 use Rattle.run_record.specs.declared.made.Made.TheVariants.{Shared, Entered}
-use Rattle.step_runner.specs.Items.{Item, Deed, placed, entered}
+use Rattle.step_runner.specs.declared.turns.item.Deed.{Deed}
+use Rattle.step_runner.specs.declared.turns.item.Deed.TheVariants as deeds
+use Rattle.step_runner.specs.declared.turns.item.Item.{Item}
 
 -- a reply in a record has the numbers of its keys
 abbrev pub recorded_reply : Plan → Reply (List ℕ) → Reply ℕ
@@ -59,8 +61,8 @@ module _ (plan : Plan) where
   recorded_event place caller event answer = made_on (object_number place) caller event answer ∷ []
 
   abbrev pub recorded_deed : ℕ → ℕ → ℕ → Deed → List Made
-  recorded_deed before place caller (placed operation reply) = map made_shared (shared_calls before place operation reply)
-  recorded_deed before place caller (entered event answer) = recorded_event place caller event answer
+  recorded_deed before place caller (deeds.Placed operation reply) = map made_shared (shared_calls before place operation reply)
+  recorded_deed before place caller (deeds.Entered event answer) = recorded_event place caller event answer
 
   abbrev pub recorded_item : ℕ → Item → List Made
   recorded_item before item = recorded_deed before item.object item.caller item.deed

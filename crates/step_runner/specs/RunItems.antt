@@ -17,7 +17,8 @@ use Rattle.workload.specs.Puts.{puts_at}
 use Rattle.step_runner.specs.declared.turns.object_state.ObjectState.{ObjectState}
 use Rattle.step_runner.specs.declared.turns.object_state.ObjectState.TheVariants as states
 use Rattle.step_runner.specs.LeadsTo.{on_object, LeadsTo}
-use Rattle.step_runner.specs.Items.{Item, placed}
+use Rattle.step_runner.specs.declared.turns.item.Deed.TheVariants as deeds
+use Rattle.step_runner.specs.declared.turns.item.Item.{Item}
 use Rattle.step_runner.specs.Objects.{new_object}
 use Rattle.step_runner.specs.declared.step.Step.{Step}
 use Rattle.step_runner.specs.declared.step.Step.TheVariants as steps
@@ -50,19 +51,19 @@ LeadTo plan made objects =
 -- the worker's next turn makes its call whole, in one item whose reply is the call's
 abbrev pub IsAnswered : Plan → ℕ → Call → State → Type 0
 IsAnswered plan worker call s =
-    (reply : Reply (List ℕ)) × (made_by plan worker s ≡ record { object = call.object; caller = worker; deed = placed call.operation reply } ∷ [])
+    (reply : Reply (List ℕ)) × (made_by plan worker s ≡ record { object = call.object; caller = worker; deed = deeds.Placed call.operation reply } ∷ [])
     × (get_or (turn_of plan worker s).0.replies worker [] ≡ get_or s.replies worker [] ++ reply ∷ [])
 
 -- the worker's next turn makes one load of its call's atomic, and completes the call by what it found: whether that is the value
 abbrev pub IsTested : Plan → ℕ → Call → Number → State → Type 0
 IsTested plan worker call value s =
     (found : Number) × (slice_get s.objects call.object ≡ Some (states.Atomic found))
-    × (made_by plan worker s ≡ record { object = call.object; caller = worker; deed = placed (operations.Atomic Load) (replies.Atomic (Held found)) } ∷ [])
+    × (made_by plan worker s ≡ record { object = call.object; caller = worker; deed = deeds.Placed (operations.Atomic Load) (replies.Atomic (Held found)) } ∷ [])
     × (get_or (turn_of plan worker s).0.replies worker [] ≡ get_or s.replies worker [] ++ replies.Atomic (Compared (is_same found value)) ∷ [])
 
 -- the worker's next turn makes one load of the atomic at this place, which finds this number, completes the call by true, and changes no object
 abbrev pub IsMet : Plan → ℕ → ℕ → Number → State → Type 0
 IsMet plan worker atomic found s =
-    (made_by plan worker s ≡ record { object = atomic; caller = worker; deed = placed (operations.Atomic Load) (replies.Atomic (Held found)) } ∷ [])
+    (made_by plan worker s ≡ record { object = atomic; caller = worker; deed = deeds.Placed (operations.Atomic Load) (replies.Atomic (Held found)) } ∷ [])
     × (get_or (turn_of plan worker s).0.replies worker [] ≡ get_or s.replies worker [] ++ replies.Atomic (Compared true) ∷ [])
     × ((turn_of plan worker s).0.objects ≡ s.objects)

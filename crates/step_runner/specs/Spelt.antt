@@ -20,7 +20,7 @@ use Rattle.run_record.specs.Record.{shared_in}
 use Rattle.run_record.specs.declared.entered.ObjectEvent.TheVariants as events
 use Rattle.run_record.specs.declared.entered.ObjectReply.TheVariants as answered
 use Rattle.run_record.specs.declared.made.Made.{Made}
-use Rattle.step_runner.specs.Items.{Item}
+use Rattle.step_runner.specs.declared.turns.item.Item.{Item}
 use Rattle.step_runner.specs.Recorded.{recorded_reply, recorded, made_on}
 use Rattle.step_runner.specs.declared.step.Step.{Step}
 use Rattle.step_runner.specs.declared.step.Step.TheVariants as steps

@@ -40,6 +40,7 @@ use Rattle.step_runner.specs.Due.{mutex_due, rw_due, locked, group_due, returned
 use Rattle.step_runner.specs.Objects.{kind_of}
 use Rattle.step_runner.specs.PoolTurn.{pool_step}
 use Rattle.step_runner.specs.Stages.{make, answer_by}
+use Rattle.step_runner.specs.Variables.{var_reply, var_after}
 
 module _ {S O : Type 0} where
   -- a turn at an object, by what its stage came to
@@ -67,6 +68,7 @@ turn_on operations.OnceFunc worker moment (states.OnceFunc o code) =
     turned (λ o. states.OnceFunc o code) (ran_or (replies.OnceFunc (failure code)) (λ kept. replies.OnceFunc (failure kept))) (once_made worker moment code o)
 turn_on operations.OnceValue worker moment (states.OnceValue o value) = turned (λ o. states.OnceValue o value) (ran_or (replies.OnceValue value) replies.OnceValue) (once_made worker moment value o)
 turn_on (operations.Pool call) worker moment (states.Pool p) = let step = pool_step worker moment call p in (states.Pool step.0, step.1)
+turn_on (operations.Var call) worker moment (states.Var held) = (states.Var (var_after call held), answers.Completed (replies.Var (var_reply call held)))
 turn_on operation worker moment o = (o, answers.Still)
 
 -- a turn of a cond's call: the stages that are due at the cond and at its mutex, whatever the first comes to

@@ -22,7 +22,9 @@ use Rattle.starts_core.specs.declared.starts.StartEvent.TheVariants as starts
 use Rattle.starts_core.specs.declared.starts.StartReply.TheVariants as told
 use Rattle.run_record.specs.declared.entered.ObjectEvent.TheVariants as events
 use Rattle.run_record.specs.declared.entered.ObjectReply.TheVariants as answered
-use Rattle.step_runner.specs.Items.{Item, entered, items_at}
+use Rattle.step_runner.specs.declared.turns.item.Deed.TheVariants as deeds
+use Rattle.step_runner.specs.declared.turns.item.Item.{Item}
+use Rattle.step_runner.specs.Items.{items_at}
 use Rattle.step_runner.specs.TurnAtObjects.{turn_at}
 
 -- the call that waits once on the cond at a place, and the one that loads the atomic at a place
@@ -115,7 +117,7 @@ none_begins begun step = ((step.0, begun), step.1)
 
 -- a worker is started: an event on Starts, which stands behind so many objects
 abbrev pub start_item : (worker count started : ℕ) → Item
-start_item worker count started = record { object = count; caller = worker; deed = entered (events.Starts (starts.Start started)) (answered.Starts told.Done) }
+start_item worker count started = record { object = count; caller = worker; deed = deeds.Entered (events.Starts (starts.Start started)) (answered.Starts told.Done) }
 
 -- nobody is started where the `add` is a misuse
 abbrev pub start_items : Answer → Item → List Item

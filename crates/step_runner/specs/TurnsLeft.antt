@@ -58,6 +58,7 @@ left_at worker (states.Once o place delta) = once_left o worker
 left_at worker (states.OnceFunc o code) = once_left o worker
 left_at worker (states.OnceValue o value) = once_left o worker
 left_at worker (states.Pool p) = 0
+left_at worker (states.Var held) = 0
 
 abbrev pub left_in : ℕ → List ObjectState → Option ℕ → ℕ
 left_in worker objects None = 0

@@ -1,5 +1,5 @@
 //! What every run by schedule keeps.
-ghost use Rattle.std.specs.Prelude.{◌≡◌, ◌≢◌, ◌↔◌, ◌<◌, ◌≤◌, ℕ, true, false, List, [], ◌++◌, Some, None, map, length, take, get_or, slice_get};
+ghost use Rattle.std.specs.Prelude.{◌≡◌, ◌≢◌, ◌↔◌, ◌<◌, ◌≤◌, ℕ, true, false, List, [], ◌++◌, ◌==◌, Some, None, map, filter, length, take, get_or, slice_get};
 ghost use Rattle.std.specs.List.{list_all, list_any};
 ghost use Rattle.std.specs.Str.{bytes_eq};
 ghost use Rattle.std.specs.Ordering.{nat_cmp};
@@ -19,6 +19,7 @@ ghost use Rattle.pool_core.specs.PoolMachine as pool;
 ghost use Rattle.pool_core.specs.declared.pool_event.PoolEvent.{PoolEvent};
 ghost use Rattle.pool_core.specs.declared.pool_event.PoolReply.{PoolReply};
 ghost use Rattle.workload.specs.Draft.{all_keys, distinct_count, tries_of};
+ghost use Rattle.workload.specs.Dialect.{has_variables};
 ghost use Rattle.workload.specs.declared.turn.Turn.{Turn};
 ghost use Rattle.workload.specs.Keys.{keys_in, key_number, key_name};
 ghost use Rattle.workload.specs.Plan.{Plan, is_dormant, has_dormant, is_valid};
@@ -49,7 +50,10 @@ ghost use Rattle.step_runner.specs.declared.state.Stand.TheVariants as stands;
 ghost use Rattle.step_runner.specs.State.{State, IsStateOf, start, stand_of, with_moment};
 ghost use Rattle.step_runner.specs.Turns.{begun_by, script_left, next_call, turn_of, items_of, after_items, has_ended};
 ghost use Rattle.workload.specs.Forms.{all_have_forms, has_forms};
-ghost use Rattle.step_runner.specs.Computed.{rounds_of, all_rounds, turns};
+ghost use Rattle.step_runner.specs.Computed.{rounds_of, all_rounds, whole_run, turns};
+ghost use Rattle.step_runner.specs.Recorded.{recorded_reply};
+ghost use Rattle.step_runner.specs.Traces.{traced_from, trace_of, replies_told, items_told, IsPlaced, replies_left};
+ghost use Rattle.step_runner.specs.declared.trace.TraceItem.{TraceItem};
 
 use crate::turns::laws::spelling::calls_are_entered_whole;
 use crate::turns::laws::spelling_within::{
@@ -152,7 +156,7 @@ pub fn each_run_has_one_outcome()
     scripts::runs_do_not_hang_on_names::<Name, u32>();
 }
 
-/// Where every call is on a map, an atomic or a pool the run is Done. Where no call passes others over, and no worker waits to be
+/// Where every call is on a map, an atomic, a pool or a plain variable the run is Done. Where no call passes others over, and no worker waits to be
 /// started, each worker has as many replies as calls.
 pub fn scripts_of_one_turn_calls_end()
     ensures { (plan : Plan) → is_valid plan ≡ true → list_all (list_all (λ call. takes_one_turn call.operation)) plan.scripts ≡ true
@@ -222,7 +226,7 @@ pub fn objects_keep_their_kinds()
 }
 
 /// At every moment, behind any turns up to the first misuse, the items that the run has made on an object lead from what it
-/// began as to what it is. Those on a map or an atomic are a legal history: each is a call that answers what the one-thread object
+/// began as to what it is. Those on a map, an atomic or a plain variable are a legal history: each is a call that answers what the one-thread object
 /// answers behind the earlier ones. Those on any other object are its log: its machine gives these answers to these events of these workers, one after the other. So what the laws of `mutex_core`,
 /// `rw_core`, `wait_cores` and `pool_core` say of the state behind a log is true of it, by the run's own log. A wait group
 /// begins behind the one `Add` of its line's number, and a pool's parts have room for every put that the scripts make there.
@@ -237,7 +241,7 @@ pub fn objects_come_by_the_items_of_the_run()
     items_lead_on();
 }
 
-/// At every moment the next turn of a worker that stands before a call of a map or an atomic makes the call whole, by one item on
+/// At every moment the next turn of a worker that stands before a call of a map, an atomic or a plain variable makes the call whole, by one item on
 /// its object, and the reply in that item is the call's.
 pub fn placed_calls_are_answered_by_their_items()
     ensures { (plan : Plan) (items : List Turn) (worker : ℕ) (call : Call) → is_valid plan ≡ true → next_call plan worker (after_items plan items (start plan)) ≡ Some call → is_placed call.operation ≡ true
@@ -267,7 +271,7 @@ pub fn a_waitfor_that_is_met_is_one_load()
     validity();
 }
 
-/// At every moment, behind any turns up to the first misuse, a worker's items fall into the calls of a run of its script, in order:
+/// Of a workload without plain variables: at every moment, behind any turns up to the first misuse, a worker's items fall into the calls of a run of its script, in order:
 /// each completed call is spelt by the items of its own turns, as a record's are, and its reply is read off them. Behind them stand the
 /// first items of at most one more call, or that call as a misuse: each list ends by the call before which its worker stands, and by the
 /// misuse that it met. It has no halt. Where some workers wait to be started, whoever is started goes with the first turn that makes
@@ -275,8 +279,8 @@ pub fn a_waitfor_that_is_met_is_one_load()
 /// each script that has ended, and behind that `done`; and a worker that was never started makes its `Leave` alone, once the run has
 /// ended. So the lists of any record that has the run's items, and these, are lines of the outcome.
 pub fn the_items_of_each_call_spell_it()
-    ensures always { (plan : Plan) (items : List Turn) (worker : ℕ) → is_valid plan ≡ true → Falls plan (has_ended plan (after_items plan items (start plan))) worker (all_made plan items (start plan)) (λ number. made_for plan worker number items (start plan)) (get_or (after_items plan items (start plan)).replies worker []) (next_call plan worker (after_items plan items (start plan))) (misuse_of plan worker items (start plan)) }
-    ensures outcomes { (plan : Plan) (outcome : Outcome) → is_valid plan ≡ true → StepsTo plan outcome
+    ensures always { (plan : Plan) (items : List Turn) (worker : ℕ) → is_valid plan ≡ true → has_variables plan ≡ false → Falls plan (has_ended plan (after_items plan items (start plan))) worker (all_made plan items (start plan)) (λ number. made_for plan worker number items (start plan)) (get_or (after_items plan items (start plan)).replies worker []) (next_call plan worker (after_items plan items (start plan))) (misuse_of plan worker items (start plan)) }
+    ensures outcomes { (plan : Plan) (outcome : Outcome) → is_valid plan ≡ true → has_variables plan ≡ false → StepsTo plan outcome
         → (count : ℕ) × ((r : Record) → r.lists ≡ lists_of plan (all_made plan (plan.schedule ++ rounds count plan.workers) (start plan)) (outcome_endings plan outcome (plan.schedule ++ rounds count plan.workers)) → (lines : List Line) × AreLines plan r outcome lines × EndAs (outcome_endings plan outcome (plan.schedule ++ rounds count plan.workers)) lines) }
 {
     validity();
@@ -292,6 +296,22 @@ pub fn the_items_of_each_call_spell_it()
     scripts::a_run_is_told_by_its_replies::<u32>();
     scripts::runs_go_on::<u32>();
     scripts::runs_do_not_hang_on_names::<Name, u32>();
+}
+
+/// Behind any turns, up to the first misuse, a trace tells turn by turn what they made, and the replies to a worker's calls, in order. What is
+/// told of a turn was made by its worker. Each
+/// call stands in its worker's script, at the place that is told; the `done` behind a script has no place and no reply. The trace of a
+/// run tells so of the schedule and of some whole rounds, which lead to the run's end: so its replies are those of the outcome.
+pub fn a_trace_tells_what_turns_made()
+    ensures items { (plan : Plan) (items : List Turn) → items_told (traced_from plan items (start plan)) ≡ all_made plan items (start plan) }
+    ensures replies { (plan : Plan) (items : List Turn) (worker : ℕ) → is_valid plan ≡ true → replies_told worker (traced_from plan items (start plan)) ≡ get_or (after_items plan items (start plan)).replies worker [] }
+    ensures places { (plan : Plan) (items : List Turn) (number : ℕ) (one : TraceItem) → slice_get (traced_from plan items (start plan)) number ≡ Some one → IsPlaced (get_or plan.scripts one.worker []) one.call one.index one.reply }
+    ensures callers { (plan : Plan) (items : List Turn) (number : ℕ) (one : TraceItem) → slice_get (traced_from plan items (start plan)) number ≡ Some one → filter (λ item. item.caller == one.worker) one.made ≡ one.made }
+    ensures whole { (plan : Plan) → (count : ℕ) × (trace_of plan ≡ traced_from plan (plan.schedule ++ rounds count plan.workers) (start plan)) × ((whole_run plan).0 ≡ after_items plan (plan.schedule ++ rounds count plan.workers) (start plan)) }
+    ensures outcome { (plan : Plan) (worker : ℕ) → is_valid plan ≡ true → map (recorded_reply plan) (replies_told worker (trace_of plan)) ≡ get_or (replies_left (turns plan)) worker [] }
+{
+    validity();
+    items_are_of_their_workers();
 }
 
 /// Where no turn was a misuse, no worker met one; where one was, its worker met it.

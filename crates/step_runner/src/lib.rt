@@ -2,15 +2,20 @@
 //! (`turns`), and what the run comes to.
 #![tactic(auto)]
 
+mod copying;
 pub mod ends;
 pub mod laws;
+pub mod notes;
 mod numbering;
 pub mod run;
 pub mod state;
 pub mod step;
+pub mod trace;
 pub mod turn;
 pub mod turns;
 
-pub use run::stepped;
+pub use notes::Notes;
+pub use run::{stepped, traced};
 pub use step::Step;
-pub use turns::{Answer, ObjectState, Taker, take_turn_at};
+pub use trace::{Trace, TraceItem};
+pub use turns::{Answer, Deed, Item, ObjectState, Taker, take_turn_at};

@@ -43,6 +43,7 @@ fn number_reply(alloc: Global, keys: &Keys, reply: Reply<Name>) -> Result<Reply<
         Reply::OnceFunc(code) => Ok(Reply::OnceFunc(code)),
         Reply::OnceValue(value) => Ok(Reply::OnceValue(value)),
         Reply::Pool(reply) => Ok(Reply::Pool(reply)),
+        Reply::Var(reply) => Ok(Reply::Var(reply)),
     }
 }
 

@@ -1,19 +1,23 @@
 //! The run of a workload by its schedule.
-ghost use Rattle.std.specs.Prelude.{◌≡◌, true, IfOk};
+ghost use Rattle.std.specs.Prelude.{◌≡◌, ◌++◌, true, IfOk, OnOk};
 ghost use Rattle.script_calls.specs.Outcome.{shows_to};
 ghost use Rattle.workload.specs.declared.limits.TheConstants.{MAX_KEYS};
 ghost use Rattle.workload.specs.Plan.{is_turn};
 ghost use Rattle.workload.specs.Forms.{has_forms};
 ghost use Rattle.step_runner.specs.Outcomes.{StepsTo};
 ghost use Rattle.step_runner.specs.Places.{IsKeptFor};
+ghost use Rattle.step_runner.specs.Noted.{noted};
+ghost use Rattle.step_runner.specs.Traces.{unless_over, traced_turn, traced_from, all_rounds_traced, trace_of};
 ghost use Rattle.step_runner.specs.Turns.{item_of, items_of, round, has_ended};
 ghost use Rattle.step_runner.specs.Computed.{all_rounds, behind_schedule, outcome_of, turns};
 
 use crate::ends::ends;
 use crate::laws;
+use crate::notes::Notes;
 use crate::numbering::number_all;
 use crate::state::State;
 use crate::step::Step;
+use crate::trace::{Trace, TraceItem};
 use crate::turn::{has_next, take_turn};
 use crate::turns::laws::maps_keep_to_the_keys_of_calls;
 use crate::turns::laws::within::keys_are_kept;
@@ -28,14 +32,16 @@ fn take_item(
     workload: &Workload,
     item: Turn,
     state: &mut State,
+    trace: &mut Notes<TraceItem>,
 ) -> Result<Step, AllocError>
     requires of { IsKeptFor workload.now state.old }
     requires item { is_turn workload.now.workers item ≡ true }
     ensures item { IfOk result (λ step. item_of workload.now item state.old.state ≡ (state.new.state, step)) }
     ensures of { IfOk result (λ _. IsKeptFor workload.now state.new) }
+    ensures noted { OnOk result (trace.new ≡ noted (traced_turn workload.now item state.old.state) trace.old) }
 {
     match item {
-        Turn::Worker(worker) => take_turn(alloc, workload, worker, state),
+        Turn::Worker(worker) => take_turn(alloc, workload, worker, state, trace),
         Turn::Moment(moment) => {
             state.moment = moment;
             Ok(Step::Still)
@@ -44,14 +50,20 @@ fn take_item(
 }
 
 /// Takes the items of the schedule in order, to the first misuse.
-fn take_schedule(alloc: Global, workload: &Workload, state: &mut State) -> Result<Step, AllocError>
+fn take_schedule(
+    alloc: Global,
+    workload: &Workload,
+    state: &mut State,
+    trace: &mut Notes<TraceItem>,
+) -> Result<Step, AllocError>
     requires { IsKeptFor workload.now state.old }
     ensures items { IfOk result (λ step. items_of workload.now workload.now.schedule state.old.state ≡ (state.new.state, step)) }
     ensures of { IfOk result (λ _. IsKeptFor workload.now state.new) }
+    ensures noted { OnOk result (trace.new ≡ noted (traced_from workload.now workload.now.schedule state.old.state) trace.old) }
 {
     let mut so_far = Step::Still;
     for item in workload.schedule() {
-        match take_item(alloc, workload, *item, state)? {
+        match take_item(alloc, workload, *item, state, trace)? {
             Step::Still => {}
             Step::Made => so_far = Step::Made,
             Step::Misused(misuse) => return Ok(Step::Misused(misuse)),
@@ -61,14 +73,20 @@ fn take_schedule(alloc: Global, workload: &Workload, state: &mut State) -> Resul
 }
 
 /// Takes a round, to the first misuse: each worker from 0 up takes one turn.
-fn take_round(alloc: Global, workload: &Workload, state: &mut State) -> Result<Step, AllocError>
+fn take_round(
+    alloc: Global,
+    workload: &Workload,
+    state: &mut State,
+    trace: &mut Notes<TraceItem>,
+) -> Result<Step, AllocError>
     requires { IsKeptFor workload.now state.old }
     ensures items { IfOk result (λ step. items_of workload.now (round workload.now.workers) state.old.state ≡ (state.new.state, step)) }
     ensures of { IfOk result (λ _. IsKeptFor workload.now state.new) }
+    ensures noted { OnOk result (trace.new ≡ noted (traced_from workload.now (round workload.now.workers) state.old.state) trace.old) }
 {
     let mut so_far = Step::Still;
     for worker in 0..workload.workers() {
-        match take_turn(alloc, workload, worker, state)? {
+        match take_turn(alloc, workload, worker, state, trace)? {
             Step::Still => {}
             Step::Made => so_far = Step::Made,
             Step::Misused(misuse) => return Ok(Step::Misused(misuse)),
@@ -91,14 +109,20 @@ fn has_ended(workload: &Workload, state: &State) -> bool
 }
 
 /// Takes rounds until every worker has ended that was live, a turn is a misuse, or a whole round makes no event.
-fn take_rounds(alloc: Global, workload: &Workload, state: &mut State) -> Result<Ending, AllocError>
+fn take_rounds(
+    alloc: Global,
+    workload: &Workload,
+    state: &mut State,
+    trace: &mut Notes<TraceItem>,
+) -> Result<Ending, AllocError>
     requires { IsKeptFor workload.now state.old }
-    ensures { IfOk result (λ ending. all_rounds workload.now state.old.state ≡ (state.new.state, ending)) }
+    ensures ending { IfOk result (λ ending. all_rounds workload.now state.old.state ≡ (state.new.state, ending)) }
+    ensures noted { OnOk result (trace.new ≡ noted (all_rounds_traced workload.now state.old.state) trace.old) }
 {
     laws::events_use_something_up();
     laws::validity();
     while !has_ended(workload, state) {
-        match take_round(alloc, workload, state)? {
+        match take_round(alloc, workload, state, trace)? {
             Step::Still => return Ok(Ending::Deadlocked),
             Step::Made => {}
             Step::Misused(misuse) => return Ok(Ending::Misused(misuse)),
@@ -108,12 +132,18 @@ fn take_rounds(alloc: Global, workload: &Workload, state: &mut State) -> Result<
 }
 
 /// Takes the schedule, and behind it rounds unless a turn of the schedule was a misuse.
-fn take_all(alloc: Global, workload: &Workload, state: &mut State) -> Result<Ending, AllocError>
+fn take_all(
+    alloc: Global,
+    workload: &Workload,
+    state: &mut State,
+    trace: &mut Notes<TraceItem>,
+) -> Result<Ending, AllocError>
     requires { IsKeptFor workload.now state.old }
-    ensures { IfOk result (λ ending. behind_schedule workload.now (items_of workload.now workload.now.schedule state.old.state) ≡ (state.new.state, ending)) }
+    ensures ending { IfOk result (λ ending. behind_schedule workload.now (items_of workload.now workload.now.schedule state.old.state) ≡ (state.new.state, ending)) }
+    ensures noted { OnOk result (trace.new ≡ noted (traced_from workload.now workload.now.schedule state.old.state ++ unless_over (items_of workload.now workload.now.schedule state.old.state) (all_rounds_traced workload.now)) trace.old) }
 {
-    match take_schedule(alloc, workload, state)? {
-        Step::Still | Step::Made => take_rounds(alloc, workload, state),
+    match take_schedule(alloc, workload, state, trace)? {
+        Step::Still | Step::Made => take_rounds(alloc, workload, state, trace),
         Step::Misused(misuse) => Ok(Ending::Misused(misuse)),
     }
 }
@@ -149,6 +179,27 @@ fn outcome(
     }
 }
 
+/// Runs a workload by its schedule, and notes what each turn made where all is noted.
+fn run(
+    alloc: Global,
+    workload: &Workload,
+    trace: &mut Notes<TraceItem>,
+) -> Result<Outcome, AllocError>
+    ensures outcome { IfOk result (StepsTo workload.now) }
+    ensures computed { IfOk result (λ outcome. outcome ≡ turns workload.now) }
+    ensures pairs { IfOk result (λ outcome. shows_to MAX_KEYS outcome ≡ true) }
+    ensures forms { IfOk result (λ outcome. has_forms workload.now outcome ≡ true) }
+    ensures noted { OnOk result (trace.new ≡ noted (trace_of workload.now) trace.old) }
+{
+    maps_keep_to_the_keys_of_calls();
+    keys_are_kept();
+    laws::replies_have_their_form();
+    laws::each_run_has_one_outcome();
+    let mut state = State::start(alloc, workload)?;
+    let ending = take_all(alloc, workload, &mut state, trace)?;
+    outcome(alloc, workload, state, ending)
+}
+
 /// Runs a workload by its schedule, on one thread.
 ///
 /// The schedule's items are taken in order: a worker's number gives that worker one turn, and a moment
@@ -162,11 +213,19 @@ pub fn stepped(alloc: Global, workload: &Workload) -> Result<Outcome, AllocError
     ensures pairs { IfOk result (λ outcome. shows_to MAX_KEYS outcome ≡ true) }
     ensures forms { IfOk result (λ outcome. has_forms workload.now outcome ≡ true) }
 {
-    maps_keep_to_the_keys_of_calls();
-    keys_are_kept();
-    laws::replies_have_their_form();
-    laws::each_run_has_one_outcome();
-    let mut state = State::start(alloc, workload)?;
-    let ending = take_all(alloc, workload, &mut state)?;
-    outcome(alloc, workload, state, ending)
+    let mut trace = Notes::Nothing;
+    run(alloc, workload, &mut trace)
+}
+
+/// Runs a workload by its schedule, as `stepped` does, and gives what each turn made beside the outcome. Only want of memory is an `Err`.
+pub fn traced(alloc: Global, workload: &Workload) -> Result<(Outcome, Trace), AllocError>
+    ensures outcome { IfOk result (λ ran. ran.0 ≡ turns workload.now) }
+    ensures trace { IfOk result (λ ran. ran.1 ≡ trace_of workload.now) }
+{
+    let mut trace = Notes::All(Seq::new(alloc));
+    let outcome = run(alloc, workload, &mut trace)?;
+    match trace {
+        Notes::All(items) => Ok((outcome, Trace::from_items(items))),
+        Notes::Nothing => Ok((outcome, Trace::from_items(Seq::new(alloc)))),
+    }
 }

@@ -3,8 +3,10 @@
 
 pub mod answer;
 pub mod due;
+pub mod item;
 pub mod laws;
 pub mod lock_turn;
+mod noting;
 pub mod object_state;
 pub mod once_turn;
 pub mod plain_turn;
@@ -15,6 +17,7 @@ pub mod wait_turn;
 pub mod within;
 
 pub use answer::Answer;
+pub use item::{Deed, Item};
 pub use object_state::ObjectState;
 pub use stages::Taker;
 pub use turn::take_turn_at;

@@ -52,6 +52,8 @@ pub enum ObjectState {
     },
     /// The machine of a pool.
     Pool(PoolCore),
+    /// The value of a plain variable.
+    Var(u64),
 }
 
 /// A wait group whose counter is this at the start. No text has a start above 10,000; one above 2^31 - 1
@@ -106,6 +108,7 @@ impl ObjectState {
                 Ok(ObjectState::OnceValue { once, value })
             }
             ObjectKind::Pool => Ok(ObjectState::Pool(PoolCore::new(alloc, workers, room)?)),
+            ObjectKind::Var => Ok(ObjectState::Var(0)),
         }
     }
 

@@ -1,9 +1,15 @@
 //! What a worker's turn makes of a stage of its call.
-ghost use Rattle.std.specs.Prelude.{◌≡◌};
+ghost use Rattle.std.specs.Prelude.{◌≡◌, IfOk, OnOk};
+ghost use Rattle.step_runner.specs.Items.{stage_items};
+ghost use Rattle.step_runner.specs.Noted.{noted};
 ghost use Rattle.step_runner.specs.Stages.{outcome_of, make};
 
+use crate::notes::Notes;
 use crate::turns::answer::Answer;
-use protocols::{Protocol, Step};
+use crate::turns::item::Item;
+use crate::turns::noting::{Entered, note_event};
+use protocols::Step;
+use std::alloc::AllocError;
 
 /// Who takes a turn, and when.
 #[derive(Clone, Copy)]
@@ -14,6 +20,13 @@ pub struct Taker {
     pub workers: u32,
     /// What the clock shows, in nanoseconds.
     pub moment: u64,
+}
+
+/// The places of an object and of the one to which it refers, its target.
+#[derive(Clone, Copy)]
+pub(crate) struct Places {
+    pub(crate) object: usize,
+    pub(crate) target: usize,
 }
 
 /// What a stage comes to: an outcome, or what the turn answers without one. A call that has a later stage
@@ -29,17 +42,29 @@ fn outcome_of<G: Drop, O>(step: Step<G, O>) -> Result<O, Answer>
     }
 }
 
-/// Makes the event of the stage that is due at an object, and nothing where none is.
-pub(crate) fn make<P: Protocol>(
+/// Makes the event of the stage that is due at the object at a place, and nothing where none is. Only want of memory for what is noted
+/// is an `Err`.
+pub(crate) fn make<P: Entered>(
     due: Option<P::Stage>,
     object: &mut P::State,
+    place: usize,
     taker: Taker,
-) -> Result<P::Outcome, Answer>
-    ensures { make P.next P.event P.meaning taker.worker taker.moment due object.old ≡ (object.new, result) }
+    notes: &mut Notes<Item>,
+) -> Result<Result<P::Outcome, Answer>, AllocError>
+    ensures made { IfOk result (λ made. make P.next P.event P.meaning taker.worker taker.moment due object.old ≡ (object.new, made)) }
+    ensures noted { OnOk result (notes.new ≡ noted (stage_items P.event_word P.reply_word P.next P.event taker.worker taker.moment place due object.old) notes.old) }
 {
     let Some(stage) = due else {
-        return Err(Answer::Still);
+        return Ok(Err(Answer::Still));
     };
-    let reply = P::step(object, taker.worker, P::event(stage, taker.moment));
-    outcome_of(P::meaning(stage, &reply))
+    let event = P::event(stage, taker.moment);
+    let reply = P::step(object, taker.worker, event);
+    note_event(
+        notes,
+        taker.worker,
+        place,
+        P::event_word(event),
+        P::reply_word(reply),
+    )?;
+    Ok(outcome_of(P::meaning(stage, &reply)))
 }

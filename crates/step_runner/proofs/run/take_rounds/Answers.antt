@@ -1,7 +1,10 @@
 use Rattle.std.proofs.Common.{◌≡◌, false, sym, ap, ◌∙◌}
 use Rattle.step_runner.specs.declared.step.Step.TheVariants as steps
+use Rattle.step_runner.specs.Noted.{noted}
+use Rattle.step_runner.specs.Traces.{all_rounds_traced}
 use Rattle.step_runner.specs.Turns.{items_of, round, has_ended}
 use Rattle.step_runner.proofs.RunLemmas.{UsesUp, uses_up}
+use Rattle.step_runner.proofs.TraceLemmas.{traced_made}
 use Rattle.step_runner.proofs.RoundLemmas.{where_going, round_less}
 use Rattle.step_runner.proofs.run.take_rounds.Goals as goal
 
@@ -23,4 +26,7 @@ loop-alloc-preserved c =
     record {
       of = c.in_ok-take_round.ensures.of;
       rest = sym (where_going c.args.workload.now (c.validity.ensures.goes_on c.args.workload.now) (uses c) c.loop-alloc.state.state (c.take_round.new.state.state, steps.Made) c.loop-alloc.invariant.of.of going (event c)) ∙ c.loop-alloc.invariant.rest;
+      told = ap (noted (all_rounds_traced c.args.workload.now c.take_round.new.state.state)) c.in_ok-take_round.ensures.noted
+          ∙ traced_made c.args.workload.now (c.validity.ensures.goes_on c.args.workload.now) (uses c) c.loop-alloc.state.state c.take_round.new.state.state c.loop-alloc.trace c.loop-alloc.invariant.of.of going (event c)
+          ∙ c.loop-alloc.invariant.told;
     }

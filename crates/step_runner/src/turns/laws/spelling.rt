@@ -1,11 +1,11 @@
 //! What the items of a turn spell of its call, in the words of a record. It is said with what is left of the call to be spelt, by
 //! where its worker stands.
-ghost use Rattle.std.specs.Prelude.{◌≡◌, ◌≢◌, ℕ, ◌+◌, ◌==◌, None, List, [], filter, map, length};
+ghost use Rattle.std.specs.Prelude.{◌≡◌, ◌≢◌, ℕ, ◌+◌, ◌==◌, None, List, [], filter, map, length, false};
 ghost use Rattle.script_calls.specs.declared.call.Call.{Call};
 ghost use Rattle.script_calls.specs.declared.call.Reply.{Reply};
 ghost use Rattle.protocols.specs.Spelling.{CallAnswer};
 ghost use Rattle.workload.specs.declared.object.ObjectKind.{ObjectKind};
-ghost use Rattle.workload.specs.Draft.{all_keys};
+ghost use Rattle.workload.specs.Draft.{all_keys, is_access_operation};
 ghost use Rattle.workload.specs.Plan.{Plan};
 ghost use Rattle.run_record.specs.Calls.{SpellsCall};
 ghost use Rattle.run_record.specs.Record.{shared_in};
@@ -25,10 +25,10 @@ ghost use Rattle.step_runner.specs.Within.{IsIdle, IsWithin, StandsBehind};
 use crate::turns::laws::{machines_tell_where_callers_stand, turns_keep_kinds_and_machines};
 use workload::laws::keys_are_numbered_by_first_appearance;
 
-/// The items of a worker's turn spell what was left of its call, up to what is left behind the turn. So a turn that completes the
+/// The items of a worker's turn spell what was left of its call, unless that reads or writes a plain variable, up to what is left behind the turn. So a turn that completes the
 /// call spells all that was left, and its reply is read off the items. Another's turn leaves of the call what it was.
 pub fn turns_spell_their_calls()
-    ensures own { (plan : Plan) (worker before moment : ℕ) (call : Call) (objects : List ObjectState) → IsReady plan.workers worker call objects
+    ensures own { (plan : Plan) (worker before moment : ℕ) (call : Call) (objects : List ObjectState) → IsReady plan.workers worker call objects → is_access_operation call.operation ≡ false
         → EachAt (λ place. HasObjectKeysIn (all_keys plan.scripts)) objects → IsOutBut (waits_at (map kind_of objects) call) worker objects → IsWithin worker call objects
         → Tells plan (left_at plan worker before call objects) (left_at plan worker (before + length (shared_in (recorded plan before (items_at call worker moment objects)))) call (turn_at call worker moment objects).0)
         (recorded plan before (items_at call worker moment objects)) (turn_at call worker moment objects).1
@@ -46,13 +46,14 @@ pub fn turns_spell_their_calls()
 }
 
 /// A worker stands nowhere when a run begins. One that stands nowhere enters its next call with all of it left: whatever items
-/// spell what is left, spell the call. What is left of a call can always be spelt.
+/// spell what is left, spell the call. What is left of any other
+/// call than a read or a write of a plain variable can always be spelt.
 pub fn calls_are_entered_whole()
     ensures begins { (worker workers room : ℕ) (kind : ObjectKind) → IsIdle worker (new_object workers room kind) }
     ensures enters { (plan : Plan) (worker before : ℕ) (call : Call) (objects : List ObjectState) → IsReady plan.workers worker call objects → map kind_of objects ≡ map (λ line. line.kind) plan.objects
         → EachAt (λ place. IsIdle worker) objects → IsOutBut None worker objects
         → IsWithin worker call objects × ((items : List Made) (answer : CallAnswer (Reply ℕ)) → left_at plan worker before call objects items answer → SpellsCall plan worker before call items answer) }
-    ensures goes_on { (plan : Plan) (worker before : ℕ) (call : Call) (objects : List ObjectState) → IsReady plan.workers worker call objects
+    ensures goes_on { (plan : Plan) (worker before : ℕ) (call : Call) (objects : List ObjectState) → IsReady plan.workers worker call objects → is_access_operation call.operation ≡ false
         → (later : List Made) × (answer : CallAnswer (Reply ℕ)) × left_at plan worker before call objects later answer }
 {
     wait_cores::laws::notify::knows_where_it_stands();

@@ -17,4 +17,4 @@ pub returns-clause-enters : goal.returns-clause-enters
 returns-clause-enters c plan worker before call objects ready kinds idle out = entered plan worker before call objects ready kinds idle out
 
 pub returns-clause-goes_on : goal.returns-clause-goes_on
-returns-clause-goes_on c plan worker before call objects ready = left_can plan worker before call objects ready
+returns-clause-goes_on c plan worker before call objects ready plain = left_can plan worker before call objects ready plain

@@ -12,8 +12,8 @@ laws c = record {
 }
 
 pub returns-clause-own : goal.returns-clause-own
-returns-clause-own c plan worker before moment call objects ready keys out within =
-    own_at (laws c) (λ workers x now call objects ready. c.turns_keep_kinds_and_machines.ensures.kinds workers x now call objects ready) plan worker before moment call objects ready keys out within
+returns-clause-own c plan worker before moment call objects ready plain keys out within =
+    own_at (laws c) (λ workers x now call objects ready. c.turns_keep_kinds_and_machines.ensures.kinds workers x now call objects ready) plan worker before moment call objects ready plain keys out within
 
 pub returns-clause-others : goal.returns-clause-others
 returns-clause-others c plan worker other before moment own call objects ready_own ready apart =

@@ -25,7 +25,7 @@ other_laws c = record {
 }
 
 pub returns-clause-own : goal.returns-clause-own
-returns-clause-own c plan worker before moment begun call objects ready keys out within = own_spelt (laws c) plan worker before moment begun call.object objects call.operation ready keys out within
+returns-clause-own c plan worker before moment begun call objects ready plain keys out within = own_spelt (laws c) plan worker before moment begun call.object objects call.operation ready plain keys out within
 
 pub returns-clause-others : goal.returns-clause-others
 returns-clause-others c plan worker other before moment begun later own call objects ready by apart = others_kept (other_laws c) plan worker other before moment apart own begun later call.object objects ready call.operation by
