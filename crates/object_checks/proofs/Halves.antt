@@ -23,6 +23,7 @@ no_journal journal = (λ none. (none, none_keep journal none), λ both. both.0)
 
 pub halves : (plan : Plan) (place : ℕ) (kind : ObjectKind) (journal : List ObjectEntry) → (IsJournalOf plan place kind journal ↔ IsMachineJournal plan.workers kind journal × KeepsEdges frees takes journal)
 halves plan place kinds.Map journal = no_journal journal
+halves plan place kinds.Var journal = no_journal journal
 halves plan place (kinds.Atomic type) journal = no_journal journal
 halves plan place kinds.Mutex journal = is_two event.Mutex reply.Mutex mutex.next (mutex.start plan.workers) journal
 halves plan place kinds.RwMutex journal = is_two event.RwMutex reply.RwMutex rw.next (rw.start plan.workers) journal

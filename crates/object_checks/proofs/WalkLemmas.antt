@@ -41,6 +41,7 @@ kind_fits others (x ∷ objects) may (suc place) o here = kind_fits (others ++ x
 -- a kind that is no pool
 pub no_pool : (kind : ObjectKind) → (kind ≡ Pool → ⊥) → is_pool kind ≡ false
 no_pool kinds.Map other = refl
+no_pool kinds.Var other = refl
 no_pool (kinds.Atomic type) other = refl
 no_pool kinds.Mutex other = refl
 no_pool kinds.RwMutex other = refl

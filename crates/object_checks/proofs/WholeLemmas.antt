@@ -31,6 +31,7 @@ starts_halves dormant journal = is_two event.Starts reply.Starts next (begun dor
 
 pool_is : (kind : ObjectKind) → is_pool kind ≡ true → kind ≡ kinds.Pool
 pool_is kinds.Map is = absurd cc
+pool_is kinds.Var is = absurd cc
 pool_is (kinds.Atomic type) is = absurd cc
 pool_is kinds.Mutex is = absurd cc
 pool_is kinds.RwMutex is = absurd cc

@@ -35,6 +35,7 @@ module _ {S E R : Type 0} (event : E → ObjectEvent) (reply : R → ObjectReply
 -- the journal follows the machine of the object's kind from the declared start. A map and an atomic have none, and a pool has those of its parts
 abbrev pub IsMachineJournal : ℕ → ObjectKind → List ObjectEntry → Type 0
 IsMachineJournal workers kinds.Map journal = journal ≡ []
+IsMachineJournal workers kinds.Var journal = journal ≡ []
 IsMachineJournal workers (kinds.Atomic type) journal = journal ≡ []
 IsMachineJournal workers kinds.Mutex journal = FollowsMachine event.Mutex reply.Mutex mutex.next (mutex.start workers) journal
 IsMachineJournal workers kinds.RwMutex journal = FollowsMachine event.RwMutex reply.RwMutex rw.next (rw.start workers) journal

@@ -19,6 +19,7 @@ none_without journal is = ap (λ (es : List ObjectEntry). without_fronts es) is
 
 pub aside_of_kind : (plan : Plan) (place : ℕ) (kind : ObjectKind) (journal : List ObjectEntry) → IsJournalOf plan place kind journal → IsJournalOf plan place kind (without_fronts journal)
 aside_of_kind plan place kinds.Map journal is = none_without journal is
+aside_of_kind plan place kinds.Var journal is = none_without journal is
 aside_of_kind plan place (kinds.Atomic type) journal is = none_without journal is
 aside_of_kind plan place kinds.Mutex journal is = set_aside event.Mutex reply.Mutex _ _ _ _ journal is
 aside_of_kind plan place kinds.RwMutex journal is = set_aside event.RwMutex reply.RwMutex _ _ _ _ journal is
@@ -37,6 +38,7 @@ aside_of_starts dormant journal is = set_aside event.Starts reply.Starts _ _ _ _
 
 pub back_of_kind : (plan : Plan) (place : ℕ) (kind : ObjectKind) (journal : List ObjectEntry) → IsJournalOf plan place kind (without_fronts journal) → KeepsEdges frees takes journal → IsJournalOf plan place kind journal
 back_of_kind plan place kinds.Map journal is keeps = none_left journal is
+back_of_kind plan place kinds.Var journal is keeps = none_left journal is
 back_of_kind plan place (kinds.Atomic type) journal is keeps = none_left journal is
 back_of_kind plan place kinds.Mutex journal is keeps = put_back event.Mutex reply.Mutex _ _ frees takes _ _ journal is keeps
 back_of_kind plan place kinds.RwMutex journal is keeps = put_back event.RwMutex reply.RwMutex _ _ frees takes _ _ journal is keeps

@@ -1,5 +1,5 @@
 -- That a claim without ranges has one account.
-use Rattle.std.proofs.Common.{◌≡◌, ℕ, zero, suc, Bool, true, List, [], ◌∷◌, ◌++◌, map, get_or, Option, None, Some, slice_get, refl, sym, ap, ◌∙◌, subst}
+use Rattle.std.proofs.Common.{◌≡◌, ℕ, zero, suc, Bool, true, List, [], ◌∷◌, ◌++◌, map, get_or, Option, None, Some, slice_get, drop, refl, sym, ap, ◌∙◌, subst}
 use Rattle.std.specs.Prelude.{All}
 use Rattle.std.specs.List.{list_all}
 use Rattle.std.proofs.lemmas.Bool.{and_parts}
@@ -9,7 +9,10 @@ use Rattle.script_calls.specs.declared.call.Call.{Call}
 use Rattle.script_calls.specs.declared.call.Reply.{Reply}
 use Rattle.script_calls.specs.declared.outcome.Report.{Report}
 use Rattle.script_calls.specs.Outcome.{left_by}
-use Rattle.script_calls.specs.Runs.{RunsAlong}
+use Rattle.script_calls.specs.Runs.{RunsAlong, passed_over}
+use Rattle.script_calls.specs.declared.call.Operation.{Operation}
+use Rattle.script_calls.specs.declared.call.Operation.TheVariants as operations
+use Rattle.workload.specs.Keys.{keys_in}
 use Rattle.sync_types.specs.declared.end.End.{End}
 use Rattle.sync_types.specs.declared.misuse.Misuse.{Misuse}
 use Rattle.sync_model.specs.declared.item.SharedEntry.{SharedEntry}
@@ -17,12 +20,12 @@ use Rattle.sync_model.specs.SharedHistory.{contents_after}
 use Rattle.workload.specs.Plan.{Plan}
 use Rattle.run_record.specs.declared.made.Made.{Made}
 use Rattle.run_record.specs.Explains.{HasEnded, IsAtEnd}
-use Rattle.run_record.specs.Lines.{Line, LineEnd, whole, misused, halted, unfinished, stayed, never, stopped, waits, calls_made, items_of, replies_of, IsLineOf}
+use Rattle.run_record.specs.Lines.{Line, LineEnd, SpeltCall, whole, misused, halted, unfinished, stayed, never, stopped, waits, calls_made, items_of, replies_of, IsLineOf}
 use Rattle.run_record.specs.Objects.{contents_of, ends_in}
 use Rattle.run_record.specs.Record.{ObjectEntry}
 use Rattle.run_cuts.specs.CallCuts.{call_cut, is_told}
 use Rattle.run_cuts.specs.LineCuts.{line_cut}
-use Rattle.run_cuts.specs.OneLine.{CutsLines}
+use Rattle.run_cuts.specs.OneLine.{CutsLines, SettlesEach, settled_as, settles_by, with_calls}
 use Rattle.run_cuts.specs.StartsCuts.{opening_cut, closing_cut}
 use Rattle.record_clauses.specs.declared.clause.Clause.{Clause}
 use Rattle.record_clauses.specs.declared.clause.Clause.TheVariants as clause
@@ -65,9 +68,45 @@ script_told p [] worker is = refl
 script_told p (script ∷ scripts) zero is = (and_parts (list_all p script) (list_all (λ s. list_all p s) scripts) is).0
 script_told p (script ∷ scripts) (suc worker) is = script_told p scripts worker (and_parts (list_all p script) (list_all (λ s. list_all p s) scripts) is).1
 
--- where no call is a range, lists are cut into lines
+-- lists are cut into lines
 abbrev pub ListsAreCut : Type 0
-ListsAreCut = (plan : Plan) (worker : ℕ) → CutsLines plan worker (opening_cut plan worker) (closing_cut plan worker) (λ call. is_told call.operation) (λ before call. call_cut plan worker call)
+ListsAreCut = (plan : Plan) (worker : ℕ) → CutsLines plan worker (opening_cut plan worker) (closing_cut plan worker) (settles_by plan) (call_cut plan worker)
+
+-- but for a range, a reply that is told is the reply
+told_one : (keys : List (List ℕ)) (operation : Operation) (told reply : Reply ℕ) → is_told operation ≡ true → settled_as keys operation told reply → told ≡ reply
+told_one keys (operations.Map call) told reply is same = same
+told_one keys operations.Range told reply is same = absurd cc
+told_one keys (operations.Atomic call) told reply is same = same
+told_one keys (operations.Mutex call) told reply is same = same
+told_one keys (operations.RwMutex call) told reply is same = same
+told_one keys (operations.Cond call) told reply is same = same
+told_one keys (operations.WaitGroup call) told reply is same = same
+told_one keys operations.Once told reply is same = same
+told_one keys operations.OnceFunc told reply is same = same
+told_one keys operations.OnceValue told reply is same = same
+told_one keys (operations.Pool call) told reply is same = same
+told_one keys (operations.Var call) told reply is same = same
+told_one keys (operations.Composed call) told reply is same = same
+
+-- no call is a range
+abbrev no_ranges : List Call → Bool
+no_ranges script = list_all (λ call. is_told call.operation) script
+
+none_dropped : (n : ℕ) (script : List Call) → no_ranges script ≡ true → no_ranges (drop n script) ≡ true
+none_dropped zero script is = is
+none_dropped (suc n) [] is = refl
+none_dropped (suc n) (call ∷ script) is = none_dropped n script (and_parts (is_told call.operation) (no_ranges script) is).1
+
+-- so it is of the completed calls, and their replies are those that are told
+same_spelt : (plan : Plan) (script : List Call) (told spelt : List SpeltCall) (rest : List Call) → no_ranges script ≡ true → RunsAlong script (map (λ (one : SpeltCall). (one.call, one.reply)) spelt) rest
+    → SettlesEach (settles_by plan) told spelt → told ≡ spelt
+same_spelt plan script [] spelt rest none runs each = sym each
+same_spelt plan script (first ∷ told) [] rest none runs each = absurd each
+same_spelt plan script (first ∷ told) (one ∷ spelt) rest none (behind, is, later) (calls, items, settles, each) =
+    let parts = and_parts (is_told one.call.operation) (no_ranges behind) (subst (λ (l : List Call). no_ranges l ≡ true) is none) in
+    let same : first.reply ≡ one.reply = told_one (keys_in plan.scripts) first.call.operation first.reply one.reply (subst (λ (call : Call). is_told call.operation ≡ true) calls parts.0) settles in
+    let more = same_spelt plan (drop (passed_over one.call one.reply) behind) told spelt rest (none_dropped (passed_over one.call one.reply) behind parts.1) later each in
+    λ i. (record { call = sym calls i; items = sym items i; reply = same i }) ∷ more i
 
 abbrev pub AllEnded : Account → Type 0
 AllEnded account = All (λ line. HasEnded line.ending) account.lines
@@ -84,8 +123,13 @@ at_end (stayed waits) is = is
 module _ (claim : Claim) (cuts : ListsAreCut) (told : has_no_range claim.plan ≡ true) where
   -- a line that has ended is what its items and its script are cut into
   cut_of : (worker : ℕ) (line : Line) → RunsAlong (get_or claim.plan.scripts worker []) (calls_made line) line.rest → HasEnded line.ending → IsLineOf claim.plan worker line
-      → line_cut (opening_cut claim.plan worker) (closing_cut claim.plan worker) (λ before call. call_cut claim.plan worker call) 0 (get_or claim.plan.scripts worker []) (items_of line) ≡ Some line
-  cut_of worker line runs ended is = (cuts claim.plan worker).is_cut (get_or claim.plan.scripts worker []) line (script_told (λ call. is_told call.operation) claim.plan.scripts worker told) runs ended is
+      → line_cut (opening_cut claim.plan worker) (closing_cut claim.plan worker) (call_cut claim.plan worker) 0 (get_or claim.plan.scripts worker []) (items_of line) ≡ Some line
+  cut_of worker line runs ended is =
+      let script = get_or claim.plan.scripts worker [] in
+      let found = (cuts claim.plan worker).is_cut script line runs ended is in
+      let spelt = same_spelt claim.plan script found.0.spelt line.spelt line.rest (script_told (λ call. is_told call.operation) claim.plan.scripts worker told) runs found.2 in
+      let same : found.0 ≡ line = ap (λ (calls : List SpeltCall). with_calls found.0 calls) spelt ∙ found.3 in
+      found.1 ∙ ap Some same
 
   pub lines_once : (one other : Account) → IsSpelt claim one → IsSpelt claim other → AllEnded one → AllEnded other → map before_halts one.lines ≡ map before_halts other.lines
   lines_once one other first second ended also = same_by items_of (map before_halts one.lines) (map before_halts other.lines) (first.lines.lists ∙ sym second.lines.lists) apart where
@@ -99,7 +143,7 @@ module _ (claim : Claim) (cuts : ListsAreCut) (told : has_no_range claim.plan �
         let cut_x = cut_of n x (first.lines.runs n x at_x) (has_ended one ended n x at_x) (first.lines.each n x at_x) in
         let cut_y = cut_of n y (second.lines.runs n y at_y) (has_ended other also n y at_y) (second.lines.each n y at_y) in
         same_Some x y (sym cut_x
-        ∙ ap (λ (items : List Made). line_cut (opening_cut claim.plan n) (closing_cut claim.plan n) (λ before call. call_cut claim.plan n call) 0 (get_or claim.plan.scripts n []) items) same ∙ cut_y)
+        ∙ ap (λ (items : List Made). line_cut (opening_cut claim.plan n) (closing_cut claim.plan n) (call_cut claim.plan n) 0 (get_or claim.plan.scripts n []) items) same ∙ cut_y)
 
   -- ---- the account
 

@@ -43,7 +43,9 @@ fn kind_of(kind: ObjectKind) -> JournalKind
     ensures { result ≡ kind_of kind }
 {
     match kind {
-        ObjectKind::Map | ObjectKind::Atomic(_) | ObjectKind::Pool => JournalKind::Empty,
+        ObjectKind::Map | ObjectKind::Atomic(_) | ObjectKind::Pool | ObjectKind::Var => {
+            JournalKind::Empty
+        }
         ObjectKind::Mutex => JournalKind::Mutex,
         ObjectKind::RwMutex => JournalKind::RwMutex,
         ObjectKind::Cond { .. } => JournalKind::Cond,

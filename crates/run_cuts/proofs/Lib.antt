@@ -9,6 +9,7 @@ mod PoolCut
 mod RangeCut
 mod RwMutexCut
 mod SharedCut
+mod SortedPairs
 mod StartsCut
 mod WaitForCut
 mod WriterCut

@@ -25,7 +25,9 @@ use Rattle.run_record.specs.declared.made.Made.{Made}
 use Rattle.run_record.specs.Parts.{lifted_deed}
 use Rattle.run_record.specs.RwMutexKind.{RwDeed, asks, is_still, up_to_the_last, without_stills, WriteLocks, write_part}
 use Rattle.run_cuts.specs.Cuts.{Cuts, answers_by, goes_to, no_call}
-use Rattle.run_cuts.specs.RwMutexCuts.{WriterStage, arriving, queued, inner, after_readers, WriterMove, arrival_move, woken_move, leave_move, still_move, writer_move, rw_event_in, rw_reply_in, rw_deed_in, event_deed, refused_deed, is_writer_event, by_rw_deed, write_cut}
+use Rattle.run_cuts.specs.declared.writer.WriterStage.{WriterStage}
+use Rattle.run_cuts.specs.declared.writer.WriterStage.TheVariants.{Arriving as arriving, Queued as queued, Inner as inner, AfterReaders as after_readers}
+use Rattle.run_cuts.specs.RwMutexCuts.{WriterMove, arrival_move, woken_move, leave_move, still_move, writer_move, rw_event_in, rw_reply_in, rw_deed_in, event_deed, refused_deed, is_writer_event, by_rw_deed, write_cut}
 use Rattle.run_cuts.proofs.CutLemmas.{Goes, IsMoveOf, IsMoves, alike_cuts, deeds_cuts, entries_part}
 
 -- ---- the deeds of a lock, by its moves

@@ -24,6 +24,8 @@ use Rattle.run_record.specs.declared.entered.ObjectEvent.{ObjectEvent}
 use Rattle.run_record.specs.declared.entered.ObjectEvent.TheVariants as event
 use Rattle.run_record.specs.declared.entered.ObjectReply.{ObjectReply}
 use Rattle.run_record.specs.declared.entered.ObjectReply.TheVariants as reply
+use Rattle.run_cuts.specs.declared.writer.WriterStage.{WriterStage}
+use Rattle.run_cuts.specs.declared.writer.WriterStage.TheVariants.{Arriving as arriving, Queued as queued, Inner as inner, AfterReaders as after_readers}
 use Rattle.run_cuts.specs.Cuts.{Cutter, Move, answers_by, goes_to, no_call, move, read_cut, stages_cut}
 
 abbrev pub rw_event_in : ObjectEvent → Option RwEvent
@@ -50,13 +52,6 @@ is_rw_event stage.LeaveReading Leave = true
 is_rw_event from event = false
 
 -- ---- a writer's lock
-
--- where a writer is in its lock
-pub data WriterStage : Type 0 where
-  arriving : WriterStage  -- it arrives
-  queued : WriterStage  -- it waits, and its arrival didn't tell whether at the mutex that writers go through or behind readers
-  inner : WriterStage  -- it waits at that mutex
-  after_readers : WriterStage  -- it waits behind readers
 
 abbrev pub WriterMove : Type 0
 WriterMove = Move WriterStage LockReply

@@ -20,7 +20,7 @@ ghost use Rattle.run_cuts.specs.Cuts.{Cuts, Cutter};
 ghost use Rattle.run_cuts.specs.GroupCuts.{group_cut};
 ghost use Rattle.run_cuts.specs.MutexCuts.{mutex_cut};
 ghost use Rattle.run_cuts.specs.OnceCuts.{do_cut, func_cut, value_cut};
-ghost use Rattle.run_cuts.specs.OneLine.{CutsCalls, CutsLines};
+ghost use Rattle.run_cuts.specs.OneLine.{CutsCalls, CutsLines, settles_by};
 ghost use Rattle.run_cuts.specs.PoolCuts.{pool_cut};
 ghost use Rattle.run_cuts.specs.RangeCuts.{CutsRange};
 ghost use Rattle.run_cuts.specs.RwMutexCuts.{rw_mutex_cut};
@@ -63,19 +63,21 @@ pub fn the_items_of_a_range_are_cut()
 /// A call of a workload is cut from a list by a function just as it is spelt, but for a `range`. Its items don't fix its reply: the
 /// pairs are sorted by the names of their keys, and two pairs whose keys have one name may stand in either order. So it is where a key is
 /// shown twice, and where numbers are shown that are no key's, which have one name, the empty one. That neither happens follows from
-/// the whole record, and not from one list.
+/// the whole record, and not from one list. So of a `range` the function tells the pairs in the order in which they were shown, and it may
+/// reply each order that sorts them.
 pub fn a_call_is_cut_as_it_is_spelt()
-    ensures { (plan : Plan) (worker before : ℕ) (call : Call) → is_told call.operation ≡ true → Cuts (SpellsCall plan worker before call) (call_cut plan worker call) }
+    ensures told { (plan : Plan) (worker before : ℕ) (call : Call) → is_told call.operation ≡ true → Cuts (SpellsCall plan worker before call) (call_cut plan worker before call) }
+    ensures each { (plan : Plan) (worker : ℕ) → CutsCalls plan worker (settles_by plan) (call_cut plan worker) }
 {}
 
 /// Where each call of a script, and what stands before and behind the script, is cut as it is spelt, a list and the script are cut into
 /// one line: what stands before the script, the calls that returned, along a run of the script, and what stands behind them. What they
-/// are cut into is a line of them, and a line of them that has ended is what they are cut into. So it is of
-/// the list of each worker whose script has no `range`, whether it waits to be started or not. A worker that hasn't ended may have made
+/// are cut into, with the replies of each `range` sorted, is a line of them, and a line of them that has ended is what they are cut into. So it is of
+/// the list of each worker, whether it waits to be started or not. A worker that hasn't ended may have made
 /// all the items of its last call, and not have returned from it. Its list is the same as if it had, so the list doesn't tell, and the
 /// function takes the call as done.
 pub fn a_list_is_cut_into_one_line()
-    ensures by { (plan : Plan) (worker : ℕ) (opens : Cutter Bool) (closes : Cutter (Unit {0})) (told : Call → Bool) (cut : ℕ → Call → Cutter (Reply ℕ))
-        → Cuts (opening plan worker) opens → Cuts (closing plan worker) closes → CutsCalls plan worker told cut → CutsLines plan worker opens closes told cut }
-    ensures lines { (plan : Plan) (worker : ℕ) → CutsLines plan worker (opening_cut plan worker) (closing_cut plan worker) (λ call. is_told call.operation) (λ before call. call_cut plan worker call) }
+    ensures by { (plan : Plan) (worker : ℕ) (opens : Cutter Bool) (closes : Cutter (Unit {0})) (cut : ℕ → Call → Cutter (Reply ℕ))
+        → Cuts (opening plan worker) opens → Cuts (closing plan worker) closes → CutsCalls plan worker (settles_by plan) cut → CutsLines plan worker opens closes (settles_by plan) cut }
+    ensures lines { (plan : Plan) (worker : ℕ) → CutsLines plan worker (opening_cut plan worker) (closing_cut plan worker) (settles_by plan) (call_cut plan worker) }
 {}

@@ -66,6 +66,7 @@ pub(crate) fn follows_kind(
         ObjectKind::Map => Ok(journal.is_empty()),
         ObjectKind::Atomic(_) => Ok(journal.is_empty()),
         ObjectKind::Pool => Ok(journal.is_empty()),
+        ObjectKind::Var => Ok(journal.is_empty()),
         ObjectKind::Mutex => {
             let start = MutexCore::new(alloc, workers)?;
             Ok(follows_machine::<MutexCore>(start, journal))

@@ -1,0 +1,9 @@
+pub mod SpellCalls
+pub mod SpellLines
+pub mod SpellLists
+pub mod SpellObjects
+pub mod SpellParts
+pub mod SpellRanges
+pub mod SpellStages
+pub mod SpellTurns
+pub mod SpellWhole

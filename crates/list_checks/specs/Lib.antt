@@ -1,0 +1,2 @@
+pub mod SpellFound
+pub mod SpellLines
