@@ -7,6 +7,8 @@ mod canonical;
 #[cfg(test)]
 mod generator;
 #[cfg(test)]
+mod race_texts;
+#[cfg(test)]
 mod reader;
 #[cfg(test)]
 mod record;
