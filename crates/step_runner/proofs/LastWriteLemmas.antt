@@ -3,7 +3,6 @@ use Rattle.std.proofs.Common.{◌≡◌, ℕ, zero, suc, ◌+◌, false, List, [
 use Rattle.std.proofs.lemmas.List.{map-append}
 use Rattle.std.specs.Prelude.{Bool, true, ◌||◌, slice_get}
 use Rattle.std.specs.List.{flat_map, list_any}
-use Rattle.script_calls.specs.declared.call.Call.{Call}
 use Rattle.script_calls.specs.declared.call.Operation.{Operation}
 use Rattle.script_calls.specs.declared.call.Operation.TheVariants as operations
 use Rattle.script_calls.specs.declared.call.Reply.{Reply}
@@ -26,7 +25,6 @@ use Rattle.step_runner.specs.State.{State}
 use Rattle.step_runner.specs.LeadsTo.{on_object, CallsTo, VarGoes, LeadsTo}
 use Rattle.step_runner.specs.Objects.{new_object, kind_of}
 use Rattle.step_runner.specs.declared.ends.VariableEnd.{VariableEnd}
-use Rattle.step_runner.specs.declared.turns.item.Deed.{Deed}
 use Rattle.step_runner.specs.declared.turns.item.Deed.TheVariants as deeds
 use Rattle.step_runner.specs.declared.turns.item.Item.{Item}
 use Rattle.step_runner.specs.declared.turns.object_state.ObjectState.{ObjectState}

@@ -1,6 +1,6 @@
 //! What is noted of a run as it goes.
 ghost use Rattle.std.specs.Prelude.{◌≡◌, OnOk};
-ghost use Rattle.step_runner.specs.Noted.{one_noted, noted, begun_as, joined};
+ghost use Rattle.step_runner.specs.Noted.{one_noted, noted, begun_as, joined, so_far_of};
 
 use std::alloc::{AllocError, Global};
 use sync_types::Seq;
@@ -62,6 +62,16 @@ impl<T> Notes<T> {
         match apart {
             Notes::Nothing => Ok(()),
             Notes::All(more) => self.note_all(more),
+        }
+    }
+
+    /// What is noted so far.
+    pub fn into_items(self, alloc: Global) -> Seq<T>
+        ensures { result ≡ so_far_of self }
+    {
+        match self {
+            Notes::Nothing => Seq::new(alloc),
+            Notes::All(so_far) => so_far,
         }
     }
 }

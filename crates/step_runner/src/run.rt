@@ -244,13 +244,10 @@ pub fn traced(alloc: Global, workload: &Workload) -> Result<TracedRun, AllocErro
 {
     let mut trace = Notes::All(Seq::new(alloc));
     let (outcome, variables) = run(alloc, workload, &mut trace)?;
-    let items = match trace {
-        Notes::All(items) => items,
-        Notes::Nothing => Seq::new(alloc),
-    };
+    let trace = Trace::from_items(trace.into_items(alloc));
     Ok(TracedRun {
         outcome,
-        trace: Trace::from_items(items),
+        trace,
         variables,
     })
 }

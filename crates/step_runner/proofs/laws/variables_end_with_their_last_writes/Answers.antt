@@ -1,4 +1,4 @@
-use Rattle.std.proofs.Common.{◌≡◌, List, sym, ap, ◌∙◌, subst}
+use Rattle.std.proofs.Common.{◌≡◌, List, sym, ap, ◌∙◌}
 use Rattle.workload.specs.Plan.{Plan, is_valid}
 use Rattle.workload.specs.declared.turn.Turn.{Turn}
 use Rattle.std.specs.Prelude.{true, ◌++◌}
