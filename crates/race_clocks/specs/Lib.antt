@@ -1,0 +1,5 @@
+pub mod Channels
+pub mod Deeds
+pub mod HappensBefore
+pub mod Races
+pub mod Seen
