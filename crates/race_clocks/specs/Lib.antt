@@ -2,4 +2,5 @@ pub mod Channels
 pub mod Deeds
 pub mod HappensBefore
 pub mod Races
+pub mod Rows
 pub mod Seen

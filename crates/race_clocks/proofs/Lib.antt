@@ -1,0 +1,4 @@
+pub mod Order
+pub mod Ordered
+pub mod Quiet
+pub mod Turns
