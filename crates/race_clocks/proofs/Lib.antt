@@ -1,4 +1,9 @@
 pub mod Order
 pub mod Ordered
+pub mod Puts
 pub mod Quiet
+pub mod RaceLaws
+pub mod Readers
+pub mod Shared
+pub mod Signals
 pub mod Turns

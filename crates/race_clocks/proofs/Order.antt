@@ -1,9 +1,9 @@
 -- Before is an order, and the least one that holds the edges.
-use Rattle.std.proofs.Common.{◌≡◌, ◌⊎◌, inl, inr, ℕ, ◌<◌, Bool, true, List, [], ◌∷◌, Some, slice_get, IsTrue, arith}
+use Rattle.std.proofs.Common.{◌⊎◌, inl, inr, ℕ, ◌<◌, Bool, List, [], ◌∷◌, IsTrue, arith}
 use Rattle.workload.specs.Plan.{Plan}
 use Rattle.step_runner.specs.declared.trace.TraceItem.{TraceItem}
-use Rattle.race_clocks.specs.Channels.{Channel, takes_in}
-use Rattle.race_clocks.specs.HappensBefore.{done_before, Stands, Meets, Edge, Leads, Before}
+use Rattle.race_clocks.specs.Channels.{Channel}
+use Rattle.race_clocks.specs.HappensBefore.{Meets, Edge, Leads, Before}
 use Rattle.race_clocks.specs.Rows.{IsHanded, IsOwn}
 
 module _ (plan : Plan) (trace : List TraceItem) where

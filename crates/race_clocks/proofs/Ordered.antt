@@ -1,24 +1,23 @@
 -- The rows of the table of edges, each by its channel.
-use Rattle.std.proofs.Common.{◌≡◌, ◌⊎◌, inl, inr, ℕ, ℤ, negsuc, ◌<◌, Bool, true, false, ◌==◌, ◌&&◌, not, ◌≢◌, List, [], ◌∷◌, ◌++◌, Option, Some, slice_get, refl, sym, ap, ◌∙◌, subst, arith}
-use Rattle.std.specs.Prelude.{All, cond}
-use Rattle.std.specs.List.{fold, list_any}
+use Rattle.std.proofs.Common.{◌≡◌, ◌⊎◌, inl, inr, ℕ, negsuc, ◌<◌, true, false, ◌==◌, ◌&&◌, not, ◌≢◌, List, [], ◌∷◌, ◌++◌, Option, Some, slice_get, refl, sym, ap, ◌∙◌}
+use Rattle.std.specs.Prelude.{All}
+use Rattle.std.specs.List.{list_any}
 use Rattle.std.proofs.lemmas.Bool.{false≢true, and_parts, and_from, eq-eqb, eqb-true, ne_eqb, cases_Bool}
 use Rattle.std.proofs.lemmas.List.Folds.{list_any_none}
 use Rattle.std.proofs.lemmas.List.Sums.{fold-append}
 use Rattle.script_calls.specs.declared.call.Call.{Call}
 use Rattle.wait_cores.specs.NotifyMachine as notify
-use Rattle.wait_cores.specs.declared.notify.NotifyPlace.{NotifyPlace}
 use Rattle.wait_cores.specs.declared.notify.NotifyPlace.TheVariants as places
 use Rattle.workload.specs.Plan.{Plan}
 use Rattle.step_runner.specs.declared.trace.TraceItem.{TraceItem}
 use Rattle.step_runner.specs.declared.turns.item.Deed.{Deed}
 use Rattle.step_runner.specs.declared.turns.item.Item.{Item}
-use Rattle.race_clocks.specs.Channels.{Channel, MutexUnlock, WriterUnlock, ReaderUnlock, Notice, Lowering, FunctionEnd, PutItem, Start, Atomic, MapKey, gives, takes, is_first_of, hands_on, sets}
+use Rattle.race_clocks.specs.Channels.{Channel, MutexUnlock, WriterUnlock, ReaderUnlock, Notice, Lowering, FunctionEnd, PutItem, Start, Atomic, MapKey, gives, takes, hands_on, sets}
 use Rattle.race_clocks.specs.Deeds.{unlocks_mutex, locks_mutex, unlocks_as_writer, unlocks_as_reader, locks_rw_mutex, is_writers_call, leaves_cond, lowers_group, returns_from_group, ends_once, returns_from_once, starts_worker, enters_atomic, finds_atomic, finds_in_map}
-use Rattle.race_clocks.specs.Seen.{NumberedPool, is_waiting, is_notified, is_told, cond_by, cond_behind, notifies, pool_behind, is_kept_put, takes_put, map_behind, enters_key}
+use Rattle.race_clocks.specs.Seen.{NumberedPool, is_waiting, is_notified, cond_by, cond_behind, notifies, pool_behind, is_kept_put, takes_put, map_behind, enters_key}
 use Rattle.race_clocks.specs.HappensBefore.{done_before, Stands, Before}
 use Rattle.race_clocks.specs.Rows.{item, Makes, earlier_of, IsMutexUnlock, free, woke, handed, IsMutexLock, at_once, tried, resumed, writer_unlock, reader_unlock, IsRwLock, reader_at_once, reader_tried, writer_at_once, writer_tried, writer_resumed, left, IsWritersCall, lock, try_lock, leaving, added, IsGroupReturn, IsOnceEnd, once, once_func, once_value, IsOnceReturn, once_left, once_func_left, once_value_left, put, start_of}
-use Rattle.race_clocks.proofs.Turns.{here, Found, found, hands_at, Kept, not_replaced, met}
+use Rattle.race_clocks.proofs.Turns.{here, Found, found, Kept, not_replaced, met}
 
 mutex_unlocks : {d : Deed} → IsMutexUnlock d → unlocks_mutex d ≡ true
 mutex_unlocks free = refl

@@ -1,5 +1,5 @@
 -- What hands on nothing, and what takes in nothing.
-use Rattle.std.proofs.Common.{◌≡◌, ◌≢◌, ◌⊎◌, inl, inr, ℕ, ℤ, ◌<◌, Bool, true, false, ◌==◌, ◌&&◌, not, List, [], ◌∷◌, ◌++◌, Option, Some, slice_get, length, refl, sym, ap, ◌∙◌, subst, arith}
+use Rattle.std.proofs.Common.{◌≡◌, ◌⊎◌, inl, inr, ℕ, Bool, true, false, ◌==◌, ◌&&◌, List, ◌∷◌, ◌++◌, Option, refl, sym, ap, ◌∙◌, subst, arith}
 use Rattle.std.specs.Prelude.{Contains, cond}
 use Rattle.std.proofs.lemmas.Bool.{false≢true, and_parts, and_right, cases_Bool}
 use Rattle.std.proofs.lemmas.List.Elements.{Contains-append_right}
@@ -8,7 +8,6 @@ use Rattle.wait_cores.specs.GroupEdges.{group_releases, group_acquires}
 use Rattle.wait_cores.specs.declared.group.GroupEvent.{GroupEvent}
 use Rattle.wait_cores.specs.declared.group.GroupEvent.TheVariants.{Add, Wait, Leave}
 use Rattle.wait_cores.specs.declared.group.GroupReply.TheVariants.{Misused}
-use Rattle.pool_core.specs.declared.pool_event.PoolEvent.{PoolEvent}
 use Rattle.wait_cores.specs.NotifyMachine as notify
 use Rattle.wait_cores.specs.declared.notify.NotifyPlace.{NotifyPlace}
 use Rattle.wait_cores.specs.declared.notify.NotifyPlace.TheVariants as places
@@ -16,10 +15,10 @@ use Rattle.workload.specs.Plan.{Plan}
 use Rattle.step_runner.specs.declared.trace.TraceItem.{TraceItem}
 use Rattle.step_runner.specs.declared.turns.item.Deed.{Deed}
 use Rattle.step_runner.specs.declared.turns.item.Item.{Item}
-use Rattle.race_clocks.specs.Channels.{Channel, MutexUnlock, WriterUnlock, ReaderUnlock, Notice, Lowering, FunctionEnd, PutItem, Start, Atomic, MapKey, gives, takes, is_first_of, hands_on, takes_in, some_item}
-use Rattle.race_clocks.specs.Deeds.{unlocks_mutex, locks_mutex, unlocks_as_writer, unlocks_as_reader, locks_rw_mutex, is_writers_call, leaves_cond, lowers_group, returns_from_group, ends_once, returns_from_once, starts_worker, enters_atomic, finds_atomic, finds_in_map, is_on}
-use Rattle.race_clocks.specs.Seen.{NumberedPool, is_put, is_waiting, is_notified, is_told, cond_made, cond_by, cond_behind, notifies, pool_behind, is_kept_put, takes_put, Named, map_behind, enters_key}
-use Rattle.race_clocks.specs.Rows.{item, IsMutexUnlock, free, woke, handed, IsMutexLock, at_once, tried, resumed, IsRwLock, reader_at_once, reader_tried, writer_at_once, writer_tried, writer_resumed, left, IsGroupReturn, IsOnceEnd, once, once_func, once_value, IsOnceReturn, once_left, once_func_left, once_value_left, EachDoes, IsSilent, mutex_locked, mutex_misused, rw_locked, rw_misused, raised, group_misused, group_returned, once_returned, pool_taken, pool_missed, pool_dropped, pool_swept, loaded, not_swapped, key_loaded, ranged, accessed, IsDeaf, mutex_failed, mutex_queued, mutex_requeued, mutex_unlocked, rw_failed, rw_queued, rw_waits, rw_requeued, rw_unlocked, signalled, broadcasted, counted, group_queued, once_begun, once_ended, started, stored, key_stored, key_deleted, cleared}
+use Rattle.race_clocks.specs.Channels.{Channel, MutexUnlock, WriterUnlock, ReaderUnlock, Notice, Lowering, FunctionEnd, PutItem, Start, Atomic, MapKey, gives, takes, hands_on, takes_in}
+use Rattle.race_clocks.specs.Deeds.{unlocks_mutex, locks_mutex, unlocks_as_writer, unlocks_as_reader, locks_rw_mutex, is_writers_call, leaves_cond, lowers_group, returns_from_group, ends_once, returns_from_once, starts_worker, enters_atomic, finds_atomic, finds_in_map}
+use Rattle.race_clocks.specs.Seen.{NumberedPool, is_put, is_waiting, is_notified, is_told, cond_made, cond_behind, pool_behind, is_kept_put, takes_put, Named, map_behind, enters_key}
+use Rattle.race_clocks.specs.Rows.{IsMutexUnlock, free, woke, handed, IsMutexLock, at_once, tried, resumed, IsRwLock, reader_at_once, reader_tried, writer_at_once, writer_tried, writer_resumed, left, IsGroupReturn, IsOnceEnd, once, once_func, once_value, IsOnceReturn, once_left, once_func_left, once_value_left, EachDoes, IsSilent, mutex_locked, mutex_misused, rw_locked, rw_misused, raised, group_misused, group_returned, once_returned, pool_taken, pool_missed, pool_dropped, pool_swept, loaded, not_swapped, key_loaded, ranged, accessed, IsDeaf, mutex_failed, mutex_queued, mutex_requeued, mutex_unlocked, rw_failed, rw_queued, rw_waits, rw_requeued, rw_unlocked, signalled, broadcasted, counted, group_queued, once_begun, once_ended, started, stored, key_stored, key_deleted, cleared}
 use Rattle.race_clocks.proofs.Turns.{Found, found}
 
 -- no channel is handed on through
@@ -83,7 +82,7 @@ hushed (key_loaded key reply) = record { unlock = refl; writer = refl; reader = 
 hushed (ranged reply) = record { unlock = refl; writer = refl; reader = refl; notice = λ s c. refl; lowering = refl; ended = refl; putting = λ n seen. refl; start = λ w. refl; atomic = refl; key = λ k m. refl }
 hushed (accessed call reply) = record { unlock = refl; writer = refl; reader = refl; notice = λ s c. refl; lowering = refl; ended = refl; putting = λ n seen. refl; start = λ w. refl; atomic = refl; key = λ k m. refl }
 
-untold : (worker : ℕ) (s : notify.NotifyState) (b : Bool) → is_told worker s (cond b s s) ≡ false
+pub untold : (worker : ℕ) (s : notify.NotifyState) (b : Bool) → is_told worker s (cond b s s) ≡ false
 untold worker s b = by b (notify.place_of s worker) refl where
   same : (place : NotifyPlace) → (is_waiting place && is_notified place) ≡ false
   same places.Waiting = refl
@@ -107,7 +106,7 @@ gives_none plan earlier it h (Start worker) = h.start worker
 gives_none plan earlier it h (Atomic o) = and_right (it.object == o) (enters_atomic it.deed) h.atomic
 gives_none plan earlier it h (MapKey o key) = and_right (it.object == o) (enters_key key (map_behind o earlier) it.deed) (h.key key (map_behind o earlier))
 
-within : (front : List Item) (it : Item) (back : List Item) → Contains (front ++ it ∷ back) it
+pub within : (front : List Item) (it : Item) (back : List Item) → Contains (front ++ it ∷ back) it
 within front it back = Contains-append_right front (it ∷ back) it (0, omega arith, refl)
 
 pub hands_nothing : (plan : Plan) (earlier : List Item) (turn : TraceItem) → EachDoes IsSilent turn → (channel : Channel) → hands_on plan earlier turn channel ≡ false

@@ -1,16 +1,15 @@
 -- What a turn hands on and takes in, by one of its items; and a last edge by one channel.
-use Rattle.std.proofs.Common.{◌≡◌, ◌⊎◌, inl, inr, ℕ, ◌<◌, Bool, true, false, ◌==◌, ◌&&◌, ◌||◌, List, [], ◌∷◌, ◌++◌, Option, Some, slice_get, refl, sym, ap, ◌∙◌, subst, append_assoc, arith}
-use Rattle.std.proofs.lemmas.Bool.{false≢true, or_cases, and_parts, and_from, eq-eqb, cases_Bool}
+use Rattle.std.proofs.Common.{◌≡◌, ◌⊎◌, inl, inr, ℕ, ◌<◌, Bool, true, false, ◌==◌, ◌&&◌, ◌||◌, List, [], ◌∷◌, ◌++◌, Some, slice_get, refl, sym, ap, ◌∙◌, append_assoc}
+use Rattle.std.proofs.lemmas.Bool.{false≢true, or_cases, and_from, eq-eqb}
 use Rattle.std.proofs.lemmas.List.{append-nil}
-use Rattle.std.proofs.lemmas.Option.{same_Some}
 use Rattle.std.proofs.Math.Bool.{or-true}
 use Rattle.workload.specs.Plan.{Plan}
 use Rattle.step_runner.specs.declared.trace.TraceItem.{TraceItem}
 use Rattle.step_runner.specs.declared.turns.item.Deed.{Deed}
 use Rattle.step_runner.specs.declared.turns.item.Item.{Item}
 use Rattle.race_clocks.specs.Channels.{Channel, gives, takes, is_replaced, some_item, hands_on, takes_in, sets}
-use Rattle.race_clocks.specs.HappensBefore.{done_before, Stands, Edge, Before}
-use Rattle.race_clocks.specs.Rows.{item, Makes, earlier_of, IsHanded}
+use Rattle.race_clocks.specs.HappensBefore.{done_before, Before}
+use Rattle.race_clocks.specs.Rows.{item, Makes, earlier_of}
 use Rattle.race_clocks.proofs.Order.{handed_before}
 
 -- the item on the object, of which a test is so

@@ -1,5 +1,5 @@
 -- The rows of the table of edges as the laws name them: by the very events and answers, and by the turns that make them.
-use Rattle.std.specs.Prelude.{◌≡◌, ℕ, ℤ, pos, ◌<◌, Bool, true, false, List, ◌∷◌, ◌++◌, Contains, Option, Some, slice_get}
+use Rattle.std.specs.Prelude.{◌≡◌, ℕ, ℤ, pos, ◌<◌, true, false, List, ◌∷◌, ◌++◌, Contains, Option, Some, slice_get}
 use Rattle.sync_types.specs.declared.atomic_object.AtomicCall.{AtomicCall}
 use Rattle.sync_types.specs.declared.atomic_object.AtomicCall.TheVariants as atomic_calls
 use Rattle.sync_types.specs.declared.atomic_object.AtomicReply.{AtomicReply}
@@ -29,16 +29,13 @@ use Rattle.wait_cores.specs.declared.notify.NotifyReply.TheVariants as notify_re
 use Rattle.wait_cores.specs.declared.group.GroupEvent.{GroupEvent}
 use Rattle.wait_cores.specs.declared.group.GroupEvent.TheVariants as group_events
 use Rattle.wait_cores.specs.declared.group.GroupReply.TheVariants as group_replies
-use Rattle.wait_cores.specs.declared.once.OnceEvent.{OnceEvent}
 use Rattle.wait_cores.specs.declared.once.OnceEvent.TheVariants as once_events
-use Rattle.wait_cores.specs.declared.once.OnceReply.{OnceReply}
 use Rattle.wait_cores.specs.declared.once.OnceReply.TheVariants as once_replies
 use Rattle.pool_core.specs.declared.pool_event.PoolEvent.{PoolEvent}
 use Rattle.pool_core.specs.declared.pool_event.PoolEvent.TheVariants as pool_events
 use Rattle.pool_core.specs.declared.pool_event.PoolReply.TheVariants as pool_replies
 use Rattle.starts_core.specs.declared.starts.StartEvent.TheVariants as start_events
 use Rattle.starts_core.specs.declared.starts.StartReply.TheVariants as start_replies
-use Rattle.run_record.specs.declared.entered.ObjectEvent.{ObjectEvent}
 use Rattle.run_record.specs.declared.entered.ObjectEvent.TheVariants as events
 use Rattle.run_record.specs.declared.entered.ObjectReply.TheVariants as answered
 use Rattle.workload.specs.Plan.{Plan}
