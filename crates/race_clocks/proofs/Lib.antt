@@ -1,3 +1,4 @@
+pub mod NoVariables
 pub mod Order
 pub mod Ordered
 pub mod Puts

@@ -129,7 +129,7 @@ all_but_first : {A : Type 0} → List (Option A) → List (Option A)
 all_but_first [] = []
 all_but_first (x ∷ xs) = xs
 
-same_somes : {A : Type 0} (xs ys : List A) → map Some xs ≡ map Some ys → xs ≡ ys
+pub same_somes : {A : Type 0} (xs ys : List A) → map Some xs ≡ map Some ys → xs ≡ ys
 unfolding first_of_all all_but_first
 same_somes [] [] e = refl
 same_somes [] (y ∷ ys) e = absurd (none-some y (ap first_of_all e))
