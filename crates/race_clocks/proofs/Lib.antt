@@ -1,6 +1,8 @@
 pub mod NoVariables
 pub mod Order
 pub mod Ordered
+pub mod PoolItems
+pub mod PoolNames
 pub mod Puts
 pub mod Quiet
 pub mod RaceLaws
