@@ -1,0 +1,7 @@
+//! Which turns of a run by schedule happen before which others, and which of its calls race.
+#![tactic(auto)]
+
+pub mod laws;
+pub mod race;
+
+pub use race::{CallPlace, Race};
