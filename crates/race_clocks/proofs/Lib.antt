@@ -1,3 +1,6 @@
+pub mod Lists
+pub mod NumberLemmas
+pub mod TableLemmas
 pub mod NoVariables
 pub mod Order
 pub mod Ordered

@@ -5,3 +5,7 @@ pub mod PoolItems
 pub mod Races
 pub mod Rows
 pub mod Seen
+pub mod Handing
+pub mod Numbering
+pub mod Passing
+pub mod Places
