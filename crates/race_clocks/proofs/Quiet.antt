@@ -7,7 +7,11 @@ use Rattle.script_calls.specs.declared.call.Call.{Call}
 use Rattle.wait_cores.specs.GroupEdges.{group_releases, group_acquires}
 use Rattle.wait_cores.specs.declared.group.GroupEvent.{GroupEvent}
 use Rattle.wait_cores.specs.declared.group.GroupEvent.TheVariants.{Add, Wait, Leave}
-use Rattle.wait_cores.specs.declared.group.GroupReply.TheVariants.{Misused}
+use Rattle.wait_cores.specs.declared.group.GroupReply.TheVariants.{Misused, Still as GroupStill}
+use Rattle.wait_cores.specs.NotifyEdges.{notify_acquires}
+use Rattle.wait_cores.specs.declared.notify.NotifyEvent.{NotifyEvent}
+use Rattle.wait_cores.specs.declared.notify.NotifyEvent.TheVariants as notify_events
+use Rattle.wait_cores.specs.declared.notify.NotifyReply.TheVariants.{Still as NotifyStill}
 use Rattle.wait_cores.specs.NotifyMachine as notify
 use Rattle.wait_cores.specs.declared.notify.NotifyPlace.{NotifyPlace}
 use Rattle.wait_cores.specs.declared.notify.NotifyPlace.TheVariants as places
@@ -18,7 +22,7 @@ use Rattle.step_runner.specs.declared.turns.item.Item.{Item}
 use Rattle.race_clocks.specs.Channels.{Channel, MutexUnlock, WriterUnlock, ReaderUnlock, Notice, Lowering, FunctionEnd, PutItem, Start, Atomic, MapKey, gives, takes, hands_on, takes_in}
 use Rattle.race_clocks.specs.Deeds.{unlocks_mutex, locks_mutex, unlocks_as_writer, unlocks_as_reader, locks_rw_mutex, is_writers_call, leaves_cond, lowers_group, returns_from_group, ends_once, returns_from_once, starts_worker, enters_atomic, finds_atomic, finds_in_map}
 use Rattle.race_clocks.specs.Seen.{NumberedPool, is_put, is_waiting, is_notified, is_told, cond_made, cond_behind, pool_behind, is_kept_put, takes_put, Named, map_behind, enters_key}
-use Rattle.race_clocks.specs.Rows.{IsMutexUnlock, free, woke, handed, IsMutexLock, at_once, tried, resumed, IsRwLock, reader_at_once, reader_tried, writer_at_once, writer_tried, writer_resumed, left, IsGroupReturn, IsOnceEnd, once, once_func, once_value, IsOnceReturn, once_left, once_func_left, once_value_left, EachDoes, IsSilent, mutex_locked, mutex_misused, rw_locked, rw_misused, raised, group_misused, group_returned, once_returned, pool_taken, pool_missed, pool_dropped, pool_swept, loaded, not_swapped, key_loaded, ranged, accessed, IsDeaf, mutex_failed, mutex_queued, mutex_requeued, mutex_unlocked, rw_failed, rw_queued, rw_waits, rw_requeued, rw_unlocked, signalled, broadcasted, counted, group_queued, once_begun, once_ended, started, stored, key_stored, key_deleted, cleared}
+use Rattle.race_clocks.specs.Rows.{IsMutexUnlock, free, woke, handed, IsMutexLock, at_once, tried, resumed, IsRwLock, reader_at_once, reader_tried, writer_at_once, writer_tried, writer_resumed, left, IsGroupReturn, IsOnceEnd, once, once_func, once_value, IsOnceReturn, once_left, once_func_left, once_value_left, EachDoes, IsSilent, mutex_locked, mutex_misused, rw_locked, rw_misused, raised, group_misused, group_returned, once_returned, pool_taken, pool_missed, pool_dropped, pool_swept, loaded, not_swapped, key_loaded, ranged, accessed, mutex_still, rw_still, cond_still, group_still, IsDeaf, mutex_failed, mutex_queued, mutex_requeued, mutex_unlocked, rw_failed, rw_queued, rw_waits, rw_requeued, rw_unlocked, signalled, broadcasted, counted, group_queued, once_begun, once_ended, started, stored, key_stored, key_deleted, cleared}
 use Rattle.race_clocks.proofs.Turns.{Found, found}
 
 -- no channel is handed on through
@@ -81,6 +85,13 @@ hushed (not_swapped old new) = record { unlock = refl; writer = refl; reader = r
 hushed (key_loaded key reply) = record { unlock = refl; writer = refl; reader = refl; notice = λ s c. refl; lowering = refl; ended = refl; putting = λ n seen. refl; start = λ w. refl; atomic = refl; key = λ k m. and_right _ false refl }
 hushed (ranged reply) = record { unlock = refl; writer = refl; reader = refl; notice = λ s c. refl; lowering = refl; ended = refl; putting = λ n seen. refl; start = λ w. refl; atomic = refl; key = λ k m. refl }
 hushed (accessed call reply) = record { unlock = refl; writer = refl; reader = refl; notice = λ s c. refl; lowering = refl; ended = refl; putting = λ n seen. refl; start = λ w. refl; atomic = refl; key = λ k m. refl }
+hushed (mutex_still event) = record { unlock = refl; writer = refl; reader = refl; notice = λ s c. refl; lowering = refl; ended = refl; putting = λ n seen. refl; start = λ w. refl; atomic = refl; key = λ k m. refl }
+hushed (rw_still event) = record { unlock = refl; writer = and_right _ false refl; reader = and_right _ false refl; notice = λ s c. refl; lowering = refl; ended = refl; putting = λ n seen. refl; start = λ w. refl; atomic = refl; key = λ k m. refl }
+hushed (group_still event) = record { unlock = refl; writer = refl; reader = refl; notice = λ s c. refl; lowering = by event; ended = refl; putting = λ n seen. refl; start = λ w. refl; atomic = refl; key = λ k m. refl } where
+  by : (event : GroupEvent) → group_releases event GroupStill ≡ false
+  by (Add delta) = and_right _ false refl
+  by Wait = refl
+  by Leave = refl
 
 pub untold : (worker : ℕ) (s : notify.NotifyState) (b : Bool) → is_told worker s (cond b s s) ≡ false
 untold worker s b = by b (notify.place_of s worker) refl where
@@ -166,6 +177,19 @@ deafened (key_stored key value reply) = record { lock = refl; rw = refl; leaves 
 deafened (key_deleted key reply) = record { lock = refl; rw = refl; leaves = refl; group = refl; returns = refl; got = λ n seen c. refl; atomic = refl; key = λ k. refl }
 deafened (cleared reply) = record { lock = refl; rw = refl; leaves = refl; group = refl; returns = refl; got = λ n seen c. refl; atomic = refl; key = λ k. refl }
 deafened (accessed call reply) = record { lock = refl; rw = refl; leaves = refl; group = refl; returns = refl; got = λ n seen c. refl; atomic = refl; key = λ k. refl }
+deafened (mutex_still event) = record { lock = refl; rw = refl; leaves = refl; group = refl; returns = refl; got = λ n seen c. refl; atomic = refl; key = λ k. refl }
+deafened (rw_still event) = record { lock = refl; rw = refl; leaves = refl; group = refl; returns = refl; got = λ n seen c. refl; atomic = refl; key = λ k. refl }
+deafened (cond_still event) = record { lock = refl; rw = refl; leaves = by event; group = refl; returns = refl; got = λ n seen c. refl; atomic = refl; key = λ k. refl } where
+  by : (event : NotifyEvent) → notify_acquires event NotifyStill ≡ false
+  by notify_events.Ticket = refl
+  by notify_events.Signal = refl
+  by notify_events.Broadcast = refl
+  by notify_events.Leave = refl
+deafened (group_still event) = record { lock = refl; rw = refl; leaves = refl; group = by event; returns = refl; got = λ n seen c. refl; atomic = refl; key = λ k. refl } where
+  by : (event : GroupEvent) → group_acquires event GroupStill ≡ false
+  by (Add delta) = refl
+  by Wait = refl
+  by Leave = refl
 
 module _ (plan : Plan) (earlier : List Item) (call : Option Call) (it : Item) (deaf : Deafened it.deed) where
   never : (a b : Bool) → b ≡ false → (a && b) ≡ true → (channel : Channel) → (worker : ℕ) × (channel ≡ Start worker)

@@ -13,6 +13,7 @@ use Rattle.script_calls.specs.declared.call.Operation.TheVariants as operations
 use Rattle.script_calls.specs.declared.call.Reply.{Reply}
 use Rattle.script_calls.specs.declared.call.Reply.TheVariants as replies
 use Rattle.script_calls.specs.declared.call.VarCall.{VarCall}
+use Rattle.mutex_core.specs.declared.event.MutexEvent.{MutexEvent}
 use Rattle.mutex_core.specs.declared.event.MutexEvent.TheVariants as mutex_events
 use Rattle.mutex_core.specs.declared.reply.MutexReply.TheVariants as mutex_replies
 use Rattle.mutex_core.specs.declared.reply.Arrival.TheVariants as mutex_arrival
@@ -24,6 +25,7 @@ use Rattle.rw_core.specs.declared.reply.RwReply.TheVariants as rw_replies
 use Rattle.rw_core.specs.declared.reply.Arrival.TheVariants as rw_arrival
 use Rattle.rw_core.specs.declared.reply.Resumption.TheVariants as rw_resumption
 use Rattle.rw_core.specs.declared.reply.Unlocking.TheVariants as rw_unlocking
+use Rattle.wait_cores.specs.declared.notify.NotifyEvent.{NotifyEvent}
 use Rattle.wait_cores.specs.declared.notify.NotifyEvent.TheVariants as notify_events
 use Rattle.wait_cores.specs.declared.notify.NotifyReply.TheVariants as notify_replies
 use Rattle.wait_cores.specs.declared.group.GroupEvent.{GroupEvent}
@@ -173,7 +175,7 @@ on_atomic call reply = deeds.Placed (operations.Atomic call) (replies.Atomic rep
 abbrev pub EachDoes : (Deed → Type 0) → TraceItem → Type 0
 EachDoes P turn = (it : Item) → Contains turn.made it → P it.deed
 
--- the misuses, an `add` of 0 or above, the adds and looks that only find, and a plain variable
+-- the misuses, what gives a lock or returns, an `add` of 0 or above, looks and loads, an event that changes nothing, and a plain variable
 pub data IsSilent : Deed → Type 0 where
   mutex_locked : (d : Deed) → IsMutexLock d → IsSilent d
   mutex_misused : (misuse : Misuse) → IsSilent (deeds.Entered (events.Mutex mutex_events.Unlock) (answered.Mutex (mutex_replies.Unlocked (mutex_unlocking.Misuse misuse))))
@@ -192,8 +194,11 @@ pub data IsSilent : Deed → Type 0 where
   key_loaded : (key : List ℕ) (reply : Reply (List ℕ)) → IsSilent (deeds.Placed (operations.Map (map_calls.Load key)) reply)
   ranged : (reply : Reply (List ℕ)) → IsSilent (deeds.Placed operations.Range reply)
   accessed : (call : VarCall) (reply : Reply (List ℕ)) → IsSilent (deeds.Placed (operations.Var call) reply)
+  mutex_still : (event : MutexEvent) → IsSilent (deeds.Entered (events.Mutex event) (answered.Mutex mutex_replies.Still))
+  rw_still : (event : RwEvent) → IsSilent (deeds.Entered (events.RwMutex event) (answered.RwMutex rw_replies.Still))
+  group_still : (event : GroupEvent) → IsSilent (deeds.Entered (events.WaitGroup event) (answered.WaitGroup group_replies.Still))
 
--- tries that failed, whoever waits still, unlocks, and what is written without looking
+-- tries that failed, whoever waits still, unlocks, what is written without looking, an event that changes nothing, and a plain variable
 pub data IsDeaf : Deed → Type 0 where
   mutex_failed : IsDeaf (deeds.Entered (events.Mutex mutex_events.Try) (answered.Mutex (mutex_replies.Tried false)))
   mutex_queued : (now ticket : ℕ) → IsDeaf (deeds.Entered (events.Mutex (mutex_events.Arrive now)) (answered.Mutex (mutex_replies.Arrived (mutex_arrival.Queued ticket))))
@@ -217,3 +222,7 @@ pub data IsDeaf : Deed → Type 0 where
   key_deleted : (key : List ℕ) (reply : Reply (List ℕ)) → IsDeaf (deeds.Placed (operations.Map (map_calls.Delete key)) reply)
   cleared : (reply : Reply (List ℕ)) → IsDeaf (deeds.Placed (operations.Map map_calls.Clear) reply)
   accessed : (call : VarCall) (reply : Reply (List ℕ)) → IsDeaf (deeds.Placed (operations.Var call) reply)
+  mutex_still : (event : MutexEvent) → IsDeaf (deeds.Entered (events.Mutex event) (answered.Mutex mutex_replies.Still))
+  rw_still : (event : RwEvent) → IsDeaf (deeds.Entered (events.RwMutex event) (answered.RwMutex rw_replies.Still))
+  cond_still : (event : NotifyEvent) → IsDeaf (deeds.Entered (events.Cond event) (answered.Cond notify_replies.Still))
+  group_still : (event : GroupEvent) → IsDeaf (deeds.Entered (events.WaitGroup event) (answered.WaitGroup group_replies.Still))
