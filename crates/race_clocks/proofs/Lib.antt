@@ -1,3 +1,4 @@
+pub mod Accesses
 pub mod NoVariables
 pub mod Order
 pub mod Ordered

@@ -1,5 +1,5 @@
 -- The rows of the table of edges as the laws name them: by the very events and answers, and by the turns that make them.
-use Rattle.std.specs.Prelude.{◌≡◌, ℕ, ℤ, pos, ◌<◌, true, false, List, ◌∷◌, ◌++◌, Contains, Option, Some, slice_get}
+use Rattle.std.specs.Prelude.{◌≡◌, ℕ, ℤ, pos, ◌<◌, true, false, List, [], ◌∷◌, ◌++◌, Contains, Option, Some, slice_get}
 use Rattle.sync_types.specs.declared.atomic_object.AtomicCall.{AtomicCall}
 use Rattle.sync_types.specs.declared.atomic_object.AtomicCall.TheVariants as atomic_calls
 use Rattle.sync_types.specs.declared.atomic_object.AtomicReply.{AtomicReply}
@@ -47,6 +47,7 @@ use Rattle.step_runner.specs.declared.turns.item.Deed.TheVariants as deeds
 use Rattle.step_runner.specs.declared.turns.item.Item.{Item}
 use Rattle.race_clocks.specs.Channels.{Channel, takes_in}
 use Rattle.race_clocks.specs.HappensBefore.{done_before, Stands}
+use Rattle.race_clocks.specs.Races.{Access, is_write}
 
 -- ---- who makes what
 
@@ -168,6 +169,17 @@ start_of worker = deeds.Entered (events.Starts (start_events.Start worker)) (ans
 
 abbrev pub on_atomic : AtomicCall → AtomicReply → Deed
 on_atomic call reply = deeds.Placed (operations.Atomic call) (replies.Atomic reply)
+
+-- ---- a plain variable
+
+-- the turn made this access of a call of its script, and nothing else
+pub record IsAccessed (one : TraceItem) (access : Access) : Type 0 where
+  pub call : VarCall
+  pub reply : Reply (List ℕ)
+  pub index : ℕ
+  pub made : one.made ≡ item access.variable one.worker (deeds.Placed (operations.Var call) reply) ∷ []
+  pub writes : access.writes ≡ is_write call
+  pub placed : one.index ≡ Some index
 
 -- ---- what hands on nothing, and what takes in nothing
 
