@@ -8,6 +8,7 @@ pub mod Puts
 pub mod Quiet
 pub mod RaceLaws
 pub mod Readers
+pub mod RunSeen
 pub mod Shared
 pub mod Signals
 pub mod Turns

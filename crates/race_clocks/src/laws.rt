@@ -13,6 +13,7 @@ pub mod order;
 pub mod pools;
 pub mod quiet;
 pub mod races;
+pub mod seen;
 pub mod shared;
 pub mod waits;
 
