@@ -12,3 +12,4 @@ pub mod RunSeen
 pub mod Shared
 pub mod Signals
 pub mod Turns
+pub mod Whose

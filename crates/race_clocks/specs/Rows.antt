@@ -1,5 +1,5 @@
 -- The rows of the table of edges as the laws name them: by the very events and answers, and by the turns that make them.
-use Rattle.std.specs.Prelude.{◌≡◌, ℕ, ℤ, pos, ◌<◌, true, false, List, [], ◌∷◌, ◌++◌, Contains, Option, Some, slice_get}
+use Rattle.std.specs.Prelude.{◌≡◌, ℕ, ℤ, pos, ◌<◌, true, false, List, [], ◌∷◌, ◌++◌, Contains, Option, Some, None, slice_get}
 use Rattle.sync_types.specs.declared.atomic_object.AtomicCall.{AtomicCall}
 use Rattle.sync_types.specs.declared.atomic_object.AtomicCall.TheVariants as atomic_calls
 use Rattle.sync_types.specs.declared.atomic_object.AtomicReply.{AtomicReply}
@@ -45,7 +45,7 @@ use Rattle.step_runner.specs.declared.trace.TraceItem.{TraceItem}
 use Rattle.step_runner.specs.declared.turns.item.Deed.{Deed}
 use Rattle.step_runner.specs.declared.turns.item.Deed.TheVariants as deeds
 use Rattle.step_runner.specs.declared.turns.item.Item.{Item}
-use Rattle.race_clocks.specs.Channels.{Channel, takes_in}
+use Rattle.race_clocks.specs.Channels.{Channel, MutexUnlock, WriterUnlock, ReaderUnlock, Notice, Lowering, FunctionEnd, PutItem, Start, Atomic, MapKey, takes_in}
 use Rattle.race_clocks.specs.HappensBefore.{done_before, Stands}
 use Rattle.race_clocks.specs.Races.{Access, is_write}
 
@@ -227,6 +227,11 @@ pub data IsDeaf : Deed → Type 0 where
   group_queued : IsDeaf (deeds.Entered (events.WaitGroup group_events.Wait) (answered.WaitGroup group_replies.Queued))
   group_misused : (event : GroupEvent) (misuse : Misuse) → IsDeaf (deeds.Entered (events.WaitGroup event) (answered.WaitGroup (group_replies.Misused misuse)))
   once_begun : IsDeaf (deeds.Entered (events.Once once_events.Begin) (answered.Once once_replies.Run))
+  once_func_begun : IsDeaf (deeds.Entered (events.OnceFunc once_events.Begin) (answered.OnceFunc once_replies.Run))
+  once_value_begun : IsDeaf (deeds.Entered (events.OnceValue once_events.Begin) (answered.OnceValue once_replies.Run))
+  once_queued : IsDeaf (deeds.Entered (events.Once once_events.Begin) (answered.Once once_replies.Queued))
+  once_func_queued : IsDeaf (deeds.Entered (events.OnceFunc once_events.Begin) (answered.OnceFunc once_replies.Queued))
+  once_value_queued : IsDeaf (deeds.Entered (events.OnceValue once_events.Begin) (answered.OnceValue once_replies.Queued))
   once_ended : (d : Deed) → IsOnceEnd d → IsDeaf d
   started : (worker : ℕ) → IsDeaf (start_of worker)
   stored : (value : Number) (reply : Reply (List ℕ)) → IsDeaf (deeds.Placed (operations.Atomic (atomic_calls.Store value)) reply)
@@ -238,3 +243,18 @@ pub data IsDeaf : Deed → Type 0 where
   rw_still : (event : RwEvent) → IsDeaf (deeds.Entered (events.RwMutex event) (answered.RwMutex rw_replies.Still))
   cond_still : (event : NotifyEvent) → IsDeaf (deeds.Entered (events.Cond event) (answered.Cond notify_replies.Still))
   group_still : (event : GroupEvent) → IsDeaf (deeds.Entered (events.WaitGroup event) (answered.WaitGroup group_replies.Still))
+
+-- ---- whose a channel is
+
+-- the object of a channel; that of a start is nobody's
+abbrev pub object_of : Channel → Option ℕ
+object_of (MutexUnlock place) = Some place
+object_of (WriterUnlock place) = Some place
+object_of (ReaderUnlock place) = Some place
+object_of (Notice place worker) = Some place
+object_of (Lowering place) = Some place
+object_of (FunctionEnd place) = Some place
+object_of (PutItem place number) = Some place
+object_of (Start worker) = None
+object_of (Atomic place) = Some place
+object_of (MapKey place key) = Some place

@@ -16,6 +16,7 @@ pub mod races;
 pub mod seen;
 pub mod shared;
 pub mod waits;
+pub mod whose;
 
 /// A workload without variables has no races.
 pub fn without_variables_nothing_races()
