@@ -37,18 +37,18 @@ use Rattle.race_clocks.specs.Rows.{item, IsAccessed}
 
 module _ (plan : Plan) where
   module _ (s : State) (worker : ℕ) (call : Call) where
-    abbrev items : List Item
+    abbrev pub items : List Item
     items = items_within call worker s.moment (begun_by worker s) s.objects
 
-    abbrev answer : Answer
+    abbrev pub answer : Answer
     answer = (turn_within call worker s.moment (begun_by worker s) s.objects).1
 
-  record IsToldOf (one : TraceItem) : Type 0 where
-    state : State
-    worker : ℕ
-    call : Call
-    told : is_told (items state worker call) (answer state worker call) ≡ true
-    is : turn_told plan worker state call (items state worker call) (reply_of (answer state worker call)) ≡ one
+  pub record IsToldOf (one : TraceItem) : Type 0 where
+    pub state : State
+    pub worker : ℕ
+    pub call : Call
+    pub told : is_told (items state worker call) (answer state worker call) ≡ true
+    pub is : turn_told plan worker state call (items state worker call) (reply_of (answer state worker call)) ≡ one
 
   if_told : (b : Bool) (x one : TraceItem) (n : ℕ) → slice_get (cond b (x ∷ []) []) n ≡ Some one → (b ≡ true) × (x ≡ one)
   if_told true x one zero at = (refl, same_Some x one at)
@@ -76,7 +76,7 @@ module _ (plan : Plan) where
   goes_on (s, steps.Made) rest n one at = at
   goes_on (s, steps.Misused misuse) rest n one at = absurd (none-some one at)
 
-  told_of : (turns : List Turn) (s : State) (n : ℕ) (one : TraceItem) → slice_get (traced_from plan turns s) n ≡ Some one → IsToldOf one
+  pub told_of : (turns : List Turn) (s : State) (n : ℕ) (one : TraceItem) → slice_get (traced_from plan turns s) n ≡ Some one → IsToldOf one
   told_of [] s n one at = absurd (none-some one at)
   told_of (turn ∷ rest) s n one at = by (told_of rest (item_of plan turn s).0) (in_either (traced_turn plan turn s) (unless_over (item_of plan turn s) (traced_from plan rest)) n one at) where
     by : ((m : ℕ) (one : TraceItem) → slice_get (traced_from plan rest (item_of plan turn s).0) m ≡ Some one → IsToldOf one)

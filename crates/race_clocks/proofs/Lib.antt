@@ -1,4 +1,6 @@
 pub mod Accesses
+pub mod CallRows
+pub mod CompletedCalls
 pub mod NoVariables
 pub mod Order
 pub mod Ordered

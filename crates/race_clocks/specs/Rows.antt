@@ -9,6 +9,7 @@ use Rattle.sync_types.specs.declared.lock_call.RwMutexCall.TheVariants as rw_cal
 use Rattle.sync_types.specs.declared.map_object.MapCall.TheVariants as map_calls
 use Rattle.sync_types.specs.declared.misuse.Misuse.{Misuse}
 use Rattle.script_calls.specs.declared.call.Call.{Call}
+use Rattle.script_calls.specs.declared.call.Operation.{Operation}
 use Rattle.script_calls.specs.declared.call.Operation.TheVariants as operations
 use Rattle.script_calls.specs.declared.call.Reply.{Reply}
 use Rattle.script_calls.specs.declared.call.Reply.TheVariants as replies
@@ -65,6 +66,13 @@ pub record Makes (trace : List TraceItem) (i place caller : ℕ) (deed : Deed) :
 -- what was done before that
 abbrev pub earlier_of : (trace : List TraceItem) (i place caller : ℕ) (deed : Deed) → Makes trace i place caller deed → List Item
 earlier_of trace i place caller deed makes = done_before trace i ++ makes.front
+
+-- turn i of the trace completed this call on the object at this place, with this reply
+pub record Completes (trace : List TraceItem) (i place : ℕ) (operation : Operation) (reply : Reply (List ℕ)) : Type 0 where
+  pub turn : TraceItem
+  pub at : slice_get trace i ≡ Some turn
+  pub of : turn.call ≡ Some (record { object = place; operation = operation })
+  pub with : turn.reply ≡ Some reply
 
 -- turns i and j are of one worker, and i is the earlier one
 pub record IsOwn (trace : List TraceItem) (i j : ℕ) : Type 0 where

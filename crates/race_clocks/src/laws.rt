@@ -8,6 +8,7 @@ ghost use Rattle.race_clocks.specs.Races.{AreRaces};
 use crate::race::Race;
 use step_runner::laws::a_trace_tells_what_turns_made;
 
+pub mod calls;
 pub mod locks;
 pub mod order;
 pub mod pools;
