@@ -1,6 +1,9 @@
 pub mod Lists
 pub mod NumberLemmas
 pub mod TableLemmas
+pub mod Accesses
+pub mod CallRows
+pub mod CompletedCalls
 pub mod NoVariables
 pub mod Order
 pub mod Ordered
@@ -10,6 +13,8 @@ pub mod Puts
 pub mod Quiet
 pub mod RaceLaws
 pub mod Readers
+pub mod RunSeen
 pub mod Shared
 pub mod Signals
 pub mod Turns
+pub mod Whose

@@ -8,13 +8,16 @@ ghost use Rattle.race_clocks.specs.Races.{AreRaces};
 use crate::race::Race;
 use step_runner::laws::a_trace_tells_what_turns_made;
 
+pub mod calls;
 pub mod locks;
 pub mod order;
 pub mod pools;
 pub mod quiet;
 pub mod races;
+pub mod seen;
 pub mod shared;
 pub mod waits;
+pub mod whose;
 
 /// A workload without variables has no races.
 pub fn without_variables_nothing_races()
