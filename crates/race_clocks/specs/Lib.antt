@@ -1,0 +1,11 @@
+pub mod Channels
+pub mod Deeds
+pub mod HappensBefore
+pub mod PoolItems
+pub mod Races
+pub mod Rows
+pub mod Seen
+pub mod Handing
+pub mod Numbering
+pub mod Passing
+pub mod Places
