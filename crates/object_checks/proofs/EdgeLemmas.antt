@@ -6,7 +6,7 @@ use Rattle.std.proofs.lemmas.List.{get_or_past}
 use Rattle.sync_model.specs.Journal.{KeepsEdges}
 use Rattle.run_record.specs.Edges.{frees, takes}
 use Rattle.object_checks.specs.declared.journals.row.Row.{Row}
-use Rattle.object_checks.specs.JournalItems.{entries_in_row, journals_in}
+use Rattle.object_checks.specs.JournalItems.{HaveFronts, entries_in_row, journals_in}
 use Rattle.object_checks.specs.JournalParts.{KeepAllEdges}
 use Rattle.object_checks.proofs.Lifting.{none_keep}
 use Rattle.object_checks.proofs.JournalsIn.{mapped}
@@ -30,3 +30,10 @@ module _ (rows : List (List Row)) where
 
   pub edge_at : (n : ℕ) → KeepAllEdges (journals_in rows) → KeepsEdges frees takes (entries_in_row (get_or rows n []))
   edge_at n all = subst (KeepsEdges frees takes) (mapped rows n) (all n)
+
+-- where the fronts of the first journals fit, and there are no others
+pub no_rows : (journals : List (List Row)) (n object : ℕ) → length journals ≤ n → ((k : ℕ) → k < n → HaveFronts (get_or journals k [])) → HaveFronts (get_or journals object [])
+no_rows journals n object all fits = elim (leb_tells n object) [
+  | inl past ↦ (let beyond = past.1 in subst HaveFronts (sym (get_or_past journals object [] (omega (arith, all, beyond)))) (λ i row at. absurd cc))
+  | inr before ↦ fits object before.1
+]

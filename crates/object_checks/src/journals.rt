@@ -12,7 +12,7 @@ pub mod row;
 mod rows;
 pub mod walk;
 
-pub use edge::{keep_all_edges, keeps_the_edge_law};
+pub use edge::{fronts_fit, keep_all_edges, keeps_the_edge_law};
 pub use gathering::journals_of;
 pub use item::JournalItem;
 pub use replay::follows_machine;

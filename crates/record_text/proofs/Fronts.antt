@@ -40,10 +40,10 @@ front_parts n (m ∷ front) h =
     let parts = both (has_64_bits n) (list_all has_64_bits (m ∷ front)) h in
     split_word (decimal n) (front_word (m ∷ front)) (digits n (small n parts.0)) ∙ ap (λ (ws : List (List ℕ)). decimal n ∷ ws) (front_parts m front parts.1)
 
-abbrev commas : List ℕ → List (List ℕ)
+abbrev pub commas : List ℕ → List (List ℕ)
 commas word = slice_split (λ byte. eqb byte 44) word
 
-parts_are : (workers : ℕ) (word front : List ℕ) → 0 < workers → is_front workers front ≡ true → front_word front ≡ word → commas word ≡ map decimal front
+pub parts_are : (workers : ℕ) (word front : List ℕ) → 0 < workers → is_front workers front ≡ true → front_word front ≡ word → commas word ≡ map decimal front
 unfolding comma
 parts_are workers word [] some fits is = absurd (let e = eqb-true 0 workers (both (eqb 0 workers) true fits).0 in omega (arith, e, some))
 parts_are workers word (n ∷ front) some fits is = ap commas (sym is) ∙ front_parts n front (both (eqb (length (n ∷ front)) workers) (list_all has_64_bits (n ∷ front)) fits).1

@@ -12,3 +12,7 @@ pub mod WalkLemmas
 pub mod LineLemmas
 pub mod BehindLemmas
 pub mod TextLemmas
+pub mod OneItem
+pub mod ReadPlans
+pub mod OneText
+pub mod ObjectNumbers

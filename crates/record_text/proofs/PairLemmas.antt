@@ -15,18 +15,18 @@ abbrev pub is_pair : List (List ℕ) → ℕ × ℕ → Bool
 is_pair keys pair = nat_lt pair.0 (length keys) && has_64_bits pair.1
 
 -- the words of a pair, by the key's name and the value's digits
-abbrev with_equals : List ℕ → List ℕ → List ℕ
+abbrev pub with_equals : List ℕ → List ℕ → List ℕ
 with_equals name ds = name ++ codes "=" ++ ds
 
-mark_at : (name ds : List ℕ) → is_equals (with_equals name ds) (length name) ≡ true
+pub mark_at : (name ds : List ℕ) → is_equals (with_equals name ds) (length name) ≡ true
 mark_at [] ds = refl
 mark_at (x ∷ xs) ds = mark_at xs ds
 
-mark_within : (name ds : List ℕ) → length name < length (with_equals name ds)
+pub mark_within : (name ds : List ℕ) → length name < length (with_equals name ds)
 mark_within [] ds = omega arith
 mark_within (x ∷ xs) ds = omega (arith, mark_within xs ds)
 
-no_mark : (ds : List ℕ) (k : ℕ) → all_ascii_digits ds ≡ true → is_equals ds k ≡ true → ⊥
+pub no_mark : (ds : List ℕ) (k : ℕ) → all_ascii_digits ds ≡ true → is_equals ds k ≡ true → ⊥
 no_mark [] k h is = false≢true is
 no_mark (d ∷ ds) zero h is =
     let digit = both (nat_le 48 d && nat_le d 57) (all_ascii_digits ds) h in
@@ -36,17 +36,17 @@ no_mark (d ∷ ds) zero h is =
 no_mark (d ∷ ds) (suc k) h is = no_mark ds k (both (nat_le 48 d && nat_le d 57) (all_ascii_digits ds) h).1 is
 
 -- digits have none, so the last one is that behind the name
-last_is : (name ds : List ℕ) (end : ℕ) → all_ascii_digits ds ≡ true → is_equals (with_equals name ds) end ≡ true → NoneBehind (with_equals name ds) end → end ≡ length name
+pub last_is : (name ds : List ℕ) (end : ℕ) → all_ascii_digits ds ≡ true → is_equals (with_equals name ds) end ≡ true → NoneBehind (with_equals name ds) end → end ≡ length name
 last_is [] ds zero h is none = refl
 last_is [] ds (suc end) h is none = absurd (no_mark ds end h is)
 last_is (x ∷ xs) ds zero h is none = absurd (none (suc (length xs)) (omega arith) (let within = mark_within xs ds in omega (arith, within)) (mark_at xs ds))
 last_is (x ∷ xs) ds (suc end) h is none = ap suc (last_is xs ds end h is (λ k behind within mark. none (suc k) (omega (arith, behind)) (omega (arith, within)) mark))
 
-take_name : (name ds : List ℕ) → take (length name) (with_equals name ds) ≡ name
+pub take_name : (name ds : List ℕ) → take (length name) (with_equals name ds) ≡ name
 take_name [] ds = refl
 take_name (x ∷ xs) ds = ap (λ ys. x ∷ ys) (take_name xs ds)
 
-drop_name : (name ds : List ℕ) → drop (suc (length name)) (with_equals name ds) ≡ ds
+pub drop_name : (name ds : List ℕ) → drop (suc (length name)) (with_equals name ds) ≡ ds
 drop_name [] ds = refl
 drop_name (x ∷ xs) ds = drop_name xs ds
 
@@ -59,7 +59,7 @@ rejoin (byte ∷ bytes) (suc end) within is = ap (λ bs. byte ∷ bs) (rejoin by
 abbrev pub AreNumbered : List (List ℕ) → Type 0
 AreNumbered keys = (name : List ℕ) (number : ℕ) → number_in keys name ≡ Some number ↔ slice_get keys number ≡ Some name
 
-at : (keys : List (List ℕ)) (k : ℕ) → k < length keys → slice_get keys k ≡ Some (key_name keys k)
+pub at : (keys : List (List ℕ)) (k : ℕ) → k < length keys → slice_get keys k ≡ Some (key_name keys k)
 at [] k within = absurd (omega (arith, within))
 at (key ∷ keys) zero within = refl
 at (key ∷ keys) (suc k) within = at keys k (omega (arith, within))
@@ -72,7 +72,7 @@ within_of (key ∷ keys) (suc k) name is = let rest = within_of keys k name is i
 none_some : {X : Type 0} (x : X) → None ≡ Some x → ⊥
 none_some x e = absurd cc
 
-parts_of : (keys : List (List ℕ)) (p : ℕ × ℕ) → is_pair keys p ≡ true → (p.0 < length keys) × (has_64_bits p.1 ≡ true)
+pub parts_of : (keys : List (List ℕ)) (p : ℕ × ℕ) → is_pair keys p ≡ true → (p.0 < length keys) × (has_64_bits p.1 ≡ true)
 parts_of keys p h = let parts = both (nat_lt p.0 (length keys)) (has_64_bits p.1) h in (ltb-true p.0 (length keys) parts.0, parts.1)
 
 -- a word without a `=`

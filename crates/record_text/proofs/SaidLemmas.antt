@@ -32,50 +32,50 @@ use Rattle.record_text.proofs.SameWords.{same_event, same_answer}
 abbrev pub SaysNothing : Plan → List ℕ → List (List ℕ) → Type 0
 SaysNothing plan first words = (front : List ℕ) (said : Said) → is_said plan said ≡ true → said_word said ≡ first → said_words plan front said ≡ words → ⊥
 
-head : (x y : List ℕ) (xs ys : List (List ℕ)) → x ∷ xs ≡ y ∷ ys → x ≡ y
+pub head : (x y : List ℕ) (xs ys : List (List ℕ)) → x ∷ xs ≡ y ∷ ys → x ≡ y
 head x y xs ys e = cc
 
-tail : (x y : List ℕ) (xs ys : List (List ℕ)) → x ∷ xs ≡ y ∷ ys → xs ≡ ys
+pub tail : (x y : List ℕ) (xs ys : List (List ℕ)) → x ∷ xs ≡ y ∷ ys → xs ≡ ys
 tail x y xs ys e = cc
 
 none_some : {X : Type 0} (x : X) → None ≡ Some x → ⊥
 none_some x e = absurd cc
 
 -- no two kinds of line begin with one word
-begin_no_call : codes "begin" ≡ codes "call" → ⊥
+pub begin_no_call : codes "begin" ≡ codes "call" → ⊥
 begin_no_call e = let letter : 98 ≡ 99 = ap (λ (word : List ℕ). get_or word 0 0) e in omega (arith, letter)
 
-next_no_call : codes "next" ≡ codes "call" → ⊥
+pub next_no_call : codes "next" ≡ codes "call" → ⊥
 next_no_call e = let letter : 110 ≡ 99 = ap (λ (word : List ℕ). get_or word 0 0) e in omega (arith, letter)
 
-event_no_call : codes "event" ≡ codes "call" → ⊥
+pub event_no_call : codes "event" ≡ codes "call" → ⊥
 event_no_call e = let letter : 101 ≡ 99 = ap (λ (word : List ℕ). get_or word 0 0) e in omega (arith, letter)
 
-call_no_begin : codes "call" ≡ codes "begin" → ⊥
+pub call_no_begin : codes "call" ≡ codes "begin" → ⊥
 call_no_begin e = let letter : 99 ≡ 98 = ap (λ (word : List ℕ). get_or word 0 0) e in omega (arith, letter)
 
-next_no_begin : codes "next" ≡ codes "begin" → ⊥
+pub next_no_begin : codes "next" ≡ codes "begin" → ⊥
 next_no_begin e = let letter : 110 ≡ 98 = ap (λ (word : List ℕ). get_or word 0 0) e in omega (arith, letter)
 
-event_no_begin : codes "event" ≡ codes "begin" → ⊥
+pub event_no_begin : codes "event" ≡ codes "begin" → ⊥
 event_no_begin e = let letter : 101 ≡ 98 = ap (λ (word : List ℕ). get_or word 0 0) e in omega (arith, letter)
 
-call_no_next : codes "call" ≡ codes "next" → ⊥
+pub call_no_next : codes "call" ≡ codes "next" → ⊥
 call_no_next e = let letter : 99 ≡ 110 = ap (λ (word : List ℕ). get_or word 0 0) e in omega (arith, letter)
 
-begin_no_next : codes "begin" ≡ codes "next" → ⊥
+pub begin_no_next : codes "begin" ≡ codes "next" → ⊥
 begin_no_next e = let letter : 98 ≡ 110 = ap (λ (word : List ℕ). get_or word 0 0) e in omega (arith, letter)
 
-event_no_next : codes "event" ≡ codes "next" → ⊥
+pub event_no_next : codes "event" ≡ codes "next" → ⊥
 event_no_next e = let letter : 101 ≡ 110 = ap (λ (word : List ℕ). get_or word 0 0) e in omega (arith, letter)
 
-call_no_event : codes "call" ≡ codes "event" → ⊥
+pub call_no_event : codes "call" ≡ codes "event" → ⊥
 call_no_event e = let letter : 99 ≡ 101 = ap (λ (word : List ℕ). get_or word 0 0) e in omega (arith, letter)
 
-begin_no_event : codes "begin" ≡ codes "event" → ⊥
+pub begin_no_event : codes "begin" ≡ codes "event" → ⊥
 begin_no_event e = let letter : 98 ≡ 101 = ap (λ (word : List ℕ). get_or word 0 0) e in omega (arith, letter)
 
-next_no_event : codes "next" ≡ codes "event" → ⊥
+pub next_no_event : codes "next" ≡ codes "event" → ⊥
 next_no_event e = let letter : 110 ≡ 101 = ap (λ (word : List ℕ). get_or word 0 0) e in omega (arith, letter)
 
 -- by the same words
@@ -192,7 +192,7 @@ there : (names : Option Named) (event : EventWord) (answer : AnswerWord) → opt
 there None event answer h = absurd cc
 there (Some named) event answer h = (named, refl, h)
 
-found_so : (found : Option ℕ) (object : ℕ) → option_map_or (λ number. eqb number object) found false ≡ true → found ≡ Some object
+pub found_so : (found : Option ℕ) (object : ℕ) → option_map_or (λ number. eqb number object) found false ≡ true → found ≡ Some object
 found_so None object h = absurd cc
 found_so (Some number) object h = ap (λ (n : ℕ). Some n) (eqb-true number object h)
 
@@ -227,7 +227,7 @@ entered_number plan a b c d e none front (Call place reply) fits first same = ab
 entered_number plan a b c d e none front (Begin reach) fits first same = absurd (begin_no_event first)
 entered_number plan a b c d e none front (Next reach shown) fits first same = absurd (next_no_event first)
 
-fourth : (a b c d e x y z u v : List ℕ) → five a b c d e ≡ five x y z u v → (a ≡ x) × (d ≡ u) × (e ≡ v)
+pub fourth : (a b c d e x y z u v : List ℕ) → five a b c d e ≡ five x y z u v → (a ≡ x) × (d ≡ u) × (e ≡ v)
 fourth a b c d e x y z u v same = (cc, cc, cc)
 
 pub entered_event : (plan : Plan) (a b c d e : List ℕ) → IsNone (is_event plan.workers) event_word d → SaysNothing plan (codes "event") (five a b c d e)
@@ -321,7 +321,7 @@ line_none plan words none worker index front said placed fits e = absurd (let sa
 pub line_place : (plan : Plan) (words rest : List (List ℕ)) (first : List ℕ) → words ≡ first ∷ rest → PlacesNothing plan rest → HasNoParts plan words
 line_place plan words rest first cut none worker index front said fits said_fits e = none worker index (said_words plan front said) fits (tail (said_word said) first _ rest (e ∙ cut))
 
-two_behind : (a b x y : List ℕ) (xs ys : List (List ℕ)) → a ∷ b ∷ xs ≡ x ∷ y ∷ ys → xs ≡ ys
+pub two_behind : (a b x y : List ℕ) (xs ys : List (List ℕ)) → a ∷ b ∷ xs ≡ x ∷ y ∷ ys → xs ≡ ys
 two_behind a b x y xs ys e = cc
 
 pub line_said : (plan : Plan) (words rest behind : List (List ℕ)) (first : List ℕ) (worker : ℕ) (index : Option ℕ) → words ≡ first ∷ rest → decimal worker ∷ index_word index ∷ behind ≡ rest → SaysNothing plan first behind → HasNoParts plan words
@@ -339,7 +339,7 @@ no_parts plan words none item fits e =
     let parts = both (is_place plan item.worker item.index) (is_front plan.workers item.front && is_said plan item.said) fits in
     none item.worker item.index (front_word item.front) item.said parts.0 (both (is_front plan.workers item.front) (is_said plan item.said) parts.1).1 e
 
-front_at : (plan : Plan) (front : List ℕ) (said : Said) (face : List ℕ) (other : Said) → said_word said ≡ said_word other → said_words plan front said ≡ said_words plan face other → front ≡ face
+pub front_at : (plan : Plan) (front : List ℕ) (said : Said) (face : List ℕ) (other : Said) → said_word said ≡ said_word other → said_words plan front said ≡ said_words plan face other → front ≡ face
 front_at plan front (Call place reply) face (Call p r) is e = head front face _ _ (tail (decimal place) (decimal p) _ _ e)
 front_at plan front (Begin reach) face (Begin r) is e = head front face _ _ (tail (decimal reach) (decimal r) _ _ e)
 front_at plan front (Next reach shown) face (Next r s) is e = head front face _ _ (tail (decimal reach) (decimal r) _ _ e)

@@ -47,6 +47,9 @@ unfolding whole_from
 whole_back (Natural n) fits = natural_from (decimal n) (digits n (small n fits)) ∙ ap (λ k. Natural k) (number_of-decimal n (small n fits))
 whole_back (Below n) fits = ap (λ k. Below k) (number_of-decimal n (let high = leb-true n (2 ^ 63) (both (nat_lt 0 n) (nat_le n (2 ^ 63)) fits).1 in omega (arith, high)))
 
+pub same_whole : (w v : Whole) → is_whole w ≡ true → is_whole v ≡ true → whole_word w ≡ whole_word v → w ≡ v
+same_whole w v fits other same = sym (whole_back w fits) ∙ ap whole_from same ∙ whole_back v other
+
 misuse_from : List ℕ → Misuse
 misuse_from word = option_map_or (λ m. m) (first_named misuse_word (UnlockOfUnlockedMutex ∷ RUnlockOfUnlockedRwMutex ∷ UnlockOfUnlockedRwMutex ∷ NegativeWaitGroupCounter ∷ WaitGroupReused ∷ []) word) UnlockOfUnlockedMutex
 

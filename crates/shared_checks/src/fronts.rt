@@ -58,8 +58,8 @@ fn is_next(caller: usize, items: &[Item], index: usize) -> bool
     lies_below(last, item.place) && is_at_least(&item.front, &last.front)
 }
 
-// How many calls of a caller a front counts.
-fn count_of(front: &LinkedList<u64>, caller: usize) -> u64
+/// How many calls of a caller a front counts.
+pub fn count_of(front: &LinkedList<u64>, caller: usize) -> u64
     ensures { result ≡ slice_index front.now caller }
 {
     front.iter().nth(caller).copied().unwrap_or(0)
@@ -76,8 +76,8 @@ fn lies_below(item: &Item, place: u64) -> bool
     }
 }
 
-// Whether a front counts, caller by caller, at least what another does.
-fn is_at_least(front: &LinkedList<u64>, other: &LinkedList<u64>) -> bool
+/// Whether a front counts, caller by caller, at least what another does.
+pub fn is_at_least(front: &LinkedList<u64>, other: &LinkedList<u64>) -> bool
     ensures { IsTrue result ↔ AtLeast front.now other.now }
 {
     let mut counts = front.iter();

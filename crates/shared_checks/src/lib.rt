@@ -20,7 +20,7 @@ pub mod stood;
 pub use begins::steps_follow_begins;
 pub use counts::Counts;
 pub use edges::{Note, keeps_edges};
-pub use fronts::keeps_fronts;
+pub use fronts::{count_of, is_at_least, keeps_fronts};
 pub use history::{history_of, lawful_history_of};
 pub use known::known_of;
 pub use number_map::NumberMap;

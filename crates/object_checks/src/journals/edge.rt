@@ -148,3 +148,32 @@ pub fn keep_all_edges(alloc: Global, journals: &[Seq<Row<'_>>]) -> Result<bool, 
     }
     Ok(true)
 }
+
+/// Whether each front of the journals counts the calls of 64 workers at most.
+pub fn fronts_fit(journals: &[Seq<Row<'_>>]) -> bool
+    ensures { IsTrue result ↔ ((object : ℕ) → HaveFronts (get_or journals.now object [])) }
+{
+    for journal in journals {
+        if !each_front_fits(journal.as_slice()) {
+            return false;
+        }
+    }
+    true
+}
+
+fn each_front_fits(journal: &[Row<'_>]) -> bool
+    ensures { IsTrue result ↔ HaveFronts journal.now }
+{
+    for row in journal {
+        if !front_fits(row) {
+            return false;
+        }
+    }
+    true
+}
+
+fn front_fits(row: &Row<'_>) -> bool
+    ensures { IsTrue result ↔ (length row.now.item.now.front ≤ 64) }
+{
+    row.item.front.len() <= MAX_CALLERS
+}
