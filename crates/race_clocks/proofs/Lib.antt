@@ -4,12 +4,14 @@ pub mod CompletedCalls
 pub mod NoVariables
 pub mod Order
 pub mod Ordered
+pub mod PlacedCalls
 pub mod PoolItems
 pub mod PoolNames
 pub mod Puts
 pub mod Quiet
 pub mod RaceLaws
 pub mod Readers
+pub mod ReadersAlone
 pub mod RunSeen
 pub mod Shared
 pub mod Signals
