@@ -93,7 +93,7 @@ whole_of plan one call reply of with t = by (is_behind plan t.worker t.state) t.
         completes = ap (answer plan t.state t.worker) (sym same) ∙ completed (answer plan t.state t.worker t.call) reply (ap (λ (x : TraceItem). x.reply) is ∙ with);
       }
 
-abbrev is_completed : Answer → Bool
+abbrev pub is_completed : Answer → Bool
 is_completed (answers.Completed reply) = true
 is_completed answers.Still = false
 is_completed answers.Unfinished = false
@@ -102,7 +102,7 @@ is_completed (answers.Misused misuse) = false
 pub never : {A : Type 0} (reply : Reply (List ℕ)) → answers.Still ≡ answers.Completed reply → A
 never reply e = absurd (false≢true (ap is_completed e))
 
-later : {A : Type 0} (reply : Reply (List ℕ)) → answers.Unfinished ≡ answers.Completed reply → A
+pub later : {A : Type 0} (reply : Reply (List ℕ)) → answers.Unfinished ≡ answers.Completed reply → A
 later reply e = absurd (false≢true (ap is_completed e))
 
 -- a try that took a lock

@@ -1,6 +1,7 @@
 pub mod Accesses
 pub mod CallRows
 pub mod CompletedCalls
+pub mod ComposedCalls
 pub mod NoVariables
 pub mod Order
 pub mod Ordered

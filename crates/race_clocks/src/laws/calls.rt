@@ -1,5 +1,5 @@
 //! What completed calls of a run order: the rows of the table in the words of the scripts.
-ghost use Rattle.std.specs.Prelude.{◌≡◌, ℕ, negsuc, ◌<◌, true, List};
+ghost use Rattle.std.specs.Prelude.{◌≡◌, ◌≢◌, ℕ, negsuc, ◌<◌, true, All, List};
 ghost use Rattle.script_calls.specs.declared.call.Operation.TheVariants as operations;
 ghost use Rattle.script_calls.specs.declared.call.Reply.{Reply};
 ghost use Rattle.script_calls.specs.declared.call.Reply.TheVariants as replies;
@@ -13,11 +13,13 @@ ghost use Rattle.workload.specs.Plan.{Plan};
 ghost use Rattle.step_runner.specs.Traces.{trace_of};
 ghost use Rattle.step_runner.specs.declared.turns.item.Deed.{Deed};
 ghost use Rattle.step_runner.specs.declared.turns.item.Deed.TheVariants as deeds;
+ghost use Rattle.step_runner.specs.declared.turns.item.Item.{Item};
 ghost use Rattle.race_clocks.specs.Deeds.{enters_atomic, finds_atomic, finds_in_map};
 ghost use Rattle.race_clocks.specs.Seen.{map_behind, enters_key};
 ghost use Rattle.race_clocks.specs.HappensBefore.{done_before, Before};
 ghost use Rattle.race_clocks.specs.Rows.{Makes, earlier_of, Completes, IsMutexUnlock, writer_unlock, reader_unlock};
 
+use script_calls::ComposedCall;
 use step_runner::laws::a_trace_tells_what_turns_made;
 
 /// An unlock of a mutex is before each later turn that completes a `lock` of it, or a `trylock` that is true.
@@ -87,6 +89,15 @@ pub fn a_completed_entry_on_a_key_is_before_each_later_completed_call()
         → ((k at u : ℕ) (f : Deed) → i < k → k < j → (m : Makes (trace_of plan) k at u f) → at ≡ place
         → enters_key key (map_behind place (earlier_of (trace_of plan) k at u f m)) f ≡ true → ⊥)
         → Before plan (trace_of plan) i j }
+{
+    a_trace_tells_what_turns_made();
+}
+
+/// A completed `go` is before the first item of the worker that it starts.
+pub fn a_completed_go_is_before_the_first_item_of_its_worker()
+    ensures { (plan : Plan) (i j group place started : ℕ) (reply : Reply (List ℕ)) (e : Deed) → i < j
+        → Completes (trace_of plan) i group (operations.Composed (ComposedCall.Go started)) reply → (m : Makes (trace_of plan) j place started e)
+        → All (λ (other : Item). other.caller ≢ started) (earlier_of (trace_of plan) j place started e m) → Before plan (trace_of plan) i j }
 {
     a_trace_tells_what_turns_made();
 }
