@@ -2,6 +2,7 @@ pub mod Accesses
 pub mod CallRows
 pub mod CompletedCalls
 pub mod ComposedCalls
+pub mod DoneOnce
 pub mod NoVariables
 pub mod Order
 pub mod Ordered

@@ -1,5 +1,5 @@
 //! What completed calls of a run order: the rows of the table in the words of the scripts.
-ghost use Rattle.std.specs.Prelude.{◌≡◌, ◌≢◌, ℕ, negsuc, ◌<◌, true, All, List};
+ghost use Rattle.std.specs.Prelude.{◌≡◌, ◌≢◌, ℕ, ℤ, negsuc, ◌<◌, true, All, List};
 ghost use Rattle.script_calls.specs.declared.call.Operation.TheVariants as operations;
 ghost use Rattle.script_calls.specs.declared.call.Reply.{Reply};
 ghost use Rattle.script_calls.specs.declared.call.Reply.TheVariants as replies;
@@ -21,6 +21,7 @@ ghost use Rattle.race_clocks.specs.Rows.{Makes, earlier_of, Completes, IsMutexUn
 
 use script_calls::ComposedCall;
 use step_runner::laws::a_trace_tells_what_turns_made;
+use sync_types::once_call::DoReply;
 
 /// An unlock of a mutex is before each later turn that completes a `lock` of it, or a `trylock` that is true.
 pub fn an_unlock_is_before_each_later_completed_lock()
@@ -98,6 +99,14 @@ pub fn a_completed_go_is_before_the_first_item_of_its_worker()
     ensures { (plan : Plan) (i j group place started : ℕ) (reply : Reply (List ℕ)) (e : Deed) → i < j
         → Completes (trace_of plan) i group (operations.Composed (ComposedCall.Go started)) reply → (m : Makes (trace_of plan) j place started e)
         → All (λ (other : Item). other.caller ≢ started) (earlier_of (trace_of plan) j place started e m) → Before plan (trace_of plan) i j }
+{
+    a_trace_tells_what_turns_made();
+}
+
+/// A completed `do` that ran the once's function is before each later completed `do` of that once.
+pub fn a_do_that_ran_is_before_each_later_do()
+    ensures { (plan : Plan) (i j once : ℕ) (sum : ℤ) → i < j → Completes (trace_of plan) i once operations.Once (replies.Once (DoReply.Ran sum))
+        → Completes (trace_of plan) j once operations.Once (replies.Once DoReply.Done) → Before plan (trace_of plan) i j }
 {
     a_trace_tells_what_turns_made();
 }
