@@ -1,3 +1,5 @@
+pub mod ItemChannels
+pub mod Notified
 pub mod Lists
 pub mod NumberLemmas
 pub mod TableLemmas
