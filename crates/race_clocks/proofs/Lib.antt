@@ -1,3 +1,4 @@
+pub mod Agreement
 pub mod NoVariables
 pub mod Order
 pub mod Ordered
@@ -9,4 +10,6 @@ pub mod RaceLaws
 pub mod Readers
 pub mod Shared
 pub mod Signals
+pub mod StepByStep
+pub mod Told
 pub mod Turns
