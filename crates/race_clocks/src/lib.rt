@@ -4,7 +4,7 @@
 pub mod clocks;
 pub mod laws;
 pub mod race;
-pub(crate) mod telling;
+mod telling;
 
 pub use clocks::races;
 pub use race::{CallPlace, Race};
