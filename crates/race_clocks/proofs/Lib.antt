@@ -6,6 +6,7 @@ pub mod TableLemmas
 pub mod Accesses
 pub mod CallRows
 pub mod CompletedCalls
+pub mod Agreement
 pub mod NoVariables
 pub mod Order
 pub mod Ordered
@@ -18,5 +19,7 @@ pub mod Readers
 pub mod RunSeen
 pub mod Shared
 pub mod Signals
+pub mod StepByStep
+pub mod Told
 pub mod Turns
 pub mod Whose

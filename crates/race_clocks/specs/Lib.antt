@@ -1,3 +1,4 @@
+pub mod Agreement
 pub mod Channels
 pub mod Deeds
 pub mod HappensBefore

@@ -13,6 +13,7 @@ mod pools;
 pub mod race;
 mod seen;
 mod tables;
+mod telling;
 
 pub use clocks::races;
 pub use race::{CallPlace, Race};
