@@ -30,11 +30,12 @@ use Rattle.step_runner.specs.declared.turns.item.Deed.TheVariants as deeds
 use Rattle.step_runner.specs.declared.turns.item.Item.{Item}
 use Rattle.race_clocks.specs.Channels as all
 use Rattle.race_clocks.specs.Deeds.{unlocks_mutex, locks_mutex, unlocks_as_writer, unlocks_as_reader, locks_rw_mutex, is_writers_call, leaves_cond, lowers_group, returns_from_group, ends_once, returns_from_once, starts_worker, enters_atomic, finds_atomic, finds_in_map}
-use Rattle.race_clocks.specs.Handing.{is_for, are_for, started_by, found_key, cond_event, pool_event, is_kept, cond_at, pool_at, map_at, stepped_by, was_told, notice, notices, put_given, put_taken, on_key, key_given, found_on, pairs_taken}
+use Rattle.race_clocks.specs.Handing.{is_for, are_for, is_each, started_by, found_key, cond_event, pool_event, is_kept, cond_at, pool_at, map_at, stepped_by, was_told, notice, notices, put_given, put_taken, on_key, key_given, found_on, pairs_taken}
 use Rattle.race_clocks.specs.Passing.{if_so, started_given, plain_given, plain_taken, placed_taken, cond_behind, cond_given, pool_behind, pool_given, pool_taken, map_made, map_behind, map_given_by, map_given, taken_with, given_with, IsPassed, IsSeen, IsTold, AreTold}
 use Rattle.race_clocks.specs.Places.{at}
 use Rattle.race_clocks.specs.Seen.{NumberedPool, Named, pool_step}
 use Rattle.race_clocks.specs.Seen as run
+use Rattle.race_clocks.proofs.Keyed.{keyed_more}
 use Rattle.race_clocks.specs.declared.channel.Channel.{Channel}
 use Rattle.race_clocks.specs.declared.channel.Channel.TheVariants as channels
 use Rattle.race_clocks.specs.declared.seen.Passing.{Passing}
@@ -61,7 +62,6 @@ swap_or true b = sym (or_true b)
 swap_or false b = sym (or_false b)
 
 -- ---- what conds, pools and maps have come to
-
 
 pub cond_same : (state : notify.NotifyState) (caller : ℕ) (deed : Deed) → option_map_or (λ event. (notify.next state caller event).0) (cond_event deed) state ≡ run.cond_made state caller deed
 cond_same state caller (deeds.Placed operation reply) = refl
@@ -188,7 +188,6 @@ module _ (c : all.Channel) (object : ℕ) (deed : Deed) (list : List Channel) wh
         step (finds_atomic deed) (channels.Atomic object) _ _ (step (returns_from_once deed) (channels.FunctionEnd object) _ _ (step (returns_from_group deed) (channels.Lowering object) _ _ (step (leaves_cond deed) (channels.Notice object caller) _ _
         (step (locks_rw_mutex deed && is_writers_call call) (channels.ReaderUnlock object) _ _ (step (locks_rw_mutex deed) (channels.WriterUnlock object) _ _ (step (locks_mutex deed) (channels.MutexUnlock object) list (are_for c list) refl))))))
 
-
 -- ---- what an item doesn't tell
 
 off_key : (c : all.Channel) (map : ℕ) (key : Option (List ℕ)) → ((place : ℕ) (key : List ℕ) → is_for c (channels.MapKey place key) ≡ false) → ((place : ℕ) → is_for c (channels.EachKey place) ≡ false) → are_for c (on_key map key) ≡ false
@@ -283,7 +282,6 @@ pub off_cond : (c : all.Channel) (workers : ℕ) (item : Item) (state : notify.N
     → are_for c (option_map_or (λ event. notices workers item.object (map (notify.place_of state) (range_with_len 0 workers)) (notify.next state item.caller event).0) event []) ≡ false
 off_cond c workers item state None off = refl
 off_cond c workers item state (Some event) off = off_notices c item.object (map (notify.place_of state) (range_with_len 0 workers)) (notify.next state item.caller event).0 (range_with_len 0 workers) off
-
 
 -- ---- what it does tell
 
@@ -586,26 +584,27 @@ module _ (test : List Item → Item → Bool) where
       or_assoc true b c = refl
       or_assoc false b c = refl
 
-
 module _ (plan : Plan) (earlier items : List Item) (item : Item) (call : Option Call) (old new : Seen) (before after : Passing) (so_far : IsTold plan earlier items call old before) (passed : IsPassed plan item call old before new after) where
   pub told_more : ((m n : ℕ) → are_for (all.Notice m n) (cond_given plan.workers item (cond_at plan.workers old.conds item.object)) ≡ run.notifies plan m n (earlier ++ items) item) → IsTold plan earlier (items ++ item ∷ []) call new after
   told_more notices_so = record {
     comes = subst (λ all. IsSeen plan all new) (append_assoc earlier items (item ∷ [])) (seen_more plan (earlier ++ items) item call old new before after so_far.comes passed);
+    keyed = ap (λ list. list_any is_each list) passed.takes ∙ keyed_more plan item call old before.takes ∙ so_far.keyed;
     takes = λ c.
-      ap (are_for c) passed.takes ∙ takes_is plan (earlier ++ items) item old so_far.comes before.takes call c
-      ∙ swap_or (all.takes plan (earlier ++ items) item call c) (are_for c before.takes)
-      ∙ ap (λ b. b || all.takes plan (earlier ++ items) item call c) (so_far.takes c)
-      ∙ sym (some_more (λ before item. all.takes plan before item call c) earlier items item);
+        ap (are_for c) passed.takes ∙ takes_is plan (earlier ++ items) item old so_far.comes before.takes call c
+        ∙ swap_or (all.takes plan (earlier ++ items) item call c) (are_for c before.takes)
+        ∙ ap (λ b. b || all.takes plan (earlier ++ items) item call c) (so_far.takes c)
+        ∙ sym (some_more (λ before item. all.takes plan before item call c) earlier items item);
     gives = λ c.
-      ap (are_for c) passed.gives ∙ gives_is plan (earlier ++ items) item old so_far.comes before.gives notices_so c
-      ∙ swap_or (all.gives plan (earlier ++ items) item c) (are_for c before.gives)
-      ∙ ap (λ b. b || all.gives plan (earlier ++ items) item c) (so_far.gives c)
-      ∙ sym (some_more (λ before item. all.gives plan before item c) earlier items item);
+        ap (are_for c) passed.gives ∙ gives_is plan (earlier ++ items) item old so_far.comes before.gives notices_so c
+        ∙ swap_or (all.gives plan (earlier ++ items) item c) (are_for c before.gives)
+        ∙ ap (λ b. b || all.gives plan (earlier ++ items) item c) (so_far.gives c)
+        ∙ sym (some_more (λ before item. all.gives plan before item c) earlier items item);
   }
 
 pub told_none : (plan : Plan) (call : Option Call) (seen : Seen) (passing : Passing) → passing.takes ≡ [] → passing.gives ≡ [] → AreTold plan [] call seen seen passing
 told_none plan call seen passing takes gives earlier comes = record {
   comes = subst (λ all. IsSeen plan all seen) (sym (append-nil earlier)) comes;
+  keyed = ap (λ list. list_any is_each list) takes;
   takes = λ c. ap (are_for c) takes;
   gives = λ c. ap (are_for c) gives;
 }

@@ -1,5 +1,8 @@
 pub mod ItemChannels
 pub mod Notified
+pub mod Keyed
+pub mod Workers
+pub mod Stepping
 pub mod Lists
 pub mod NumberLemmas
 pub mod TableLemmas

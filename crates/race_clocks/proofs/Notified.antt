@@ -60,15 +60,16 @@ module _ (object m n : ℕ) (same : (object == m) ≡ true) (before : List Notif
   up_to (suc k) =
       let more : k + 1 ≡ suc k = omega arith in
       let before_k = up_to k in
-      subst Tells more
-      ( (λ less. elim (eqb_tells k n) [
+      subst Tells more (
+        (λ less. elim (eqb_tells k n) [
           | inl (is, here) ↦ next k ∙ ap (λ x. (x && told k) || so_far k) is ∙ ap (λ x. told k || x) (before_k.1 (omega (arith, here))) ∙ or_false (told k) ∙ ap told here
           | inr (isnt, apart) ↦ next k ∙ ap (λ x. (x && told k) || so_far k) isnt ∙ before_k.0 (omega (arith, less, apart))
         ]),
         (λ above. elim (eqb_tells k n) [
           | inl (is, here) ↦ absurd (omega (arith, above, here))
           | inr (isnt, apart) ↦ next k ∙ ap (λ x. (x && told k) || so_far k) isnt ∙ before_k.1 (omega (arith, above))
-        ]))
+        ]),
+      )
 
 out_there : (notified n : ℕ) (tickets : List (Option ℕ)) → length tickets ≤ n → notify.place_with notified (slice_get tickets n) ≡ notify_places.Out
 out_there notified n [] over = refl

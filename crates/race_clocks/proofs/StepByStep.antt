@@ -9,16 +9,16 @@ use Rattle.step_runner.specs.declared.trace.TraceItem.{TraceItem}
 use Rattle.race_clocks.specs.Agreement.{StepTakes, AgreesAt, AgreeSoFar, Agree}
 
 -- the elements of a list that goes on
-front_at : {A : Type 0} (xs ys : List A) (n : ℕ) → n < length xs → slice_get (xs ++ ys) n ≡ slice_get xs n
+pub front_at : {A : Type 0} (xs ys : List A) (n : ℕ) → n < length xs → slice_get (xs ++ ys) n ≡ slice_get xs n
 front_at [] ys n within = absurd (omega (arith, within))
 front_at (x ∷ xs) ys zero within = refl
 front_at (x ∷ xs) ys (suc n) within = front_at xs ys n (omega (arith, within))
 
-next_at : {A : Type 0} (xs : List A) (x : A) → slice_get (xs ++ x ∷ []) (length xs) ≡ Some x
+pub next_at : {A : Type 0} (xs : List A) (x : A) → slice_get (xs ++ x ∷ []) (length xs) ≡ Some x
 next_at [] x = refl
 next_at (y ∷ xs) x = next_at xs x
 
-within_next : {A : Type 0} (xs : List A) (x : A) → length (xs ++ x ∷ []) ≡ suc (length xs)
+pub within_next : {A : Type 0} (xs : List A) (x : A) → length (xs ++ x ∷ []) ≡ suc (length xs)
 within_next [] x = refl
 within_next (y ∷ xs) x = ap suc (within_next xs x)
 

@@ -56,6 +56,20 @@ is_for channel other = false
 abbrev pub are_for : all.Channel → List Channel → Bool
 are_for channel list = list_any (is_for channel) list
 
+-- whether it stands for each key of a map
+abbrev pub is_each : Channel → Bool
+is_each (channels.MutexUnlock mutex) = false
+is_each (channels.WriterUnlock lock) = false
+is_each (channels.ReaderUnlock lock) = false
+is_each (channels.Notice place worker) = false
+is_each (channels.Lowering group) = false
+is_each (channels.FunctionEnd once) = false
+is_each (channels.PutItem pool number) = false
+is_each (channels.Start worker) = false
+is_each (channels.Atomic atomic) = false
+is_each (channels.MapKey map key) = false
+is_each (channels.EachKey map) = true
+
 -- ---- what an item is
 
 -- the worker that a `go` starts

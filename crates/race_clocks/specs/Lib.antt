@@ -9,4 +9,5 @@ pub mod Seen
 pub mod Handing
 pub mod Numbering
 pub mod Passing
+pub mod Stepping
 pub mod Places

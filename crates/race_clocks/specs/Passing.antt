@@ -12,7 +12,7 @@ use Rattle.step_runner.specs.declared.turns.item.Deed.{Deed}
 use Rattle.step_runner.specs.declared.turns.item.Deed.TheVariants as deeds
 use Rattle.step_runner.specs.declared.turns.item.Item.{Item}
 use Rattle.race_clocks.specs.Deeds.{unlocks_mutex, locks_mutex, unlocks_as_writer, unlocks_as_reader, locks_rw_mutex, is_writers_call, leaves_cond, lowers_group, returns_from_group, ends_once, returns_from_once, enters_atomic, finds_atomic}
-use Rattle.race_clocks.specs.Handing.{are_for, AreOf, started_by, cond_event, pool_event, is_kept, cond_at, pool_at, map_at, stepped_by, notices, put_given, put_taken, key_given, key_taken, pairs_taken}
+use Rattle.race_clocks.specs.Handing.{are_for, is_each, AreOf, started_by, cond_event, pool_event, is_kept, cond_at, pool_at, map_at, stepped_by, notices, put_given, put_taken, key_given, key_taken, pairs_taken}
 use Rattle.race_clocks.specs.Places.{at}
 use Rattle.race_clocks.specs.Channels as all
 use Rattle.race_clocks.specs.Seen.{NumberedPool, Named, pool_step}
@@ -119,6 +119,7 @@ pub record IsSeen (plan : Plan) (earlier : List Item) (seen : Seen) : Type 0 whe
 -- the channels that are told of items of a turn of this call are those of their edges
 pub record IsTold (plan : Plan) (earlier items : List Item) (call : Option Call) (seen : Seen) (passing : Passing) : Type 0 where
   pub comes : IsSeen plan (earlier ++ items) seen
+  pub keyed : list_any is_each passing.takes ≡ false
   pub takes : (channel : all.Channel) → are_for channel passing.takes ≡ all.some_item (λ before item. all.takes plan before item call channel) earlier items
   pub gives : (channel : all.Channel) → are_for channel passing.gives ≡ all.some_item (λ before item. all.gives plan before item channel) earlier items
 

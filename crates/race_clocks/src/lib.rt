@@ -12,6 +12,7 @@ mod numbers;
 mod pools;
 pub mod race;
 mod seen;
+mod steps;
 mod tables;
 mod telling;
 

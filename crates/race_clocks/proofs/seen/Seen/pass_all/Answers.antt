@@ -2,7 +2,7 @@ use Rattle.std.proofs.Common.{List, take, ◌++◌, ◌∷◌, [], sym, subst, a
 use Rattle.step_runner.specs.declared.turns.item.Item.{Item}
 use Rattle.race_clocks.specs.Passing.{IsSeen, IsTold, AreTold}
 use Rattle.race_clocks.proofs.ItemChannels.{told_none, told_more}
-use Rattle.race_clocks.proofs.Lists.{take_next}
+use Rattle.race_clocks.proofs.Lists.{take_next, take_whole}
 use Rattle.race_clocks.proofs.Notified.{notices_so}
 use Rattle.race_clocks.proofs.seen.Seen.pass_all.Goals as goal
 
@@ -23,8 +23,14 @@ loop-item-preserved c =
     record {
       are = c.in_ok-pass.ensures.are;
       told = subst (λ (list : List Item). AreTold plan list call c.args.self.now c.pass.new.self c.pass.new.passing) (sym next)
-        (λ earlier comes.
+          (λ earlier comes.
           let so_far = c.loop-item.invariant.told earlier comes in
           told_more plan earlier (take i items) item call c.loop-item.self c.pass.new.self c.loop-item.passing c.pass.new.passing so_far c.in_ok-pass.ensures
           (λ m n. notices_so plan (earlier ++ take i items) item c.loop-item.self so_far.comes m n));
     }
+
+pub returns-clause-told : goal.returns-clause-told
+returns-clause-told c =
+    let items : List Item = c.args.items.now in
+    subst (λ (list : List Item). AreTold c.args.workload.now list c.args.call.now c.args.self.now c.loop-item.self c.loop-item.passing)
+    (take_whole items c.loop-item.item-index (omega (arith, c.loop-item-test.false, c.loop-item.auto.item-index-end))) c.loop-item.invariant.told
