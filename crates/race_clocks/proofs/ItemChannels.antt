@@ -1,10 +1,10 @@
 -- The channels that the code tells of items are those of their edges.
-use Rattle.std.proofs.Common.{◌≡◌, ℕ, zero, suc, ◌+◌, ◌<◌, Bool, true, false, not, cond, List, [], ◌∷◌, ◌++◌, map, get_or, length, Option, Some, None, refl, sym, ap, ◌∙◌, subst, append-nil, append_assoc, arith}
+use Rattle.std.proofs.Common.{◌≡◌, ℕ, Bool, true, false, not, cond, List, [], ◌∷◌, ◌++◌, map, get_or, Option, Some, None, refl, sym, ap, ◌∙◌, subst, append-nil, append_assoc}
 use Rattle.std.specs.Prelude.{◌==◌, ◌&&◌, ◌||◌, is_some}
-use Rattle.std.specs.List.{list_any, flat_map, fold, range_with_len}
+use Rattle.std.specs.List.{list_any, flat_map, range_with_len}
 use Rattle.std.specs.Option.{option_map_or}
 use Rattle.std.specs.Str.{bytes_eq}
-use Rattle.std.proofs.lemmas.Bool.{eqb-true, false≢true}
+use Rattle.std.proofs.lemmas.Bool.{eqb-true}
 use Rattle.std.proofs.lemmas.List.Folds.{list_any-append}
 use Rattle.std.proofs.lemmas.List.Sums.{fold-append}
 use Rattle.sync_types.specs.SequentialMap.{is_map_entry, map_key}
@@ -30,7 +30,7 @@ use Rattle.step_runner.specs.declared.turns.item.Deed.TheVariants as deeds
 use Rattle.step_runner.specs.declared.turns.item.Item.{Item}
 use Rattle.race_clocks.specs.Channels as all
 use Rattle.race_clocks.specs.Deeds.{unlocks_mutex, locks_mutex, unlocks_as_writer, unlocks_as_reader, locks_rw_mutex, is_writers_call, leaves_cond, lowers_group, returns_from_group, ends_once, returns_from_once, starts_worker, enters_atomic, finds_atomic, finds_in_map}
-use Rattle.race_clocks.specs.Handing.{is_for, are_for, is_each, started_by, found_key, cond_event, pool_event, is_kept, cond_at, pool_at, map_at, stepped_by, was_told, notice, notices, put_given, put_taken, on_key, key_given, found_on, pairs_taken}
+use Rattle.race_clocks.specs.Handing.{is_for, are_for, is_each, started_by, found_key, cond_event, pool_event, is_kept, cond_at, pool_at, map_at, stepped_by, was_told, notice, notices, put_given, put_taken, on_key, found_on, pairs_taken}
 use Rattle.race_clocks.specs.Passing.{if_so, started_given, plain_given, plain_taken, placed_taken, cond_behind, cond_given, pool_behind, pool_given, pool_taken, map_made, map_behind, map_given_by, map_given, taken_with, given_with, IsPassed, IsSeen, IsTold, AreTold}
 use Rattle.race_clocks.specs.Places.{at}
 use Rattle.race_clocks.specs.Seen.{NumberedPool, Named, pool_step}

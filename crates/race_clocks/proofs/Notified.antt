@@ -1,5 +1,5 @@
 -- Whom an event of a cond notifies: those of whom the code tells.
-use Rattle.std.proofs.Common.{◌≡◌, ◌≢◌, ◌⊎◌, ℕ, zero, suc, ◌+◌, ◌<◌, ◌≤◌, inl, inr, Bool, true, false, cond, List, [], ◌∷◌, ◌++◌, map, get_or, length, Option, Some, None, refl, sym, ap, ◌∙◌, subst, arith}
+use Rattle.std.proofs.Common.{◌≡◌, ℕ, zero, suc, ◌+◌, ◌<◌, ◌≤◌, inl, inr, Bool, true, false, cond, List, [], ◌∷◌, map, get_or, length, Option, Some, None, refl, sym, ap, ◌∙◌, subst, arith}
 use Rattle.std.specs.Prelude.{◌==◌, ◌&&◌, ◌||◌, slice_get}
 use Rattle.std.specs.List.{flat_map, range_with_len}
 use Rattle.std.specs.Option.{option_map_or}
@@ -13,10 +13,9 @@ use Rattle.wait_cores.specs.declared.notify.NotifyPlace.TheVariants as notify_pl
 use Rattle.workload.specs.Plan.{Plan}
 use Rattle.step_runner.specs.declared.turns.item.Item.{Item}
 use Rattle.race_clocks.specs.Channels as all
-use Rattle.race_clocks.specs.Handing.{is_for, are_for, cond_event, cond_at, was_told, notice, notices}
+use Rattle.race_clocks.specs.Handing.{are_for, cond_event, cond_at, was_told, notice, notices}
 use Rattle.race_clocks.specs.Passing.{cond_given, IsSeen}
 use Rattle.race_clocks.specs.Seen as run
-use Rattle.race_clocks.specs.declared.channel.Channel.{Channel}
 use Rattle.race_clocks.specs.declared.channel.Channel.TheVariants as channels
 use Rattle.race_clocks.specs.declared.seen.Seen.{Seen}
 use Rattle.race_clocks.proofs.ItemChannels.{and_false, and_true, or_false, behind, off_cond, cond_same}

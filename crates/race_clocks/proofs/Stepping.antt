@@ -1,7 +1,7 @@
 -- A step more: it tells what its turn tells.
-use Rattle.std.proofs.Common.{◌≡◌, ◌≢◌, ◌⊎◌, ℕ, zero, suc, ◌+◌, ◌<◌, ◌≤◌, inl, inr, Bool, true, false, List, [], ◌∷◌, ◌++◌, length, take, Option, Some, None, refl, sym, ap, ◌∙◌, subst, append-nil, arith}
+use Rattle.std.proofs.Common.{◌≡◌, ◌⊎◌, ℕ, zero, suc, ◌+◌, ◌<◌, ◌≤◌, inl, inr, Bool, true, false, List, [], ◌∷◌, ◌++◌, length, take, Option, Some, None, refl, sym, ap, ◌∙◌, subst, append-nil, arith}
 use Rattle.std.specs.Prelude.{◌==◌, ◌&&◌, ◌||◌, Contains, All, slice_get, slice_index_or}
-use Rattle.std.specs.List.{list_any, flat_map}
+use Rattle.std.specs.List.{list_any}
 use Rattle.std.specs.Option.{option_to_list}
 use Rattle.std.proofs.lemmas.Bool.{eqb-true, eq-eqb, false≢true, cases_lt}
 use Rattle.std.proofs.lemmas.Grind.{flat_map-append}
@@ -23,7 +23,7 @@ use Rattle.race_clocks.specs.Channels as all
 use Rattle.race_clocks.specs.Channels.{hands_on, takes_in, sets}
 use Rattle.race_clocks.specs.Handing.{is_for, are_for, is_each}
 use Rattle.race_clocks.specs.HappensBefore.{done_before, Stands}
-use Rattle.race_clocks.specs.Numbering.{later, number_of, number_at, numbers_of, none_yet, no_numbers, HandedOn, IsNumbered}
+use Rattle.race_clocks.specs.Numbering.{later, number_of, number_at, numbers_of, none_yet, no_numbers}
 use Rattle.race_clocks.specs.Passing.{new_seen, IsSeen, IsTold}
 use Rattle.race_clocks.specs.Stepping.{IsStepOf, Holds, AreSteps}
 use Rattle.race_clocks.specs.declared.channel.Channel.{Channel}

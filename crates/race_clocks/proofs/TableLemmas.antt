@@ -1,9 +1,7 @@
 -- What a set number is to each channel, and which channels of the code stand for which.
-use Rattle.std.proofs.Common.{◌≡◌, ℕ, ◌+◌, ◌<◌, ◌≤◌, Bool, true, false, cond, List, [], Option, Some, None, refl, sym, ap, ◌∙◌, subst, max, arith}
+use Rattle.std.proofs.Common.{◌≡◌, ℕ, ◌<◌, Bool, true, false, cond, List, [], Option, Some, None, refl, sym, ap, ◌∙◌, max, arith}
 use Rattle.std.specs.Prelude.{◌==◌, ◌&&◌}
 use Rattle.std.specs.FinMap.{get, insert, get-insert}
-use Rattle.std.specs.Ordering.{nat_cmp, eq_by_cmp}
-use Rattle.std.specs.Cmp.Lexicographic.{slice_cmp}
 use Rattle.std.specs.Str.{bytes_eq}
 use Rattle.std.proofs.lemmas.Bool.{eqb-true, eq-eqb, false≢true}
 use Rattle.std.proofs.lemmas.Cmp.{nat_list_cmp_total}
@@ -11,7 +9,7 @@ use Rattle.std.proofs.lemmas.Map.Text.{is_eq-slice_cmp}
 use Rattle.std.proofs.lemmas.Slice.Eq.{bytes_eq-Decides}
 use Rattle.race_clocks.specs.Channels as all
 use Rattle.race_clocks.specs.Handing.{is_for, is_each}
-use Rattle.race_clocks.specs.Numbering.{at_in, keys_at, later, number_of, number_at, IsPut, IsPutIn, IsInserted, IsSetAt, is_replacing}
+use Rattle.race_clocks.specs.Numbering.{keys_at, later, number_of, number_at, IsPut, IsPutIn, IsInserted, IsSetAt, is_replacing}
 use Rattle.race_clocks.specs.Places.{at}
 use Rattle.race_clocks.specs.Seen.{Named}
 use Rattle.race_clocks.specs.declared.channel.Channel.{Channel}

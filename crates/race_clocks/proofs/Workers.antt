@@ -12,13 +12,12 @@ use Rattle.workload.specs.declared.turn.Turn.TheVariants as items
 use Rattle.workload.specs.Plan.{Plan, is_turn, is_valid}
 use Rattle.step_runner.specs.Outcomes.{rounds}
 use Rattle.step_runner.specs.State.{State}
-use Rattle.step_runner.specs.Traces.{script_turn, closing_turn, told_by, turn_told, is_told, traced_by, traced_turn, traced_from, unless_over}
+use Rattle.step_runner.specs.Traces.{script_turn, closing_turn, told_by, turn_told, traced_turn, traced_from, unless_over}
 use Rattle.step_runner.specs.Turns.{begun_by, next_call, item_of, round}
 use Rattle.step_runner.specs.TurnWithin.{turn_within, items_within}
 use Rattle.step_runner.specs.declared.step.Step.{Step}
 use Rattle.step_runner.specs.declared.step.Step.TheVariants as steps
 use Rattle.step_runner.specs.declared.trace.TraceItem.{TraceItem}
-use Rattle.step_runner.specs.declared.turns.answer.Answer.{Answer}
 use Rattle.step_runner.specs.declared.turns.item.Item.{Item}
 
 -- every turn that is told passes

@@ -1,11 +1,10 @@
 -- What the steps so far are to the turns so far.
-use Rattle.std.specs.Prelude.{◌≡◌, ℕ, ◌<◌, Contains, List, [], length, Option, Some, None, option_map, slice_get}
+use Rattle.std.specs.Prelude.{◌≡◌, ℕ, ◌<◌, Contains, List, [], length, Some, None, option_map, slice_get}
 use Rattle.vector_clocks.specs.declared.step.Step.{Step}
 use Rattle.workload.specs.Plan.{Plan}
 use Rattle.step_runner.specs.declared.trace.TraceItem.{TraceItem}
 use Rattle.race_clocks.specs.Agreement.{step_access, AgreeSoFar}
 use Rattle.race_clocks.specs.Channels as all
-use Rattle.race_clocks.specs.Handing.{AreOf}
 use Rattle.race_clocks.specs.HappensBefore.{done_before, Stands}
 use Rattle.race_clocks.specs.Numbering.{number_of, numbers_of, HandedOn, IsNumbered}
 use Rattle.race_clocks.specs.Passing.{AreTold, IsSeen}

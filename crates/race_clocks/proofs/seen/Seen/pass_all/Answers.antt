@@ -1,6 +1,6 @@
-use Rattle.std.proofs.Common.{List, take, ◌++◌, ◌∷◌, [], sym, subst, arith}
+use Rattle.std.proofs.Common.{List, take, ◌++◌, sym, subst, arith}
 use Rattle.step_runner.specs.declared.turns.item.Item.{Item}
-use Rattle.race_clocks.specs.Passing.{IsSeen, IsTold, AreTold}
+use Rattle.race_clocks.specs.Passing.{AreTold}
 use Rattle.race_clocks.proofs.ItemChannels.{told_none, told_more}
 use Rattle.race_clocks.proofs.Lists.{take_next, take_whole}
 use Rattle.race_clocks.proofs.Notified.{notices_so}
