@@ -93,16 +93,16 @@ whole_of plan one call reply of with t = by (is_behind plan t.worker t.state) t.
         completes = ap (answer plan t.state t.worker) (sym same) ∙ completed (answer plan t.state t.worker t.call) reply (ap (λ (x : TraceItem). x.reply) is ∙ with);
       }
 
-abbrev is_completed : Answer → Bool
+abbrev pub is_completed : Answer → Bool
 is_completed (answers.Completed reply) = true
 is_completed answers.Still = false
 is_completed answers.Unfinished = false
 is_completed (answers.Misused misuse) = false
 
-never : {A : Type 0} (reply : Reply (List ℕ)) → answers.Still ≡ answers.Completed reply → A
+pub never : {A : Type 0} (reply : Reply (List ℕ)) → answers.Still ≡ answers.Completed reply → A
 never reply e = absurd (false≢true (ap is_completed e))
 
-later : {A : Type 0} (reply : Reply (List ℕ)) → answers.Unfinished ≡ answers.Completed reply → A
+pub later : {A : Type 0} (reply : Reply (List ℕ)) → answers.Unfinished ≡ answers.Completed reply → A
 later reply e = absurd (false≢true (ap is_completed e))
 
 -- a try that took a lock
@@ -111,7 +111,7 @@ has_won (answers.Completed (replies.Lock (locks.Tried acquired))) = acquired
 has_won a = false
 
 -- the place of the other object to which an object refers
-abbrev other_of : ObjectState → ℕ
+abbrev pub other_of : ObjectState → ℕ
 other_of (states.Cond c other) = other
 other_of (states.Once o other delta) = other
 other_of object = 0
@@ -119,17 +119,17 @@ other_of object = 0
 -- ---- at the call's object
 
 module _ (place : ℕ) (operation : Operation) (worker moment : ℕ) (objects : List ObjectState) where
-  abbrev made_call : Call
+  abbrev pub made_call : Call
   made_call = record { object = place; operation = operation }
 
-  abbrev made_by : ObjectState → List Item
+  abbrev pub made_by : ObjectState → List Item
   made_by object = items_by (reference_of (kind_of object)) made_call worker moment objects object
 
-  abbrev step_by : ObjectState → List ObjectState × Answer
+  abbrev pub step_by : ObjectState → List ObjectState × Answer
   step_by object = turn_by (reference_of (kind_of object)) made_call worker moment objects object
 
   -- the items of a turn that completes the call have a property where they have it at each object
-  at_found : (P : List Item → Reply (List ℕ) → Type 0) (reply : Reply (List ℕ)) → ((object : ObjectState) → (step_by object).1 ≡ answers.Completed reply → P (made_by object) reply)
+  pub at_found : (P : List Item → Reply (List ℕ) → Type 0) (reply : Reply (List ℕ)) → ((object : ObjectState) → (step_by object).1 ≡ answers.Completed reply → P (made_by object) reply)
       → (found : Option ObjectState) → (option_map_or step_by found (objects, answers.Still)).1 ≡ answers.Completed reply → P (option_map_or made_by found []) reply
   at_found P reply each None is = never reply is
   at_found P reply each (Some object) is = each object is
@@ -349,10 +349,10 @@ module _ (plan : Plan) (trace : List TraceItem) (told : (n : ℕ) (one : TraceIt
     pub made : c.turn.made ≡ item place worker deed ∷ []
     pub does : Q deed
 
-  whole : (operation : Operation) (reply : Reply (List ℕ)) (c : Completes trace i place operation reply) → IsWhole plan c.turn (record { object = place; operation = operation }) reply
+  pub whole : (operation : Operation) (reply : Reply (List ℕ)) (c : Completes trace i place operation reply) → IsWhole plan c.turn (record { object = place; operation = operation }) reply
   whole operation reply c = whole_of plan c.turn (record { object = place; operation = operation }) reply c.of c.with (told i c.turn c.at)
 
-  by_one : (operation : Operation) (reply : Reply (List ℕ)) (c : Completes trace i place operation reply) (Q : Deed → Type 0) (w : IsWhole plan c.turn (record { object = place; operation = operation }) reply)
+  pub by_one : (operation : Operation) (reply : Reply (List ℕ)) (c : Completes trace i place operation reply) (Q : Deed → Type 0) (w : IsWhole plan c.turn (record { object = place; operation = operation }) reply)
       → MakesOne place w.worker Q (items plan w.state w.worker (record { object = place; operation = operation })) → DoesOne operation reply c Q
   by_one operation reply c Q w (deed, made, does) = record { worker = w.worker; deed = deed; made = sym w.made ∙ made; does = does }
 
