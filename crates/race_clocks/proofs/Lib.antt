@@ -1,9 +1,15 @@
+pub mod ItemChannels
+pub mod Notified
+pub mod Keyed
+pub mod Workers
+pub mod Stepping
 pub mod Lists
 pub mod NumberLemmas
 pub mod TableLemmas
 pub mod Accesses
 pub mod CallRows
 pub mod CompletedCalls
+pub mod Agreement
 pub mod ComposedCalls
 pub mod DoneOnce
 pub mod NoVariables
@@ -20,5 +26,7 @@ pub mod ReadersAlone
 pub mod RunSeen
 pub mod Shared
 pub mod Signals
+pub mod StepByStep
+pub mod Told
 pub mod Turns
 pub mod Whose

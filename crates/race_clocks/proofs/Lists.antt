@@ -1,5 +1,5 @@
 -- Lists of numbers from 0 up, mapped and joined.
-use Rattle.std.proofs.Common.{◌≡◌, ℕ, zero, suc, ◌+◌, List, [], ◌∷◌, ◌++◌, ◌<◌, length, get_or, take, sym, ap, ◌∙◌, append_assoc, append-nil, arith}
+use Rattle.std.proofs.Common.{◌≡◌, ℕ, zero, suc, ◌+◌, List, [], ◌∷◌, ◌++◌, ◌<◌, length, get_or, take, refl, sym, ap, ◌∙◌, append_assoc, append-nil, arith}
 use Rattle.std.specs.List.{flat_map, range_with_len}
 use Rattle.std.proofs.lemmas.List.{take_more}
 
@@ -18,3 +18,7 @@ module _ {A : Type 0} (f : ℕ → List A) where
 
 pub take_next : {A : Type 0} (xs : List A) (i : ℕ) (x : A) → x ≡ get_or xs i x → i < length xs → take (i + 1) xs ≡ take i xs ++ x ∷ []
 take_next xs i x at within = take_more xs i x within ∙ ap (λ y. take i xs ++ y ∷ []) (sym at)
+
+pub take_whole : {A : Type 0} (xs : List A) (i : ℕ) → i ≡ length xs → take i xs ≡ xs
+take_whole [] i is = ap (λ n. take n []) is
+take_whole (x ∷ xs) i is = ap (λ n. take n (x ∷ xs)) is ∙ ap (λ ys. x ∷ ys) (take_whole xs (length xs) refl)

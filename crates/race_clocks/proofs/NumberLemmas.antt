@@ -1,18 +1,17 @@
 -- What numbers are behind one more that is given.
-use Rattle.std.proofs.Common.{◌≡◌, ◌⊎◌, ℕ, ◌+◌, ◌<◌, ◌≤◌, inl, inr, Bool, true, false, cond, List, [], ◌∷◌, ◌++◌, Option, Some, None, refl, sym, ap, ◌∙◌, subst, append-nil, append_assoc, arith}
+use Rattle.std.proofs.Common.{◌≡◌, ◌⊎◌, ℕ, ◌<◌, ◌≤◌, inl, inr, Bool, true, false, cond, List, [], ◌∷◌, ◌++◌, Option, Some, None, refl, sym, ap, ◌∙◌, append-nil, append_assoc, arith}
 use Rattle.std.specs.Option.{option_to_list}
 use Rattle.std.specs.Prelude.{◌&&◌, ◌||◌, Contains}
-use Rattle.std.specs.List.{list_any}
 use Rattle.std.proofs.lemmas.Bool.{false≢true}
 use Rattle.std.proofs.lemmas.List.Elements.{Contains-append_left, Contains-push, Contains-push_cases}
 use Rattle.std.proofs.lemmas.List.Folds.{list_any-append}
 use Rattle.race_clocks.specs.Channels as all
-use Rattle.race_clocks.specs.Handing.{is_for, are_for}
-use Rattle.race_clocks.specs.Numbering.{number_of, number_at, numbers_of, kept_number, is_replacing, IsSetAt, IsGiven, IsFresh, IsNumbered, HandedOn}
+use Rattle.race_clocks.specs.Handing.{is_for, are_for, is_each}
+use Rattle.race_clocks.specs.Numbering.{number_of, number_at, numbers_of, kept_number, is_replacing, IsGiven, IsFresh, IsNumbered, HandedOn}
 use Rattle.race_clocks.specs.declared.channel.Channel.{Channel}
 use Rattle.race_clocks.specs.declared.numbers.Numbers.{Numbers}
 use Rattle.race_clocks.specs.declared.tables.Tables.{Tables}
-use Rattle.race_clocks.proofs.TableLemmas.{is_each, of, replaced_for, is_of, stands_for, number_by, not_each, set_is}
+use Rattle.race_clocks.proofs.TableLemmas.{of, replaced_for, is_of, stands_for, number_by, not_each, set_is}
 
 wrong : {A : Type 0} → false ≡ true → A
 wrong e = absurd (false≢true e)

@@ -1,17 +1,15 @@
 -- What a set number is to each channel, and which channels of the code stand for which.
-use Rattle.std.proofs.Common.{◌≡◌, ℕ, ◌+◌, ◌<◌, ◌≤◌, Bool, true, false, cond, List, [], Option, Some, None, refl, sym, ap, ◌∙◌, subst, max, arith}
+use Rattle.std.proofs.Common.{◌≡◌, ℕ, ◌<◌, Bool, true, false, cond, List, [], Option, Some, None, refl, sym, ap, ◌∙◌, max, arith}
 use Rattle.std.specs.Prelude.{◌==◌, ◌&&◌}
 use Rattle.std.specs.FinMap.{get, insert, get-insert}
-use Rattle.std.specs.Ordering.{nat_cmp, eq_by_cmp}
-use Rattle.std.specs.Cmp.Lexicographic.{slice_cmp}
 use Rattle.std.specs.Str.{bytes_eq}
 use Rattle.std.proofs.lemmas.Bool.{eqb-true, eq-eqb, false≢true}
 use Rattle.std.proofs.lemmas.Cmp.{nat_list_cmp_total}
 use Rattle.std.proofs.lemmas.Map.Text.{is_eq-slice_cmp}
 use Rattle.std.proofs.lemmas.Slice.Eq.{bytes_eq-Decides}
 use Rattle.race_clocks.specs.Channels as all
-use Rattle.race_clocks.specs.Handing.{is_for}
-use Rattle.race_clocks.specs.Numbering.{at_in, keys_at, later, number_of, number_at, IsPut, IsPutIn, IsInserted, IsSetAt, is_replacing}
+use Rattle.race_clocks.specs.Handing.{is_for, is_each}
+use Rattle.race_clocks.specs.Numbering.{keys_at, later, number_of, number_at, IsPut, IsPutIn, IsInserted, IsSetAt, is_replacing}
 use Rattle.race_clocks.specs.Places.{at}
 use Rattle.race_clocks.specs.Seen.{Named}
 use Rattle.race_clocks.specs.declared.channel.Channel.{Channel}
@@ -35,20 +33,6 @@ bytes_same : (a : List ℕ) → bytes_eq a a ≡ true
 bytes_same a = (bytes_eq-Decides a a).1 refl
 
 -- ---- which stands for which
-
--- whether it stands for every key
-abbrev pub is_each : Channel → Bool
-is_each (channels.MutexUnlock m) = false
-is_each (channels.WriterUnlock m) = false
-is_each (channels.ReaderUnlock m) = false
-is_each (channels.Notice m n) = false
-is_each (channels.Lowering m) = false
-is_each (channels.FunctionEnd m) = false
-is_each (channels.PutItem m n) = false
-is_each (channels.Start m) = false
-is_each (channels.Atomic m) = false
-is_each (channels.MapKey m n) = false
-is_each (channels.EachKey m) = true
 
 -- the one for which it stands
 abbrev pub of : Channel → all.Channel
@@ -326,6 +310,19 @@ not_each (channels.Start m) is = refl
 not_each (channels.Atomic m) is = refl
 not_each (channels.MapKey m n) is = refl
 not_each (channels.EachKey m) is = no_way (sym is)
+
+pub each_none : (t : Tables) (d : Channel) → is_each d ≡ true → number_at t d ≡ None
+each_none t (channels.MutexUnlock m) is = no_way is
+each_none t (channels.WriterUnlock m) is = no_way is
+each_none t (channels.ReaderUnlock m) is = no_way is
+each_none t (channels.Notice m n) is = no_way is
+each_none t (channels.Lowering m) is = no_way is
+each_none t (channels.FunctionEnd m) is = no_way is
+each_none t (channels.PutItem m n) is = no_way is
+each_none t (channels.Start m) is = no_way is
+each_none t (channels.Atomic m) is = no_way is
+each_none t (channels.MapKey m n) is = no_way is
+each_none t (channels.EachKey m) is = refl
 
 -- ---- what is set
 

@@ -1,18 +1,12 @@
 -- What the code tells of an item: the channels through which it hands on and from which it takes in, by what the objects came to before it.
-use Rattle.std.specs.Prelude.{◌≡◌, ℕ, ◌+◌, ◌==◌, ◌&&◌, ◌||◌, Bool, true, false, not, List, [], ◌∷◌, ◌++◌, map, get_or, Option, Some, None, is_some, cond, unwrap_or}
+use Rattle.std.specs.Prelude.{◌≡◌, ℕ, ◌+◌, ◌==◌, ◌&&◌, Bool, true, false, List, [], ◌∷◌, map, get_or, Option, Some, None, cond, unwrap_or}
 use Rattle.std.specs.List.{list_any, flat_map, range_with_len}
-use Rattle.std.specs.Option.{option_map_or}
 use Rattle.std.specs.Str.{bytes_eq}
-use Rattle.std.specs.FinMap.{FinMap, empty}
-use Rattle.sync_types.specs.SequentialMap.{map_key, is_map_entry}
+use Rattle.std.specs.FinMap.{empty}
+use Rattle.sync_types.specs.SequentialMap.{map_key}
 use Rattle.sync_types.specs.declared.map_object.MapCall.{MapCall}
 use Rattle.sync_types.specs.declared.map_object.MapCall.TheVariants as map_calls
-use Rattle.script_calls.specs.declared.call.Call.{Call}
-use Rattle.script_calls.specs.declared.call.Operation.{Operation}
-use Rattle.script_calls.specs.declared.call.Operation.TheVariants as operations
-use Rattle.script_calls.specs.declared.call.Reply.TheVariants as replies
 use Rattle.pool_core.specs.PoolMachine as pool
-use Rattle.pool_core.specs.Edges.{pool_releases}
 use Rattle.pool_core.specs.declared.pool_event.PoolEvent.{PoolEvent}
 use Rattle.pool_core.specs.declared.pool_event.PoolEvent.TheVariants as pool_events
 use Rattle.pool_core.specs.declared.pool_event.PoolReply.{PoolReply}
@@ -25,7 +19,6 @@ use Rattle.run_record.specs.declared.entered.ObjectEvent.TheVariants as events
 use Rattle.run_record.specs.declared.entered.ObjectReply.TheVariants as answered
 use Rattle.step_runner.specs.declared.turns.item.Deed.{Deed}
 use Rattle.step_runner.specs.declared.turns.item.Deed.TheVariants as deeds
-use Rattle.step_runner.specs.declared.turns.item.Item.{Item}
 use Rattle.wait_cores.specs.declared.notify.NotifyPlace.{NotifyPlace}
 use Rattle.wait_cores.specs.declared.notify.NotifyPlace.TheVariants as notify_places
 use Rattle.workload.specs.Plan.{Plan}
@@ -55,6 +48,20 @@ is_for channel other = false
 
 abbrev pub are_for : all.Channel → List Channel → Bool
 are_for channel list = list_any (is_for channel) list
+
+-- whether it stands for each key of a map
+abbrev pub is_each : Channel → Bool
+is_each (channels.MutexUnlock mutex) = false
+is_each (channels.WriterUnlock lock) = false
+is_each (channels.ReaderUnlock lock) = false
+is_each (channels.Notice place worker) = false
+is_each (channels.Lowering group) = false
+is_each (channels.FunctionEnd once) = false
+is_each (channels.PutItem pool number) = false
+is_each (channels.Start worker) = false
+is_each (channels.Atomic atomic) = false
+is_each (channels.MapKey map key) = false
+is_each (channels.EachKey map) = true
 
 -- ---- what an item is
 

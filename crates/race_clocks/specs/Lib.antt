@@ -1,3 +1,4 @@
+pub mod Agreement
 pub mod Channels
 pub mod Deeds
 pub mod HappensBefore
@@ -8,4 +9,5 @@ pub mod Seen
 pub mod Handing
 pub mod Numbering
 pub mod Passing
+pub mod Stepping
 pub mod Places

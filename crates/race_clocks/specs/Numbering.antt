@@ -1,9 +1,7 @@
 -- The numbers that channels have, and how they change.
 use Rattle.std.specs.Prelude.{◌≡◌, ◌⊎◌, ℕ, ◌+◌, ◌<◌, ◌≤◌, ◌==◌, ◌&&◌, Bool, true, false, List, [], ◌∷◌, ◌++◌, Contains, max, Option, Some, None, cond, unwrap_or}
 use Rattle.std.specs.Option.{option_to_list}
-use Rattle.std.specs.FinMap.{FinMap, empty, get, insert}
-use Rattle.std.specs.Ordering.{nat_cmp}
-use Rattle.std.specs.Cmp.Lexicographic.{slice_cmp}
+use Rattle.std.specs.FinMap.{empty, get, insert}
 use Rattle.race_clocks.specs.Channels as all
 use Rattle.race_clocks.specs.Handing.{are_for}
 use Rattle.race_clocks.specs.Places.{at}

@@ -1,6 +1,6 @@
 -- The channels of items in order, as the code tells them.
-use Rattle.std.specs.Prelude.{◌≡◌, ℕ, ◌==◌, ◌&&◌, ◌||◌, Bool, true, false, not, List, [], ◌∷◌, ◌++◌, map, Option, Some, None, is_some, cond}
-use Rattle.std.specs.List.{range_with_len}
+use Rattle.std.specs.Prelude.{◌≡◌, ℕ, ◌==◌, ◌&&◌, Bool, true, false, not, List, [], ◌∷◌, ◌++◌, map, Option, Some, None, is_some, cond}
+use Rattle.std.specs.List.{list_any, range_with_len}
 use Rattle.std.specs.Option.{option_map_or}
 use Rattle.sync_types.specs.SequentialMap.{is_map_entry, map_after}
 use Rattle.script_calls.specs.declared.call.Call.{Call}
@@ -12,9 +12,11 @@ use Rattle.step_runner.specs.declared.turns.item.Deed.{Deed}
 use Rattle.step_runner.specs.declared.turns.item.Deed.TheVariants as deeds
 use Rattle.step_runner.specs.declared.turns.item.Item.{Item}
 use Rattle.race_clocks.specs.Deeds.{unlocks_mutex, locks_mutex, unlocks_as_writer, unlocks_as_reader, locks_rw_mutex, is_writers_call, leaves_cond, lowers_group, returns_from_group, ends_once, returns_from_once, enters_atomic, finds_atomic}
-use Rattle.race_clocks.specs.Handing.{AreOf, started_by, cond_event, pool_event, is_kept, cond_at, pool_at, map_at, stepped_by, notices, put_given, put_taken, key_given, key_taken, pairs_taken}
+use Rattle.race_clocks.specs.Handing.{are_for, is_each, AreOf, started_by, cond_event, pool_event, is_kept, cond_at, pool_at, map_at, stepped_by, notices, put_given, put_taken, key_given, key_taken, pairs_taken}
 use Rattle.race_clocks.specs.Places.{at}
+use Rattle.race_clocks.specs.Channels as all
 use Rattle.race_clocks.specs.Seen.{NumberedPool, Named, pool_step}
+use Rattle.race_clocks.specs.Seen as run
 use Rattle.race_clocks.specs.declared.channel.Channel.{Channel}
 use Rattle.race_clocks.specs.declared.channel.Channel.TheVariants as channels
 use Rattle.race_clocks.specs.declared.seen.Passing.{Passing}
@@ -104,10 +106,22 @@ pub record IsPassed (plan : Plan) (item : Item) (call : Option Call) (old : Seen
   pub maps : (place : ℕ) → map_at new.maps place ≡ map_behind item place (map_at old.maps place)
   pub callers : (other : ℕ) → at new.callers other ≡ cond (item.caller == other) (Some true) (at old.callers other)
 
--- and behind items in order
-abbrev pub ArePassedFrom : Plan → List Item → Option Call → Seen → Passing → Seen → Passing → Type 0
-ArePassedFrom plan [] call old before new after = (new ≡ old) × (after ≡ before)
-ArePassedFrom plan (item ∷ items) call old before new after = (seen : Seen) × (passing : Passing) × IsPassed plan item call old before seen passing × ArePassedFrom plan items call seen passing new after
+-- ---- what that means, by all that was done before
 
-abbrev pub ArePassed : Plan → List Item → Option Call → Seen → Seen → Passing → Type 0
-ArePassed plan items call old new after = ArePassedFrom plan items call old (record { takes = []; gives = [] }) new after
+-- conds, pools and maps have come to what these items make of them, and these are the callers
+pub record IsSeen (plan : Plan) (earlier : List Item) (seen : Seen) : Type 0 where
+  pub are : AreOf plan.workers seen.conds
+  pub conds : (place : ℕ) → cond_at plan.workers seen.conds place ≡ run.cond_behind plan place earlier
+  pub pools : (place : ℕ) → pool_at plan seen.pools place ≡ run.pool_behind plan place earlier
+  pub maps : (place : ℕ) → map_at seen.maps place ≡ run.map_behind place earlier
+  pub callers : (worker : ℕ) → is_some (at seen.callers worker) ≡ list_any (λ other. other.caller == worker) earlier
+
+-- the channels that are told of items of a turn of this call are those of their edges
+pub record IsTold (plan : Plan) (earlier items : List Item) (call : Option Call) (seen : Seen) (passing : Passing) : Type 0 where
+  pub comes : IsSeen plan (earlier ++ items) seen
+  pub keyed : list_any is_each passing.takes ≡ false
+  pub takes : (channel : all.Channel) → are_for channel passing.takes ≡ all.some_item (λ before item. all.takes plan before item call channel) earlier items
+  pub gives : (channel : all.Channel) → are_for channel passing.gives ≡ all.some_item (λ before item. all.gives plan before item channel) earlier items
+
+abbrev pub AreTold : Plan → List Item → Option Call → Seen → Seen → Passing → Type 0
+AreTold plan items call old new passing = (earlier : List Item) → IsSeen plan earlier old → IsTold plan earlier items call new passing

@@ -12,7 +12,9 @@ mod numbers;
 mod pools;
 pub mod race;
 mod seen;
+mod steps;
 mod tables;
+mod telling;
 
 pub use clocks::races;
 pub use race::{CallPlace, Race};

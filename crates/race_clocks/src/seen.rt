@@ -1,7 +1,7 @@
 //! What the objects of a run have come to by the items so far, and through which channels the next one hands on.
 ghost use Rattle.std.specs.Prelude.{◌≡◌, ◌==◌, ◌≤◌, ◌++◌, ℕ, Some, true, not, cond, is_some, OnOk, IfOk};
 ghost use Rattle.race_clocks.specs.Handing.{AreOf, cond_at, pool_at, map_at};
-ghost use Rattle.race_clocks.specs.Passing.{if_so, started_given, plain_given, plain_taken, placed_taken, cond_behind, cond_given, pool_behind, pool_given, pool_taken, map_behind, map_given, new_seen, IsPassed, ArePassed};
+ghost use Rattle.race_clocks.specs.Passing.{if_so, started_given, plain_given, plain_taken, placed_taken, cond_behind, cond_given, pool_behind, pool_given, pool_taken, map_behind, map_given, new_seen, IsPassed, AreTold};
 ghost use Rattle.race_clocks.specs.Places.{at};
 ghost use Rattle.race_clocks.specs.declared.channel.Channel.TheVariants as channels;
 
@@ -266,7 +266,8 @@ impl Seen {
         call: &Option<Call>,
     ) -> Result<Passing, AllocError>
         requires { AreOf workload.now.workers self.old.conds }
-        ensures { IfOk result (λ passing. ArePassed workload.now items.now call.now self.old self.new passing) }
+        ensures are { OnOk result (AreOf workload.now.workers self.new.conds) }
+        ensures told { IfOk result (λ passing. AreTold workload.now items.now call.now self.old self.new passing) }
     {
         let mut passing = Passing {
             takes: Seq::new(alloc),

@@ -1,38 +1,23 @@
 //! The steps of a trace, with numbers for channels.
-ghost use Rattle.std.specs.Prelude.{◌≡◌, IfOk, OnOk};
-ghost use Rattle.race_clocks.specs.Stepping.{IsAccess, IsStepOf, AreStepsOf, AreStepsUpTo};
+ghost use Rattle.std.specs.Prelude.{◌≡◌, ◌<◌, ◌≤◌, ◌^◌, ℕ, All, Some, IfOk};
+ghost use Rattle.script_calls.specs.declared.call.Call.{Call};
+ghost use Rattle.step_runner.specs.Traces.{trace_of};
+ghost use Rattle.vector_clocks.specs.Fits.{StepFits};
+ghost use Rattle.race_clocks.specs.Agreement.{Agree};
+ghost use Rattle.race_clocks.specs.Handing.{AreOf};
+ghost use Rattle.race_clocks.specs.Numbering.{IsNumbered};
+ghost use Rattle.race_clocks.specs.Stepping.{IsStepOf};
 
+use crate::laws::turns_are_of_workers;
 use crate::numbers::Numbers;
 use crate::seen::Seen;
-use script_calls::{Call, Operation, VarCall};
+use crate::telling::{access, turns_call_objects_at_small_places};
 use std::alloc::{AllocError, Global};
-use step_runner::TraceItem;
-use vector_clocks::{Access, Step};
+use step_runner::{Trace, TraceItem};
+use vector_clocks::Step;
 use workload::Workload;
 
-/// The variable that a turn of this call reads or writes, if it does. No memory holds 2^32 objects.
-fn access_of(call: &Option<Call>) -> Result<Option<Access>, AllocError>
-    ensures { IfOk result (IsAccess call.now) }
-{
-    let Some(call) = call else {
-        return Ok(None);
-    };
-    match call.operation {
-        Operation::Var(access) => {
-            let Ok(variable) = u32::try_from(call.object) else {
-                return Err(AllocError);
-            };
-            let writes = match access {
-                VarCall::Read => false,
-                VarCall::Write(_) => true,
-            };
-            Ok(Some(Access { variable, writes }))
-        }
-        _ => Ok(None),
-    }
-}
-
-/// Goes on by a turn, and gives its step.
+/// Goes on by a turn, and gives its step. It takes in first, by the numbers that channels have before the turn.
 fn step_of(
     alloc: Global,
     workload: &Workload,
@@ -40,17 +25,20 @@ fn step_of(
     seen: &mut Seen,
     numbers: &mut Numbers,
 ) -> Result<Step, AllocError>
+    requires are { AreOf workload.now.workers seen.old.conds }
+    requires numbered { IsNumbered numbers.old }
+    requires small { (call : Call) → turn.now.call ≡ Some call → call.object < 2 ^ 32 }
+    ensures { IfOk result (λ step. IsStepOf workload.now turn.now seen.old numbers.old seen.new numbers.new step) }
 {
     let passing = seen.pass_all(alloc, workload, turn.made.as_slice(), &turn.call)?;
     let takes = numbers.take(alloc, passing.takes.as_slice())?;
     let gives = numbers.give_all(alloc, passing.gives.as_slice())?;
-    let access = access_of(&turn.call)?;
     Ok(Step {
         worker: turn.worker,
         takes,
         gives,
         sets: Vec::new(alloc),
-        access,
+        access: access(turn),
     })
 }
 
@@ -58,13 +46,19 @@ fn step_of(
 pub(crate) fn steps_of(
     alloc: Global,
     workload: &Workload,
-    trace: &[TraceItem],
+    trace: &Trace,
 ) -> Result<(Vec<Step>, usize), AllocError>
+    requires { trace.now ≡ trace_of workload.now }
+    ensures agree { IfOk result (λ made. Agree workload.now trace.now made.0.items) }
+    ensures fit { IfOk result (λ made. All (StepFits workload.now.workers made.1) made.0.items) }
 {
+    turns_call_objects_at_small_places();
+    turns_are_of_workers();
+    let _workers = workload.workers();
     let mut seen = Seen::new(alloc);
     let mut numbers = Numbers::new(alloc);
     let mut steps = Vec::new(alloc);
-    for turn in trace {
+    for turn in trace.as_slice() {
         steps.push(step_of(alloc, workload, turn, &mut seen, &mut numbers)?)?;
     }
     Ok((steps, numbers.count()))

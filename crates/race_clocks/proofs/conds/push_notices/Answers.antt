@@ -1,7 +1,6 @@
-use Rattle.std.proofs.Common.{◌≡◌, List, [], ◌∷◌, ◌++◌, sym, ap, ◌∙◌, append_assoc, append-nil, map, arith}
+use Rattle.std.proofs.Common.{List, ◌++◌, sym, ap, ◌∙◌, append_assoc}
 use Rattle.std.specs.List.{flat_map, range_with_len}
-use Rattle.std.proofs.lemmas.List.FromFn.{map-range_with_len_more}
-use Rattle.race_clocks.specs.Handing.{notice, notices}
+use Rattle.race_clocks.specs.Handing.{notice}
 use Rattle.race_clocks.specs.declared.channel.Channel.{Channel}
 use Rattle.race_clocks.proofs.Lists.{flat_more}
 use Rattle.race_clocks.proofs.conds.push_notices.Goals as goal

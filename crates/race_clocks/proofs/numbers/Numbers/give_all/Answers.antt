@@ -1,4 +1,4 @@
-use Rattle.std.proofs.Common.{ℕ, List, take, ◌++◌, ◌∷◌, [], sym, subst, ◌∙◌, arith}
+use Rattle.std.proofs.Common.{ℕ, List, take, ◌++◌, ◌∷◌, [], sym, subst, arith}
 use Rattle.race_clocks.specs.Numbering.{HandedOn}
 use Rattle.race_clocks.specs.declared.channel.Channel.{Channel}
 use Rattle.race_clocks.proofs.NumberLemmas.{handed_more}

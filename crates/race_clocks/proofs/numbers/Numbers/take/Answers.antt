@@ -1,7 +1,6 @@
-use Rattle.std.proofs.Common.{◌≡◌, List, ◌++◌, ◌∷◌, [], take, sym, ap, ◌∙◌, arith}
+use Rattle.std.proofs.Common.{◌++◌, take, sym, ap, ◌∙◌, arith}
 use Rattle.std.specs.Option.{option_to_list}
 use Rattle.race_clocks.specs.Numbering.{number_at, numbers_of}
-use Rattle.race_clocks.specs.declared.channel.Channel.{Channel}
 use Rattle.race_clocks.proofs.Lists.{take_next}
 use Rattle.race_clocks.proofs.NumberLemmas.{numbers_more}
 use Rattle.race_clocks.proofs.numbers.Numbers.take.Goals as goal
