@@ -2,6 +2,7 @@ mod CallBounds
 mod ClosingTurns
 mod DormantLemmas
 mod EndLemmas
+mod LastWriteLemmas
 mod MadeLemmas
 mod MetCalls
 mod NextCalls

@@ -1,7 +1,6 @@
 -- A worker of a workload without variables stands before no read or write.
 use Rattle.std.proofs.Common.{◌≡◌, ℕ, zero, suc, Bool, true, false, ◌||◌, List, [], ◌∷◌, map, Some, slice_get, sym, ap, ◌∙◌, refl}
 use Rattle.std.specs.List.{list_any}
-use Rattle.script_calls.specs.declared.call.ComposedCall.TheVariants.{WaitFor, Go}
 use Rattle.script_calls.specs.declared.call.Operation.{Operation}
 use Rattle.script_calls.specs.declared.call.Operation.TheVariants as operations
 use Rattle.script_calls.specs.declared.call.VarCall.{VarCall}

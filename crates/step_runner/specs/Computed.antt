@@ -1,5 +1,5 @@
 -- The outcome of Outcomes.antt, computed: with as many rounds as are enough.
-use Rattle.std.specs.Prelude.{ℕ, zero, suc, ◌+◌, [], if◌then◌else◌}
+use Rattle.std.specs.Prelude.{ℕ, zero, suc, ◌+◌, List, [], if◌then◌else◌}
 use Rattle.workload.specs.Plan.{Plan}
 use Rattle.step_runner.specs.declared.step.Step.{Step}
 use Rattle.step_runner.specs.declared.step.Step.TheVariants as steps
@@ -7,10 +7,11 @@ use Rattle.script_calls.specs.declared.outcome.Ending.{Ending}
 use Rattle.script_calls.specs.declared.outcome.Ending.TheVariants as endings
 use Rattle.script_calls.specs.declared.outcome.Outcome.{Outcome}
 use Rattle.script_calls.specs.declared.outcome.Outcome.TheVariants as outcomes
+use Rattle.step_runner.specs.declared.ends.VariableEnd.{VariableEnd}
 use Rattle.step_runner.specs.State.{State, start}
 use Rattle.step_runner.specs.Turns.{items_of, round, has_ended}
 use Rattle.step_runner.specs.LeftToDo.{left_to_do}
-use Rattle.step_runner.specs.Ends.{scheduled_ends, left_in}
+use Rattle.step_runner.specs.Ends.{variables_behind, scheduled_ends, left_in}
 
 -- how a run ends or goes on behind a round
 abbrev pub behind_round : State × Step → (State → State × Ending) → State × Ending
@@ -46,3 +47,7 @@ outcome_of plan (s, endings.Deadlocked) = outcomes.Deadlocked (left_in plan s []
 -- what the run by the schedule comes to
 abbrev pub turns : Plan → Outcome
 turns plan = outcome_of plan (whole_run plan)
+
+-- what the plain variables hold at its end, if it is done
+abbrev pub variables_left : Plan → List VariableEnd
+variables_left plan = let run = whole_run plan in variables_behind run.0.objects run.1

@@ -38,4 +38,5 @@ pub mod Left
 pub mod Recorded
 pub mod Tells
 pub mod Variables
+pub mod LastWrites
 pub mod Within

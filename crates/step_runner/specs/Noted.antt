@@ -28,3 +28,8 @@ module _ {A : Type 0} where
   abbrev pub noted_of : {B : Type 0} → (List B → List A) → Notes B → Notes A → Notes A
   noted_of told Nothing notes = notes
   noted_of told (All made) notes = noted (told made) notes
+
+  -- what is noted so far
+  abbrev pub so_far_of : Notes A → List A
+  so_far_of Nothing = []
+  so_far_of (All so_far) = so_far

@@ -41,6 +41,7 @@ ghost use Rattle.script_calls.specs.declared.outcome.Outcome.TheVariants as outc
 ghost use Rattle.step_runner.specs.CallTurns.{calls_met, most_turns_for, advances, requeues, wakes, count_turns};
 ghost use Rattle.step_runner.specs.Closing.{IsLastDone, closes};
 ghost use Rattle.step_runner.specs.Ends.{scheduled_ends};
+ghost use Rattle.step_runner.specs.LastWrites.{last_written};
 ghost use Rattle.step_runner.specs.LeftToDo.{left_to_do};
 ghost use Rattle.step_runner.specs.MadeCalls.{made_calls, calls_of};
 ghost use Rattle.step_runner.specs.Outcomes.{rounds, is_misused, StepsTo};
@@ -50,7 +51,7 @@ ghost use Rattle.step_runner.specs.declared.state.Stand.TheVariants as stands;
 ghost use Rattle.step_runner.specs.State.{State, IsStateOf, start, stand_of, with_moment};
 ghost use Rattle.step_runner.specs.Turns.{begun_by, script_left, next_call, turn_of, items_of, after_items, has_ended};
 ghost use Rattle.workload.specs.Forms.{all_have_forms, has_forms};
-ghost use Rattle.step_runner.specs.Computed.{rounds_of, all_rounds, whole_run, turns};
+ghost use Rattle.step_runner.specs.Computed.{rounds_of, all_rounds, whole_run, turns, variables_left};
 ghost use Rattle.step_runner.specs.Recorded.{recorded_reply};
 ghost use Rattle.step_runner.specs.Traces.{traced_from, trace_of, replies_told, items_told, IsPlaced, replies_left};
 ghost use Rattle.step_runner.specs.declared.trace.TraceItem.{TraceItem};
@@ -312,6 +313,17 @@ pub fn a_trace_tells_what_turns_made()
 {
     validity();
     items_are_of_their_workers();
+}
+
+/// Behind a run that is done each plain variable holds the value of the last write to it that the trace tells, or 0 where it tells none. A
+/// report shows all of them, in order of declaration.
+pub fn variables_end_with_their_last_writes()
+    ensures done { (plan : Plan) (report : Report) → is_valid plan ≡ true → turns plan ≡ outcomes.Done report → variables_left plan ≡ last_written (items_told (trace_of plan)) plan.objects }
+    ensures none { (plan : Plan) → is_valid plan ≡ true → has_variables plan ≡ false → variables_left plan ≡ [] }
+{
+    objects_keep_their_kinds();
+    objects_come_by_the_items_of_the_run();
+    a_trace_tells_what_turns_made();
 }
 
 /// Where no turn was a misuse, no worker met one; where one was, its worker met it.

@@ -14,8 +14,9 @@ pub mod trace;
 pub mod turn;
 pub mod turns;
 
+pub use ends::VariableEnd;
 pub use notes::Notes;
-pub use run::{stepped, traced};
+pub use run::{TracedRun, stepped, traced};
 pub use step::Step;
 pub use trace::{Trace, TraceItem};
 pub use turns::{Answer, Deed, Item, ObjectState, Taker, take_turn_at};

@@ -1,6 +1,6 @@
 //! What is noted of a run as it goes.
 ghost use Rattle.std.specs.Prelude.{◌≡◌, OnOk};
-ghost use Rattle.step_runner.specs.Noted.{one_noted, begun_as, joined};
+ghost use Rattle.step_runner.specs.Noted.{one_noted, noted, begun_as, joined, so_far_of};
 
 use std::alloc::{AllocError, Global};
 use sync_types::Seq;
@@ -28,6 +28,7 @@ impl<T> Notes<T> {
     }
 
     /// Notes that are kept as these are, of other things, of which there is none yet.
+    #[inline(always)]
     pub fn apart<U>(&self, alloc: Global) -> Notes<U>
         ensures { result ≡ begun_as self.now }
     {
@@ -37,7 +38,22 @@ impl<T> Notes<T> {
         }
     }
 
+    /// Notes some things more, in order. It is cold, and never a part of a turn's own code: a run that isn't traced notes nothing.
+    #[cold]
+    #[inline(never)]
+    fn note_all(&mut self, more: Seq<T>) -> Result<(), AllocError>
+    where
+        T: Drop,
+        ensures { OnOk result (self.new ≡ noted more self.old) }
+    {
+        for one in more.into_vec() {
+            self.note(one)?;
+        }
+        Ok(())
+    }
+
     /// Notes what was noted apart.
+    #[inline(always)]
     pub fn join(&mut self, apart: Notes<T>) -> Result<(), AllocError>
     where
         T: Drop,
@@ -45,12 +61,17 @@ impl<T> Notes<T> {
     {
         match apart {
             Notes::Nothing => Ok(()),
-            Notes::All(more) => {
-                for one in more.into_vec() {
-                    self.note(one)?;
-                }
-                Ok(())
-            }
+            Notes::All(more) => self.note_all(more),
+        }
+    }
+
+    /// What is noted so far.
+    pub fn into_items(self, alloc: Global) -> Seq<T>
+        ensures { result ≡ so_far_of self }
+    {
+        match self {
+            Notes::Nothing => Seq::new(alloc),
+            Notes::All(so_far) => so_far,
         }
     }
 }

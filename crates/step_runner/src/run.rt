@@ -9,9 +9,9 @@ ghost use Rattle.step_runner.specs.Places.{IsKeptFor};
 ghost use Rattle.step_runner.specs.Noted.{noted};
 ghost use Rattle.step_runner.specs.Traces.{unless_over, traced_turn, traced_from, all_rounds_traced, trace_of};
 ghost use Rattle.step_runner.specs.Turns.{item_of, items_of, round, has_ended};
-ghost use Rattle.step_runner.specs.Computed.{all_rounds, behind_schedule, outcome_of, turns};
+ghost use Rattle.step_runner.specs.Computed.{all_rounds, behind_schedule, outcome_of, turns, variables_left};
 
-use crate::ends::ends;
+use crate::ends::{VariableEnd, ends, variables_behind};
 use crate::laws;
 use crate::notes::Notes;
 use crate::numbering::number_all;
@@ -179,16 +179,18 @@ fn outcome(
     }
 }
 
-/// Runs a workload by its schedule, and notes what each turn made where all is noted.
+/// Runs a workload by its schedule, and notes what each turn made where all is noted. Beside the outcome it gives what the plain variables
+/// hold at the end.
 fn run(
     alloc: Global,
     workload: &Workload,
     trace: &mut Notes<TraceItem>,
-) -> Result<Outcome, AllocError>
-    ensures outcome { IfOk result (StepsTo workload.now) }
-    ensures computed { IfOk result (λ outcome. outcome ≡ turns workload.now) }
-    ensures pairs { IfOk result (λ outcome. shows_to MAX_KEYS outcome ≡ true) }
-    ensures forms { IfOk result (λ outcome. has_forms workload.now outcome ≡ true) }
+) -> Result<(Outcome, Seq<VariableEnd>), AllocError>
+    ensures outcome { IfOk result (λ ran. StepsTo workload.now ran.0) }
+    ensures computed { IfOk result (λ ran. ran.0 ≡ turns workload.now) }
+    ensures pairs { IfOk result (λ ran. shows_to MAX_KEYS ran.0 ≡ true) }
+    ensures forms { IfOk result (λ ran. has_forms workload.now ran.0 ≡ true) }
+    ensures variables { IfOk result (λ ran. ran.1 ≡ variables_left workload.now) }
     ensures noted { OnOk result (trace.new ≡ noted (trace_of workload.now) trace.old) }
 {
     maps_keep_to_the_keys_of_calls();
@@ -197,7 +199,9 @@ fn run(
     laws::each_run_has_one_outcome();
     let mut state = State::start(alloc, workload)?;
     let ending = take_all(alloc, workload, &mut state, trace)?;
-    outcome(alloc, workload, state, ending)
+    let variables = variables_behind(alloc, &state.objects, ending)?;
+    let outcome = outcome(alloc, workload, state, ending)?;
+    Ok((outcome, variables))
 }
 
 /// Runs a workload by its schedule, on one thread.
@@ -214,18 +218,36 @@ pub fn stepped(alloc: Global, workload: &Workload) -> Result<Outcome, AllocError
     ensures forms { IfOk result (λ outcome. has_forms workload.now outcome ≡ true) }
 {
     let mut trace = Notes::Nothing;
-    run(alloc, workload, &mut trace)
+    let (outcome, _) = run(alloc, workload, &mut trace)?;
+    Ok(outcome)
 }
 
-/// Runs a workload by its schedule, as `stepped` does, and gives what each turn made beside the outcome. Only want of memory is an `Err`.
-pub fn traced(alloc: Global, workload: &Workload) -> Result<(Outcome, Trace), AllocError>
-    ensures outcome { IfOk result (λ ran. ran.0 ≡ turns workload.now) }
-    ensures trace { IfOk result (λ ran. ran.1 ≡ trace_of workload.now) }
+/// A run by schedule that is traced.
+#[derive(Drop)]
+pub struct TracedRun {
+    /// What it comes to.
+    pub outcome: Outcome,
+    /// What each turn made.
+    pub trace: Trace,
+    /// What the plain variables hold at the end, in order of declaration: none unless every script has ended.
+    pub variables: Seq<VariableEnd>,
+}
+
+/// Runs a workload by its schedule, as `stepped` does, and gives beside the outcome what each turn made, and what the plain variables hold
+/// at the end. Only want of memory is an `Err`.
+pub fn traced(alloc: Global, workload: &Workload) -> Result<TracedRun, AllocError>
+    ensures outcome { IfOk result (λ ran. ran.outcome ≡ turns workload.now) }
+    ensures trace { IfOk result (λ ran. ran.trace ≡ trace_of workload.now) }
+    ensures variables { IfOk result (λ ran. ran.variables ≡ variables_left workload.now) }
+    ensures pairs { IfOk result (λ ran. shows_to MAX_KEYS ran.outcome ≡ true) }
+    ensures forms { IfOk result (λ ran. has_forms workload.now ran.outcome ≡ true) }
 {
     let mut trace = Notes::All(Seq::new(alloc));
-    let outcome = run(alloc, workload, &mut trace)?;
-    match trace {
-        Notes::All(items) => Ok((outcome, Trace::from_items(items))),
-        Notes::Nothing => Ok((outcome, Trace::from_items(Seq::new(alloc)))),
-    }
+    let (outcome, variables) = run(alloc, workload, &mut trace)?;
+    let trace = Trace::from_items(trace.into_items(alloc));
+    Ok(TracedRun {
+        outcome,
+        trace,
+        variables,
+    })
 }

@@ -1,6 +1,6 @@
 //! The trace of a run: what each turn made, in order.
 ghost use Rattle.std.specs.Prelude.{◌≡◌, IfOk, OnOk};
-ghost use Rattle.step_runner.specs.Noted.{noted_of};
+ghost use Rattle.step_runner.specs.Noted.{noted, noted_of};
 ghost use Rattle.step_runner.specs.Traces.{script_turn, closing_turn, reply_of, is_told, told_by};
 
 use crate::copying::{copied_call, copied_reply};
@@ -76,7 +76,60 @@ fn is_told(made: &[Item], answer: &Answer) -> bool
     }
 }
 
+/// Tells of a worker's turn of the call at a place of its script, behind what was told so far. Like all that keeps something of a turn it is
+/// cold, and never a part of a turn's own code.
+#[cold]
+#[inline(never)]
+fn tell_script_turn(
+    alloc: Global,
+    trace: &mut Notes<TraceItem>,
+    worker: u32,
+    call: &Call,
+    place: usize,
+    made: Seq<Item>,
+    answer: &Answer,
+) -> Result<(), AllocError>
+    ensures { OnOk result (trace.new ≡ noted (told_by (script_turn worker call.now place) made answer.now) trace.old) }
+{
+    if !is_told(made.as_slice(), answer) {
+        return Ok(());
+    }
+    let call = copied_call(alloc, call)?;
+    let reply = reply_of(alloc, answer)?;
+    trace.note(TraceItem {
+        worker,
+        call: Some(call),
+        index: Some(place),
+        made,
+        reply,
+    })
+}
+
+/// Tells of a worker's turn of the `done` behind its script.
+#[cold]
+#[inline(never)]
+fn tell_closing_turn(
+    trace: &mut Notes<TraceItem>,
+    worker: u32,
+    made: Seq<Item>,
+    answer: &Answer,
+) -> Result<(), AllocError>
+    ensures { OnOk result (trace.new ≡ noted (told_by (λ made reply. closing_turn worker made) made answer.now) trace.old) }
+{
+    if !is_told(made.as_slice(), answer) {
+        return Ok(());
+    }
+    trace.note(TraceItem {
+        worker,
+        call: None,
+        index: None,
+        made,
+        reply: None,
+    })
+}
+
 /// Notes a worker's turn of the call at a place of its script, where all is noted.
+#[inline(always)]
 pub(crate) fn note_script_turn(
     alloc: Global,
     trace: &mut Notes<TraceItem>,
@@ -90,24 +143,12 @@ pub(crate) fn note_script_turn(
 {
     match made {
         Notes::Nothing => Ok(()),
-        Notes::All(made) => {
-            if !is_told(made.as_slice(), answer) {
-                return Ok(());
-            }
-            let call = copied_call(alloc, call)?;
-            let reply = reply_of(alloc, answer)?;
-            trace.note(TraceItem {
-                worker,
-                call: Some(call),
-                index: Some(place),
-                made,
-                reply,
-            })
-        }
+        Notes::All(made) => tell_script_turn(alloc, trace, worker, call, place, made, answer),
     }
 }
 
 /// Notes a worker's turn of the `done` behind its script, where all is noted.
+#[inline(always)]
 pub(crate) fn note_closing_turn(
     trace: &mut Notes<TraceItem>,
     worker: u32,
@@ -118,17 +159,6 @@ pub(crate) fn note_closing_turn(
 {
     match made {
         Notes::Nothing => Ok(()),
-        Notes::All(made) => {
-            if !is_told(made.as_slice(), answer) {
-                return Ok(());
-            }
-            trace.note(TraceItem {
-                worker,
-                call: None,
-                index: None,
-                made,
-                reply: None,
-            })
-        }
+        Notes::All(made) => tell_closing_turn(trace, worker, made, answer),
     }
 }

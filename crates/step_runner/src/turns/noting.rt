@@ -1,5 +1,5 @@
 //! How the items of a turn are noted.
-ghost use Rattle.std.specs.Prelude.{◌≡◌, OnOk};
+ghost use Rattle.std.specs.Prelude.{◌≡◌, [], ◌∷◌, ◌++◌, OnOk};
 ghost use Rattle.run_record.specs.declared.entered.ObjectEvent.{ObjectEvent};
 ghost use Rattle.run_record.specs.declared.entered.ObjectReply.{ObjectReply};
 ghost use Rattle.script_calls.specs.declared.call.Operation.TheVariants as operations;
@@ -20,7 +20,7 @@ use run_record::{ObjectEvent, ObjectReply};
 use rw_core::{RwCore, RwEvent, RwReply};
 use script_calls::{Operation, Reply, VarCall, VarReply};
 use std::alloc::{AllocError, Global};
-use sync_types::{AtomicCall, AtomicReply, MapCall, MapReply, Name};
+use sync_types::{AtomicCall, AtomicReply, MapCall, MapReply, Name, Seq};
 use wait_cores::{
     GroupCore, GroupEvent, GroupReply, NotifyCore, NotifyEvent, NotifyReply, OnceCore, OnceEvent,
     OnceReply,
@@ -194,7 +194,103 @@ impl Entered for PoolCore {
     }
 }
 
+/// Keeps an item. This and what stands below are cold, and never a part of a turn's own code: a run that isn't traced keeps nothing.
+#[cold]
+#[inline(never)]
+fn keep(so_far: &mut Seq<Item>, worker: u32, object: usize, deed: Deed) -> Result<(), AllocError>
+    ensures { OnOk result (so_far.new ≡ so_far.old ++ record { object = object; caller = worker; deed = deed } ∷ []) }
+{
+    so_far.push(Item {
+        object,
+        caller: worker,
+        deed,
+    })
+}
+
+/// Keeps an event with its answer.
+#[cold]
+#[inline(never)]
+fn keep_event(
+    so_far: &mut Seq<Item>,
+    worker: u32,
+    object: usize,
+    event: ObjectEvent,
+    reply: ObjectReply,
+) -> Result<(), AllocError>
+    ensures { OnOk result (so_far.new ≡ so_far.old ++ record { object = object; caller = worker; deed = Deed.Entered event reply } ∷ []) }
+{
+    keep(so_far, worker, object, Deed::Entered(event, reply))
+}
+
+/// Keeps a call on an atomic with its reply.
+#[cold]
+#[inline(never)]
+fn keep_atomic_call(
+    so_far: &mut Seq<Item>,
+    worker: u32,
+    object: usize,
+    call: AtomicCall,
+    reply: AtomicReply,
+) -> Result<(), AllocError>
+    ensures { OnOk result (so_far.new ≡ so_far.old ++ placed_at worker object (operations.Atomic call) (replies.Atomic reply)) }
+{
+    let deed = Deed::Placed(Operation::Atomic(call), Reply::Atomic(reply));
+    keep(so_far, worker, object, deed)
+}
+
+/// Keeps a read or a write of a plain variable with its reply.
+#[cold]
+#[inline(never)]
+fn keep_var_call(
+    so_far: &mut Seq<Item>,
+    worker: u32,
+    object: usize,
+    call: VarCall,
+    reply: VarReply,
+) -> Result<(), AllocError>
+    ensures { OnOk result (so_far.new ≡ so_far.old ++ placed_at worker object (operations.Var call) (replies.Var reply)) }
+{
+    let deed = Deed::Placed(Operation::Var(call), Reply::Var(reply));
+    keep(so_far, worker, object, deed)
+}
+
+/// Keeps a call on a map, which is copied, with its reply.
+#[cold]
+#[inline(never)]
+fn keep_map_call(
+    alloc: Global,
+    so_far: &mut Seq<Item>,
+    worker: u32,
+    object: usize,
+    call: &MapCall<Name>,
+    reply: MapReply,
+) -> Result<(), AllocError>
+    ensures { OnOk result (so_far.new ≡ so_far.old ++ placed_at worker object (operations.Map call.now) (replies.Map reply)) }
+{
+    let call = copied_map_call(alloc, call)?;
+    let deed = Deed::Placed(Operation::Map(call), Reply::Map(reply));
+    keep(so_far, worker, object, deed)
+}
+
+/// Keeps a `range` with the pairs that it shows, which are copied.
+#[cold]
+#[inline(never)]
+fn keep_range(
+    alloc: Global,
+    so_far: &mut Seq<Item>,
+    worker: u32,
+    object: usize,
+    pairs: &[(Name, u64)],
+) -> Result<(), AllocError>
+    ensures { OnOk result (so_far.new ≡ so_far.old ++ placed_at worker object operations.Range (replies.Pairs pairs.now)) }
+{
+    let pairs = copied_pairs(alloc, pairs)?;
+    let deed = Deed::Placed(Operation::Range, Reply::Pairs(pairs));
+    keep(so_far, worker, object, deed)
+}
+
 /// Notes an event of a worker on the object at a place, with its answer.
+#[inline(always)]
 pub(crate) fn note_event(
     notes: &mut Notes<Item>,
     worker: u32,
@@ -206,15 +302,12 @@ pub(crate) fn note_event(
 {
     match notes {
         Notes::Nothing => Ok(()),
-        Notes::All(so_far) => so_far.push(Item {
-            object,
-            caller: worker,
-            deed: Deed::Entered(event, reply),
-        }),
+        Notes::All(so_far) => keep_event(so_far, worker, object, event, reply),
     }
 }
 
 /// Notes a worker's call on the atomic at a place, with its reply.
+#[inline(always)]
 pub(crate) fn note_atomic_call(
     notes: &mut Notes<Item>,
     worker: u32,
@@ -226,15 +319,12 @@ pub(crate) fn note_atomic_call(
 {
     match notes {
         Notes::Nothing => Ok(()),
-        Notes::All(so_far) => so_far.push(Item {
-            object,
-            caller: worker,
-            deed: Deed::Placed(Operation::Atomic(call), Reply::Atomic(reply)),
-        }),
+        Notes::All(so_far) => keep_atomic_call(so_far, worker, object, call, reply),
     }
 }
 
 /// Notes that a worker read or wrote the plain variable at a place, with the reply.
+#[inline(always)]
 pub(crate) fn note_var_call(
     notes: &mut Notes<Item>,
     worker: u32,
@@ -246,15 +336,12 @@ pub(crate) fn note_var_call(
 {
     match notes {
         Notes::Nothing => Ok(()),
-        Notes::All(so_far) => so_far.push(Item {
-            object,
-            caller: worker,
-            deed: Deed::Placed(Operation::Var(call), Reply::Var(reply)),
-        }),
+        Notes::All(so_far) => keep_var_call(so_far, worker, object, call, reply),
     }
 }
 
 /// Notes a worker's call on the map at a place, with its reply.
+#[inline(always)]
 pub(crate) fn note_map_call(
     alloc: Global,
     notes: &mut Notes<Item>,
@@ -267,18 +354,12 @@ pub(crate) fn note_map_call(
 {
     match notes {
         Notes::Nothing => Ok(()),
-        Notes::All(so_far) => {
-            let call = copied_map_call(alloc, call)?;
-            so_far.push(Item {
-                object,
-                caller: worker,
-                deed: Deed::Placed(Operation::Map(call), Reply::Map(reply)),
-            })
-        }
+        Notes::All(so_far) => keep_map_call(alloc, so_far, worker, object, call, reply),
     }
 }
 
 /// Notes that a worker was shown the keys of the map at a place, with their values.
+#[inline(always)]
 pub(crate) fn note_range(
     alloc: Global,
     notes: &mut Notes<Item>,
@@ -290,13 +371,6 @@ pub(crate) fn note_range(
 {
     match notes {
         Notes::Nothing => Ok(()),
-        Notes::All(so_far) => {
-            let pairs = copied_pairs(alloc, pairs)?;
-            so_far.push(Item {
-                object,
-                caller: worker,
-                deed: Deed::Placed(Operation::Range, Reply::Pairs(pairs)),
-            })
-        }
+        Notes::All(so_far) => keep_range(alloc, so_far, worker, object, pairs),
     }
 }

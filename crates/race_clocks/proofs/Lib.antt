@@ -1,0 +1,12 @@
+pub mod NoVariables
+pub mod Order
+pub mod Ordered
+pub mod PoolItems
+pub mod PoolNames
+pub mod Puts
+pub mod Quiet
+pub mod RaceLaws
+pub mod Readers
+pub mod Shared
+pub mod Signals
+pub mod Turns

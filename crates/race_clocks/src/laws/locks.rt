@@ -1,0 +1,36 @@
+//! What mutexes and reader/writer mutexes order.
+ghost use Rattle.std.specs.Prelude.{◌≡◌, ◌≢◌, ℕ, ◌<◌, List, [], ◌∷◌, Some, slice_get};
+ghost use Rattle.workload.specs.Plan.{Plan};
+ghost use Rattle.step_runner.specs.declared.trace.TraceItem.{TraceItem};
+ghost use Rattle.step_runner.specs.declared.turns.item.Deed.{Deed};
+ghost use Rattle.race_clocks.specs.HappensBefore.{Edge, Before};
+ghost use Rattle.race_clocks.specs.Rows.{Makes, IsMutexUnlock, IsMutexLock, writer_unlock, reader_unlock, IsRwLock, IsWritersCall, IsReadersCall, EachDoes};
+
+/// An unlock of a mutex, that of a cond's `wait` too, is before each later acquisition of it: an arrival or a going on that acquires, a
+/// try that is true.
+pub fn an_unlock_is_before_each_later_lock()
+    ensures { (plan : Plan) (trace : List TraceItem) (i j mutex w v : ℕ) (d e : Deed) → i < j
+        → Makes trace i mutex w d → Makes trace j mutex v e → IsMutexUnlock d → IsMutexLock e → Before plan trace i j }
+{}
+
+/// A writer's unlock of a reader/writer mutex is before each later `lock` and `rlock` of it that is completed, and each later try of
+/// it that is true.
+pub fn a_writers_unlock_is_before_each_later_lock_and_rlock()
+    ensures { (plan : Plan) (trace : List TraceItem) (i j lock w v : ℕ) (d e : Deed) → i < j
+        → Makes trace i lock w d → Makes trace j lock v e → d ≡ writer_unlock → IsRwLock e → Before plan trace i j }
+{}
+
+/// A reader's unlock is before each later `lock` that is completed, and each later `trylock` that is true.
+pub fn a_readers_unlock_is_before_each_later_lock()
+    ensures { (plan : Plan) (trace : List TraceItem) (i j lock w v : ℕ) (d e : Deed) → i < j
+        → Makes trace i lock w d → (m : Makes trace j lock v e) → d ≡ reader_unlock → IsRwLock e → IsWritersCall m.turn.call → Before plan trace i j }
+{}
+
+/// Of itself it is before no later `rlock` or `tryrlock`: no edge leads from a turn that makes nothing else to such a call of
+/// another worker's. So in a trace of these two turns the one isn't before the other.
+pub fn a_readers_unlock_is_not_before_a_later_rlock()
+    ensures edge { (plan : Plan) (trace : List TraceItem) (i j : ℕ) (x y : TraceItem) → slice_get trace i ≡ Some x → slice_get trace j ≡ Some y
+        → x.worker ≢ y.worker → EachDoes (λ d. d ≡ reader_unlock) x → IsReadersCall y.call → Edge plan trace i j → ⊥ }
+    ensures two { (plan : Plan) (x y : TraceItem) → x.worker ≢ y.worker → EachDoes (λ d. d ≡ reader_unlock) x → IsReadersCall y.call
+        → Before plan (x ∷ y ∷ []) 0 1 → ⊥ }
+{}
