@@ -1,6 +1,6 @@
 //! The command `gosync` and its subcommands.
 ghost use Rattle.std.specs.Prelude.{◌≡◌, IfOk, false};
-ghost use Rattle.clap.specs.Words.{app_of, shape_of};
+ghost use Rattle.clap.specs.Words.{app_of, shape_of, with_subcommand};
 ghost use Rattle.clap.specs.declared.builder.command.Command.TheViews.{out-Command};
 ghost use Rattle.command_line.specs.Command.{gosync_command, subcommand_named, with_argument};
 
@@ -16,6 +16,8 @@ pub enum Subcommand {
     Run,
     /// Make a workload from a seed and run it with a thread for each worker: `make SEED`.
     Make,
+    /// Run the workload of a file by its schedule, and tell the races of the run: `race FILE`.
+    Race,
 }
 
 /// The name of the one argument of each subcommand.
@@ -31,6 +33,8 @@ pub fn subcommand_named(word: &str) -> Option<Subcommand>
         Some(Subcommand::Run)
     } else if word.as_bytes() == b"make".as_slice() {
         Some(Subcommand::Make)
+    } else if word.as_bytes() == b"race".as_slice() {
+        Some(Subcommand::Race)
     } else {
         None
     }
@@ -44,17 +48,22 @@ fn with_argument<'a>(alloc: Global, name: &'a str) -> Result<Command<'a>, AllocE
     Command::new(alloc, name).arg(Arg::new(alloc, ARGUMENT).required(true))
 }
 
-/// The command line: the command `gosync` with a required subcommand, which is `step`, `run` or `make`, each with one required
-/// argument that is any text. Nothing else is set.
+/// A command with one subcommand more, which has one required argument, any text.
+fn adding<'a>(alloc: Global, command: Command<'a>, name: &'a str) -> Result<Command<'a>, AllocError>
+    ensures { IfOk result (λ made. app_of made ≡ with_subcommand (app_of command.entry) (with_argument name.entry.now)) }
+{
+    let subcommand = with_argument(alloc, name)?;
+    command.subcommand(subcommand)
+}
+
+/// The command line: the command `gosync` with a required subcommand, which is `step`, `run`, `make` or `race`, each with one
+/// required argument that is any text. Nothing else is set.
 pub fn command<'a>(alloc: Global) -> Result<Command<'a>, AllocError>
     ensures { IfOk result (λ made. app_of made ≡ gosync_command) }
 {
-    let step = with_argument(alloc, "step")?;
-    let run = with_argument(alloc, "run")?;
-    let make = with_argument(alloc, "make")?;
-    Command::new(alloc, "gosync")
-        .subcommand_required(true)
-        .subcommand(step)?
-        .subcommand(run)?
-        .subcommand(make)
+    let named = Command::new(alloc, "gosync").subcommand_required(true);
+    let command = adding(alloc, named, "step")?;
+    let command = adding(alloc, command, "run")?;
+    let command = adding(alloc, command, "make")?;
+    adding(alloc, command, "race")
 }

@@ -1,18 +1,20 @@
 -- What is left before any thread is started, by what the words ask for.
 use Rattle.std.proofs.Common.{◌≡◌, ◌⊎◌, inl, inr, ℕ, List, Option, Some, None, Result, Err, refl, sym, ap, subst, ◌∙◌}
-use Rattle.std.specs.Prelude.{option_and_then}
+use Rattle.std.specs.Prelude.{◌≢◌, option_and_then}
 use Rattle.script_calls.specs.declared.outcome.Outcome.{Outcome}
 use Rattle.workload.specs.Plan.{Plan}
-use Rattle.workload.specs.Reads.{Reads}
+use Rattle.workload.specs.Reads.{Reads, ReadsIn}
+use Rattle.workload.specs.declared.keyword.Dialect.{Dialect}
 use Rattle.command_line.specs.Command.{matched}
 use Rattle.command_line.specs.Seed.{seed_of}
 use Rattle.command_line.specs.declared.definition.Subcommand.{Subcommand}
 use Rattle.command_line.specs.declared.definition.Subcommand.TheVariants as subcommands
 use Rattle.gosync_call.specs.Command.{file_in, file_of, AreRefused, AskFor, AskToMake}
-use Rattle.gosync_call.specs.ComesTo.{ComesTo}
+use Rattle.gosync_call.specs.ComesTo.{ComesBy, ComesTo}
 use Rattle.gosync_call.specs.Front.{IsFrontOfRun, IsLeftOfAllBytes, IsOfAllBytes}
 use Rattle.gosync_call.specs.Made.{MakesTo}
 use Rattle.gosync_call.specs.Messages.{code_of, IsOutOfMemory}
+use Rattle.gosync_call.specs.Modes.{dialect_of, EndsBy, ModeComesTo, StopsBy}
 use Rattle.gosync_call.specs.declared.status.Ending.{Ending}
 use Rattle.gosync_call.specs.declared.status.Ending.TheVariants as endings
 use Rattle.gosync_call.specs.declared.status.Fault.{Fault}
@@ -115,38 +117,47 @@ module _ (words : List (List ℕ)) where
   asking_by (Some (subcommands.Step, text)) is = inl (modes.Step, text, ap (λ (f : Option (Subcommand × List ℕ)). option_and_then file_of f) is)
   asking_by (Some (subcommands.Run, text)) is = inl (modes.Run, text, ap (λ (f : Option (Subcommand × List ℕ)). option_and_then file_of f) is)
   asking_by (Some (subcommands.Make, text)) is = inr (seeded text is (seed_of text) refl)
+  asking_by (Some (subcommands.Race, text)) is = inl (modes.Race, text, ap (λ (f : Option (Subcommand × List ℕ)). option_and_then file_of f) is)
 
   -- words ask to run a file or to make a workload, or are refused
   pub asking : Asking
   asking = asking_by (matched words) refl
 
-  -- by the mode in which a file is to be run
-  pub by_mode : {X : Type 0} (file : List ℕ) (mode : Mode) → AskFor words mode file → (AskFor words modes.Step file → X) → (AskFor words modes.Run file → X) → X
-  by_mode file modes.Step asks step run = step asks
-  by_mode file modes.Run asks step run = run asks
-
-  run_by : (file : List ℕ) (mode : Mode) → AskFor words mode file → (AskFor words modes.Step file → ⊥) → ((file : List ℕ) × AskFor words modes.Run file)
-  run_by file modes.Step asks no_step = absurd (no_step asks)
-  run_by file modes.Run asks no_step = (file, asks)
+  run_by : (file : List ℕ) (mode : Mode) → AskFor words mode file → (mode ≢ modes.Run → ⊥) → ((file : List ℕ) × AskFor words modes.Run file)
+  run_by file modes.Step asks no_other = absurd (no_other (λ is. cc))
+  run_by file modes.Run asks no_other = (file, asks)
+  run_by file modes.Race asks no_other = absurd (no_other (λ is. cc))
 
   -- where no other thing is asked for, a run with threads is
-  pub asks_run : Asking → ((file : List ℕ) → AskFor words modes.Step file → ⊥) → ((seed : ℕ) → AskToMake words seed → ⊥) → (AreRefused words → ⊥) → (file : List ℕ) × AskFor words modes.Run file
-  asks_run (inl ask) no_step no_make no_refusal = run_by ask.1 ask.0 ask.2 (no_step ask.1)
-  asks_run (inr (inl make)) no_step no_make no_refusal = absurd (no_make make.0 make.1)
-  asks_run (inr (inr refused)) no_step no_make no_refusal = absurd (no_refusal refused)
+  pub asks_run : Asking → ((mode : Mode) (file : List ℕ) → AskFor words mode file → mode ≢ modes.Run → ⊥) → ((seed : ℕ) → AskToMake words seed → ⊥) → (AreRefused words → ⊥) → (file : List ℕ) × AskFor words modes.Run file
+  asks_run (inl ask) no_other no_make no_refusal = run_by ask.1 ask.0 ask.2 (no_other ask.0 ask.1 ask.2)
+  asks_run (inr (inl make)) no_other no_make no_refusal = absurd (no_make make.0 make.1)
+  asks_run (inr (inr refused)) no_other no_make no_refusal = absurd (no_refusal refused)
 
-module _ (Comes : Plan → Outcome → Type 0) (told old new : Option (List ℕ)) where
-  -- what a file that no workload is read from comes to
-  pub front_comes : (status : Status) → IsFrontOfRun told (fronts.Ended status) → new ≡ old → ComesTo Comes told old new status
-  front_comes status (inl front) same = absurd (ended_no_run status front.0 front.1)
-  front_comes status (inr front) same = subst (λ (s : Status). ComesTo Comes told old new s) (sym (same_status status (statuses.Unread front.0) front.1)) (front.2, same)
+-- by whether a mode runs a file with threads, or on one
+pub by_threads : {X : Type 0} (words : List (List ℕ)) (mode : Mode) (file : List ℕ) → AskFor words mode file → (AskFor words modes.Run file → mode ≡ modes.Run → X) → (mode ≢ modes.Run → X) → X
+by_threads words modes.Step file asks run other = other (λ is. cc)
+by_threads words modes.Run file asks run other = run asks refl
+by_threads words modes.Race file asks run other = other (λ is. cc)
 
+-- what a file that no workload is read from comes to
+pub front_comes : (Comes : Plan → Outcome → Type 0) (told old new : Option (List ℕ)) (status : Status) → IsFrontOfRun told (fronts.Ended status) → new ≡ old → ComesTo Comes told old new status
+front_comes Comes told old new status (inl front) same = absurd (ended_no_run status front.0 front.1)
+front_comes Comes told old new status (inr front) same = subst (λ (s : Status). ComesTo Comes told old new s) (sym (same_status status (statuses.Unread front.0) front.1)) (front.2, same)
+
+module _ (dialect : Dialect) (Ends : Plan → Ending → Type 0) (Stops : Plan → Fault → Type 0) (told old new : Option (List ℕ)) where
   -- a text that isn't read is refused, unless memory is out
-  pub refuses : (bytes : List ℕ) (Read : Type 0) (status : Status) → ComesTo Comes told old new status → told ≡ Some bytes → ((plan : Plan) → Reads bytes plan → ⊥)
+  pub refuses : (bytes : List ℕ) (Read : Type 0) (status : Status) → ComesBy dialect Ends Stops told old new status → told ≡ Some bytes → ((plan : Plan) → ReadsIn dialect bytes plan → ⊥)
       → (status ≡ statuses.Unread unreads.CannotRead → Read) → (Read → ⊥) → (code_of status ≡ 1) ⊎ IsOutOfMemory status
-  refuses bytes Read (statuses.Ended ending) comes is none read no_read = absurd (none comes.0 (subst (λ (b : List ℕ). Reads b comes.0) (told_so bytes comes.1.0 told is comes.1.1) comes.1.2))
+  refuses bytes Read (statuses.Ended ending) comes is none read no_read = absurd (none comes.0 (subst (λ (b : List ℕ). ReadsIn dialect b comes.0) (told_so bytes comes.1.0 told is comes.1.1) comes.1.2))
   refuses bytes Read (statuses.Unread (unreads.NotAccepted line reason)) comes is none read no_read = inl refl
   refuses bytes Read (statuses.Unread unreads.CannotRead) comes is none read no_read = absurd (no_read (read refl))
   refuses bytes Read (statuses.Unread unreads.Memory) comes is none read no_read = inr refl
-  refuses bytes Read (statuses.Failed fault) comes is none read no_read = absurd (none comes.0 (subst (λ (b : List ℕ). Reads b comes.0) (told_so bytes comes.1.0 told is comes.1.1) comes.1.2))
+  refuses bytes Read (statuses.Failed fault) comes is none read no_read = absurd (none comes.0 (subst (λ (b : List ℕ). ReadsIn dialect b comes.0) (told_so bytes comes.1.0 told is comes.1.1) comes.1.2))
   refuses bytes Read statuses.Usage comes is none read no_read = absurd comes
+
+-- by the mode in which a file is to be run
+pub refuses_by : (mode : Mode) (told old new : Option (List ℕ)) (bytes : List ℕ) (Read : Type 0) (status : Status) → ModeComesTo mode told old new status → told ≡ Some bytes → ((plan : Plan) → ReadsIn (dialect_of mode) bytes plan → ⊥)
+    → (status ≡ statuses.Unread unreads.CannotRead → Read) → (Read → ⊥) → (code_of status ≡ 1) ⊎ IsOutOfMemory status
+refuses_by mode told old new bytes Read status comes is none read no_read =
+    refuses (dialect_of mode) (λ plan ending. EndsBy mode plan old new ending) (λ plan fault. StopsBy mode plan old new fault) told old new bytes Read status comes is none read no_read

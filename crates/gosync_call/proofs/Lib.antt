@@ -4,6 +4,7 @@ pub mod Ended
 pub mod Endings
 pub mod Fronts
 pub mod MessageTexts
+pub mod Raced
 pub mod Reading
 pub mod Runs
 pub mod Seeds

@@ -7,10 +7,12 @@ use Rattle.std.specs.Io.KnownBytes.{prepend_known, IsAtEnd}
 use Rattle.workload.specs.declared.limits.TheConstants.{MAX_INPUT}
 use Rattle.workload.specs.declared.reason.Reason.{Reason}
 use Rattle.workload.specs.Plan.{Plan, is_valid}
-use Rattle.workload.specs.Reads.{Reads, IsRefused}
+use Rattle.workload.specs.Reads.{ReadsIn, IsRefusedIn}
+use Rattle.workload.specs.declared.keyword.Dialect.{Dialect}
+use Rattle.workload.specs.declared.keyword.Dialect.TheVariants.{Plain, Races}
 use Rattle.gosync_call.specs.declared.status.Unread.TheVariants.{NotAccepted}
 use Rattle.gosync_call.specs.Input.{IsInput}
-use Rattle.gosync_call.specs.ComesTo.{IsReadFromFile, IsUnread}
+use Rattle.gosync_call.specs.ComesTo.{IsReadIn, IsUnreadIn}
 
 some_is : {X : Type 0} (x y : X) → Some x ≡ Some y → x ≡ y
 some_is x y e = cc
@@ -58,19 +60,27 @@ fits_whole held bytes e fits =
     let short : length held ≤ MAX_INPUT + 1 = omega (arith, fits, ap length e, length-take (MAX_INPUT + 1) held) in
     e ∙ take_whole (MAX_INPUT + 1) held short
 
-pub whole_read : (told : Option (List ℕ)) (bytes : List ℕ) (plan : Plan) → IsInput told bytes → Reads bytes plan → is_valid plan ≡ true → IsReadFromFile told plan
-whole_read None bytes plan h read valid = (bytes, tt, read, valid)
-whole_read (Some held) bytes plan h read valid = (held, refl, subst (λ (b : List ℕ). Reads b plan) (fits_whole held bytes h read.fits) read, valid)
+-- no text of a dialect is both read and refused
+abbrev pub ReadOrRefused : Dialect → Type 0
+ReadOrRefused dialect = (bytes : List ℕ) (plan : Plan) (line : ℕ) (reason : Reason) → ReadsIn dialect bytes plan → IsRefusedIn dialect bytes line reason → ⊥
 
-refused_whole : (held bytes : List ℕ) (line : ℕ) (reason : Reason) → bytes ≡ take (MAX_INPUT + 1) held → IsRefused bytes line reason → IsRefused held line reason
-refused_whole held bytes line reason e (inl long) =
-    inl (omega (arith, long.0, ap length e, length-take (MAX_INPUT + 1) held), long.1, long.2)
-refused_whole held bytes line reason e (inr fault) =
-    subst (λ (b : List ℕ). IsRefused b line reason) (fits_whole held bytes e fault.0) (inr fault)
+pub read_or_refused : (dialect : Dialect) → ReadOrRefused Plain → ReadOrRefused Races → ReadOrRefused dialect
+read_or_refused Plain plain races = plain
+read_or_refused Races plain races = races
 
-pub whole_refused : (told : Option (List ℕ)) (bytes : List ℕ) (line : ℕ) (reason : Reason)
-    → ((b : List ℕ) (plan : Plan) (l : ℕ) (r : Reason) → Reads b plan → IsRefused b l r → ⊥) → IsInput told bytes → IsRefused bytes line reason → IsUnread told (NotAccepted line reason)
-whole_refused None bytes line reason never h refused = (bytes, tt, refused, λ plan read. never bytes plan line reason read refused)
-whole_refused (Some held) bytes line reason never h refused =
-    let all = refused_whole held bytes line reason h refused in
-    (held, refl, all, λ plan read. never held plan line reason read all)
+module _ (dialect : Dialect) where
+  pub whole_read : (told : Option (List ℕ)) (bytes : List ℕ) (plan : Plan) → IsInput told bytes → ReadsIn dialect bytes plan → is_valid plan ≡ true → IsReadIn dialect told plan
+  whole_read None bytes plan h read valid = (bytes, tt, read, valid)
+  whole_read (Some held) bytes plan h read valid = (held, refl, subst (λ (b : List ℕ). ReadsIn dialect b plan) (fits_whole held bytes h read.fits) read, valid)
+
+  refused_whole : (held bytes : List ℕ) (line : ℕ) (reason : Reason) → bytes ≡ take (MAX_INPUT + 1) held → IsRefusedIn dialect bytes line reason → IsRefusedIn dialect held line reason
+  refused_whole held bytes line reason e (inl long) =
+      inl (omega (arith, long.0, ap length e, length-take (MAX_INPUT + 1) held), long.1, long.2)
+  refused_whole held bytes line reason e (inr fault) =
+      subst (λ (b : List ℕ). IsRefusedIn dialect b line reason) (fits_whole held bytes e fault.0) (inr fault)
+
+  pub whole_refused : (told : Option (List ℕ)) (bytes : List ℕ) (line : ℕ) (reason : Reason) → ReadOrRefused dialect → IsInput told bytes → IsRefusedIn dialect bytes line reason → IsUnreadIn dialect told (NotAccepted line reason)
+  whole_refused None bytes line reason never h refused = (bytes, tt, refused, λ plan read. never bytes plan line reason read refused)
+  whole_refused (Some held) bytes line reason never h refused =
+      let all = refused_whole held bytes line reason h refused in
+      (held, refl, all, λ plan read. never held plan line reason read all)

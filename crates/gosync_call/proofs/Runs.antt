@@ -6,7 +6,9 @@ use Rattle.script_calls.specs.declared.outcome.Outcome.{Outcome}
 use Rattle.script_calls.specs.declared.outcome.Outcome.TheVariants as outcomes
 use Rattle.script_calls.specs.declared.outcome.Report.{Report}
 use Rattle.workload.specs.Plan.{Plan}
-use Rattle.workload.specs.Reads.{Reads}
+use Rattle.workload.specs.Reads.{ReadsIn}
+use Rattle.workload.specs.declared.keyword.Dialect.{Dialect}
+use Rattle.workload.specs.declared.keyword.Dialect.TheVariants.{Plain, Races}
 use Rattle.run_record.specs.Explains.{Explains}
 use Rattle.run_record.specs.InOneOrder.{InOneOrder}
 use Rattle.run_record.specs.Record.{Record}
@@ -22,11 +24,14 @@ use Rattle.gosync_call.specs.declared.status.Unread.TheVariants as unreads
 use Rattle.gosync_call.specs.declared.words.Mode.{Mode}
 use Rattle.gosync_call.specs.declared.words.Mode.TheVariants as modes
 use Rattle.gosync_call.specs.Command.{file_in, AskFor}
-use Rattle.gosync_call.specs.ComesTo.{ComesTo, EndsWithReport, Fails, IsReadFromFile}
+use Rattle.gosync_call.specs.ComesTo.{ComesBy, ComesTo, EndsWithReport, Fails, IsReadFromFile, IsReadIn}
 use Rattle.gosync_call.specs.Front.{IsFrontOfRun}
 use Rattle.gosync_call.specs.Headline.{RunsTo, RunsInJobs}
 use Rattle.gosync_call.specs.Input.{AreBytesOf}
 use Rattle.gosync_call.specs.Messages.{ending_of, message_of, IsOutOfMemory, WritesOut}
+use Rattle.gosync_call.specs.Modes.{dialect_of, EndsBy, ModeComesTo, StopsBy}
+use Rattle.gosync_call.specs.Races.{ending_with, EndsWithRaces, FailsWithRaces, HasRaces, RacesTo}
+use Rattle.race_clocks.specs.declared.race.Race.{Race}
 use Rattle.run_report.specs.ReportText.{report_text}
 
 none_is : (b : List ℕ) → None ≡ Some b → ⊥
@@ -43,9 +48,6 @@ run_is x y is = cc
 
 no_run : (plan : Plan) (status : Status) → fronts.Run plan ≡ fronts.Ended status → ⊥
 no_run plan status is = cc
-
-runs_steps : modes.Run ≡ modes.Step → ⊥
-runs_steps is = cc
 
 not_misused : (misuse : Misuse) → endings.Done ≡ endings.Misused misuse → ⊥
 not_misused misuse is = cc
@@ -66,9 +68,9 @@ abbrev pub mode_in : Option (Mode × List ℕ) → Mode
 mode_in None = modes.Step
 mode_in (Some words) = words.0
 
--- words that ask for a run with threads ask for none by schedule
-pub no_step : (words : List (List ℕ)) (file other : List ℕ) → AskFor words modes.Run file → AskFor words modes.Step other → ⊥
-no_step words file other run step = runs_steps (ap mode_in (sym run ∙ step))
+-- words ask for one mode
+pub same_mode : (words : List (List ℕ)) (mode other : Mode) (file name : List ℕ) → AskFor words mode file → AskFor words other name → other ≡ mode
+same_mode words mode other file name asks also = ap mode_in (sym also ∙ asks)
 
 -- the workload that is left to be run is the one that the file is read as
 pub is_read : (told : Option (List ℕ)) (plan : Plan) → IsFrontOfRun told (fronts.Run plan) → IsReadFromFile told plan
@@ -79,9 +81,13 @@ pub told_so : (bytes read : List ℕ) (told : Option (List ℕ)) → told ≡ So
 told_so bytes read None is are = absurd (none_is bytes is)
 told_so bytes read (Some held) is are = are ∙ held_is held bytes is
 
+-- no text of a dialect is read as two workloads
+abbrev pub OneReading : Dialect → Type 0
+OneReading dialect = (bytes : List ℕ) (p q : Plan) → ReadsIn dialect bytes p → ReadsIn dialect bytes q → p ≡ q
+
 -- the workload that told bytes are read as
-pub plan_is : (bytes : List ℕ) (plan : Plan) (told : Option (List ℕ)) → ((b : List ℕ) (p q : Plan) → Reads b p → Reads b q → p ≡ q) → (other : Plan) → told ≡ Some bytes → Reads bytes plan → IsReadFromFile told other → other ≡ plan
-plan_is bytes plan told one other is reads read = one bytes other plan (subst (λ (b : List ℕ). Reads b other) (told_so bytes read.0 told is read.1) read.2) reads
+pub plan_is : (dialect : Dialect) (bytes : List ℕ) (plan : Plan) (told : Option (List ℕ)) → OneReading dialect → (other : Plan) → told ≡ Some bytes → ReadsIn dialect bytes plan → IsReadIn dialect told other → other ≡ plan
+plan_is dialect bytes plan told one other is reads read = one bytes other plan (subst (λ (b : List ℕ). ReadsIn dialect b other) (told_so bytes read.0 told is read.1) read.2) reads
 
 -- what is said of the status that is left
 pub says_of : (front : Front) (words : Option (Mode × List ℕ)) (mode : Mode) (file : List ℕ) (other status : Status) (old new : Option (List ℕ)) (before now : ℕ)
@@ -98,26 +104,60 @@ module _ (Comes : Plan → Outcome → Type 0) (old new : Option (List ℕ)) whe
   written_so plan outcome (Ok ending) comes written = (outcome, comes, written.0, written.1)
   written_so plan outcome (Err fault) comes written = subst (λ (f : Fault). Fails Comes plan old new f) (sym written.0) (outcome, comes, written.1)
 
+-- a workload's run ended so, or memory was out
+abbrev pub Completes : (Ending → Type 0) → Status → Type 0
+Completes Ends status = ((ending : Ending) × Ends ending × (status ≡ statuses.Ended ending)) ⊎ IsOutOfMemory status
+
+module _ (dialect : Dialect) (Ends : Plan → Ending → Type 0) (Stops : Plan → Fault → Type 0) (told old new : Option (List ℕ)) where
   -- what a front's status comes to
-  pub step_comes : (told : Option (List ℕ)) (status : Status) → ((s : Status) × (fronts.Ended status ≡ fronts.Ended s) × ComesTo Comes told old new s) → ComesTo Comes told old new status
-  step_comes told status comes = subst (λ (s : Status). ComesTo Comes told old new s) (sym (status_is status comes.0 comes.1)) comes.2
+  pub status_comes : (status : Status) → ((s : Status) × (fronts.Ended status ≡ fronts.Ended s) × ComesBy dialect Ends Stops told old new s) → ComesBy dialect Ends Stops told old new status
+  status_comes status comes = subst (λ (s : Status). ComesBy dialect Ends Stops told old new s) (sym (status_is status comes.0 comes.1)) comes.2
 
   -- without a fault, a text that is read is run, unless memory is out
-  pub completes : (bytes : List ℕ) (plan : Plan) (told : Option (List ℕ)) (Read Write Start : Type 0)
-      → ((b : List ℕ) (p q : Plan) → Reads b p → Reads b q → p ≡ q) → (status : Status) → ComesTo Comes told old new status → told ≡ Some bytes → Reads bytes plan
+  pub completes : (bytes : List ℕ) (plan : Plan) (Read Write Start : Type 0) → OneReading dialect → (status : Status) → ComesBy dialect Ends Stops told old new status → told ≡ Some bytes → ReadsIn dialect bytes plan
       → (status ≡ statuses.Unread unreads.CannotRead → Read) → (status ≡ statuses.Failed faults.CannotWrite → Write) → (status ≡ statuses.Failed faults.CannotStart → Start)
-      → (Read → ⊥) → (Write → ⊥) → (Start → ⊥)
-      → ((outcome : Outcome) × Comes plan outcome × (status ≡ statuses.Ended (ending_of outcome))) ⊎ IsOutOfMemory status
-  completes bytes plan told Read Write Start one (statuses.Ended ending) comes is reads read write start no_read no_write no_start =
-      inl (comes.2.0, subst (λ (p : Plan). Comes p comes.2.0) (plan_is bytes plan told one comes.0 is reads comes.1) comes.2.1, ap (λ (e : Ending). statuses.Ended e) comes.2.2)
-  completes bytes plan told Read Write Start one (statuses.Unread (unreads.NotAccepted line reason)) comes is reads read write start no_read no_write no_start =
-      absurd (comes.0.3 plan (subst (λ (b : List ℕ). Reads b plan) (sym (told_so bytes comes.0.0 told is comes.0.1)) reads))
-  completes bytes plan told Read Write Start one (statuses.Unread unreads.CannotRead) comes is reads read write start no_read no_write no_start = absurd (no_read (read refl))
-  completes bytes plan told Read Write Start one (statuses.Unread unreads.Memory) comes is reads read write start no_read no_write no_start = inr refl
-  completes bytes plan told Read Write Start one (statuses.Failed faults.CannotWrite) comes is reads read write start no_read no_write no_start = absurd (no_write (write refl))
-  completes bytes plan told Read Write Start one (statuses.Failed faults.CannotStart) comes is reads read write start no_read no_write no_start = absurd (no_start (start refl))
-  completes bytes plan told Read Write Start one (statuses.Failed faults.Memory) comes is reads read write start no_read no_write no_start = inr refl
-  completes bytes plan told Read Write Start one statuses.Usage comes is reads read write start no_read no_write no_start = absurd comes
+      → (Read → ⊥) → (Write → ⊥) → (Start → ⊥) → Completes (Ends plan) status
+  completes bytes plan Read Write Start one (statuses.Ended ending) comes is reads read write start no_read no_write no_start =
+      inl (ending, subst (λ (p : Plan). Ends p ending) (plan_is dialect bytes plan told one comes.0 is reads comes.1) comes.2, refl)
+  completes bytes plan Read Write Start one (statuses.Unread (unreads.NotAccepted line reason)) comes is reads read write start no_read no_write no_start =
+      absurd (comes.0.3 plan (subst (λ (b : List ℕ). ReadsIn dialect b plan) (sym (told_so bytes comes.0.0 told is comes.0.1)) reads))
+  completes bytes plan Read Write Start one (statuses.Unread unreads.CannotRead) comes is reads read write start no_read no_write no_start = absurd (no_read (read refl))
+  completes bytes plan Read Write Start one (statuses.Unread unreads.Memory) comes is reads read write start no_read no_write no_start = inr refl
+  completes bytes plan Read Write Start one (statuses.Failed faults.CannotWrite) comes is reads read write start no_read no_write no_start = absurd (no_write (write refl))
+  completes bytes plan Read Write Start one (statuses.Failed faults.CannotStart) comes is reads read write start no_read no_write no_start = absurd (no_start (start refl))
+  completes bytes plan Read Write Start one (statuses.Failed faults.Memory) comes is reads read write start no_read no_write no_start = inr refl
+  completes bytes plan Read Write Start one statuses.Usage comes is reads read write start no_read no_write no_start = absurd comes
+
+-- what a front's status comes to, by its mode
+pub mode_comes : (mode : Mode) (told old new : Option (List ℕ)) (status : Status) → ((s : Status) × (fronts.Ended status ≡ fronts.Ended s) × ModeComesTo mode told old new s) → ModeComesTo mode told old new status
+mode_comes mode told old new status comes = status_comes (dialect_of mode) (λ plan ending. EndsBy mode plan old new ending) (λ plan fault. StopsBy mode plan old new fault) told old new status comes
+
+-- it ended as an outcome of the run
+outcome_of_run : (Comes : Plan → Outcome → Type 0) (plan : Plan) (old new : Option (List ℕ)) (status : Status) → Completes (λ (ending : Ending). EndsWithReport Comes plan old new ending) status
+    → ((outcome : Outcome) × Comes plan outcome × (status ≡ statuses.Ended (ending_of outcome))) ⊎ IsOutOfMemory status
+outcome_of_run Comes plan old new status (inl ended) = inl (ended.1.0, ended.1.1, ended.2 ∙ ap (λ (e : Ending). statuses.Ended e) ended.1.2)
+outcome_of_run Comes plan old new status (inr memory) = inr memory
+
+-- or as one ends that has these races
+races_of_run : (plan : Plan) (old new : Option (List ℕ)) (status : Status) → Completes (λ (ending : Ending). EndsWithRaces plan old new ending) status
+    → ((outcome : Outcome) × (races : List Race) × HasRaces plan outcome races × (status ≡ statuses.Ended (ending_with outcome races))) ⊎ IsOutOfMemory status
+races_of_run plan old new status (inl ended) = inl (ended.1.0, ended.1.1, ended.1.2, ended.2 ∙ ap (λ (e : Ending). statuses.Ended e) ended.1.3)
+races_of_run plan old new status (inr memory) = inr memory
+
+module _ (old new : Option (List ℕ)) (bytes : List ℕ) (plan : Plan) (told : Option (List ℕ)) (Read Write Start : Type 0) where
+  pub completes_report : (Comes : Plan → Outcome → Type 0) → OneReading Plain → (status : Status) → ComesTo Comes told old new status → told ≡ Some bytes → ReadsIn Plain bytes plan
+      → (status ≡ statuses.Unread unreads.CannotRead → Read) → (status ≡ statuses.Failed faults.CannotWrite → Write) → (status ≡ statuses.Failed faults.CannotStart → Start)
+      → (Read → ⊥) → (Write → ⊥) → (Start → ⊥) → ((outcome : Outcome) × Comes plan outcome × (status ≡ statuses.Ended (ending_of outcome))) ⊎ IsOutOfMemory status
+  completes_report Comes one status comes is reads read write start no_read no_write no_start =
+      outcome_of_run Comes plan old new status
+      (completes Plain (λ p ending. EndsWithReport Comes p old new ending) (λ p fault. Fails Comes p old new fault) told old new bytes plan Read Write Start one status comes is reads read write start no_read no_write no_start)
+
+  pub completes_races : OneReading Races → (status : Status) → RacesTo told old new status → told ≡ Some bytes → ReadsIn Races bytes plan
+      → (status ≡ statuses.Unread unreads.CannotRead → Read) → (status ≡ statuses.Failed faults.CannotWrite → Write) → (status ≡ statuses.Failed faults.CannotStart → Start)
+      → (Read → ⊥) → (Write → ⊥) → (Start → ⊥) → ((outcome : Outcome) × (races : List Race) × HasRaces plan outcome races × (status ≡ statuses.Ended (ending_with outcome races))) ⊎ IsOutOfMemory status
+  completes_races one status comes is reads read write start no_read no_write no_start =
+      races_of_run plan old new status
+      (completes Races (λ p ending. EndsWithRaces p old new ending) (λ p fault. FailsWithRaces p old new fault) told old new bytes plan Read Write Start one status comes is reads read write start no_read no_write no_start)
 
 module _ (plan : Plan) (old new : Option (List ℕ)) where
   -- what comes in jobs comes

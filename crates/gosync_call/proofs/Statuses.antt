@@ -4,9 +4,11 @@ use Rattle.sync_outside.specs.Bytes.{Appends}
 use Rattle.sync_outside.specs.Faults.{RoseBy}
 use Rattle.script_calls.specs.declared.outcome.Outcome.{Outcome}
 use Rattle.workload.specs.Plan.{Plan}
+use Rattle.workload.specs.declared.keyword.Dialect.{Dialect}
+use Rattle.workload.specs.declared.keyword.Dialect.TheVariants.{Plain}
 use Rattle.workload.specs.declared.limits.TheConstants.{MAX_INPUT}
 use Rattle.made_workload.specs.Summary.{summary, summary_text}
-use Rattle.gosync_call.specs.ComesTo.{ComesTo}
+use Rattle.gosync_call.specs.ComesTo.{ComesBy, ComesTo, EndsWithReport, Fails}
 use Rattle.gosync_call.specs.Front.{IsOfAllBytes, IsUnstarted}
 use Rattle.gosync_call.specs.Input.{IsWhollyRead}
 use Rattle.gosync_call.specs.Made.{MakesTo}
@@ -36,14 +38,20 @@ of_bytes (statuses.Unread unreads.Memory) = inr (inr (inl refl))
 of_bytes (statuses.Failed fault) = inl tt
 of_bytes statuses.Usage = inr (inr (inr refl))
 
-module _ (Comes : Plan → Outcome → Type 0) (told old new : Option (List ℕ)) where
-  pub unwritten : (status : Status) → ComesTo Comes told old new status → IsUnstarted status → new ≡ old
+module _ (dialect : Dialect) (Ends : Plan → Ending → Type 0) (Stops : Plan → Fault → Type 0) (told old new : Option (List ℕ))
+    (start : (plan : Plan) → Stops plan faults.CannotStart → new ≡ old) (memory : (plan : Plan) → Stops plan faults.Memory → new ≡ old) where
+  pub unwritten : (status : Status) → ComesBy dialect Ends Stops told old new status → IsUnstarted status → new ≡ old
   unwritten (statuses.Ended ending) comes unstarted = absurd unstarted
   unwritten (statuses.Unread why) comes unstarted = comes.1
   unwritten (statuses.Failed faults.CannotWrite) comes unstarted = absurd unstarted
-  unwritten (statuses.Failed faults.CannotStart) comes unstarted = comes.2
-  unwritten (statuses.Failed faults.Memory) comes unstarted = comes.2
+  unwritten (statuses.Failed faults.CannotStart) comes unstarted = start comes.0 comes.2
+  unwritten (statuses.Failed faults.Memory) comes unstarted = memory comes.0 comes.2
   unwritten statuses.Usage comes unstarted = absurd comes
+
+-- what is told of a report
+pub unwritten_report : (Comes : Plan → Outcome → Type 0) (told old new : Option (List ℕ)) (status : Status) → ComesTo Comes told old new status → IsUnstarted status → new ≡ old
+unwritten_report Comes told old new status comes unstarted =
+    unwritten Plain (λ plan ending. EndsWithReport Comes plan old new ending) (λ plan fault. Fails Comes plan old new fault) told old new (λ plan same. same) (λ plan same. same) status comes unstarted
 
 module _ (seed ran ran_now : ℕ) (old new : Option (List ℕ)) where
   pub unmade : (status : Status) → MakesTo seed ran ran_now old new status → IsUnstarted status → new ≡ old
@@ -61,6 +69,7 @@ module _ (seed ran ran_now : ℕ) (old new : Option (List ℕ)) where
   made_statuses (statuses.Ended endings.Done) makes = inl refl
   made_statuses (statuses.Ended (endings.Misused misuse)) makes = absurd makes
   made_statuses (statuses.Ended endings.Deadlocked) makes = absurd makes
+  made_statuses (statuses.Ended endings.Raced) makes = absurd makes
   made_statuses (statuses.Unread (unreads.NotAccepted line reason)) makes = absurd makes
   made_statuses (statuses.Unread unreads.CannotRead) makes = absurd makes
   made_statuses (statuses.Unread unreads.Memory) makes = inr (inl refl)
@@ -72,6 +81,7 @@ pub made_written : (seed ran ran_now : ℕ) (before : List ℕ) (new : Option (L
 made_written seed ran ran_now before new endings.Done makes = (refl, makes.0, makes.1)
 made_written seed ran ran_now before new (endings.Misused misuse) makes = absurd makes
 made_written seed ran ran_now before new endings.Deadlocked makes = absurd makes
+made_written seed ran ran_now before new endings.Raced makes = absurd makes
 
 -- what is read of a file that tells its bytes, by what is left of it
 pub read_to : (held left : List ℕ) → IsWhollyRead (Some held) (Some left) → (left ≡ []) ⊎ (length held ≡ MAX_INPUT + 1 + length left)

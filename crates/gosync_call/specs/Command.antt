@@ -15,6 +15,7 @@ abbrev pub file_of : Subcommand × List ℕ → Option (Mode × List ℕ)
 file_of (subcommands.Step, file) = Some (modes.Step, file)
 file_of (subcommands.Run, file) = Some (modes.Run, file)
 file_of (subcommands.Make, seed) = None
+file_of (subcommands.Race, file) = Some (modes.Race, file)
 
 -- the mode and the file that the words ask for, by the matches of the command
 abbrev pub asked : List (List ℕ) → Option (Mode × List ℕ)

@@ -6,4 +6,6 @@ pub mod Input
 pub mod Made
 pub mod MadeText
 pub mod Messages
+pub mod Modes
+pub mod Races
 pub mod Told

@@ -20,12 +20,13 @@ IsUnmade seed ran ran_now old new faults.CannotWrite = AppendsFront old new (sum
 IsUnmade seed ran ran_now old new faults.CannotStart = new ≡ old
 IsUnmade seed ran ran_now old new faults.Memory = new ≡ old
 
--- what a status says of a seed, with how many jobs were done and what was written before and after: no misuse and no deadlock
--- comes, and nothing is refused
+-- what a status says of a seed, with how many jobs were done and what was written before and after: no misuse, no deadlock and no
+-- race comes, and nothing is refused
 abbrev pub MakesTo : ℕ → ℕ → ℕ → Option (List ℕ) → Option (List ℕ) → Status → Type 0
 MakesTo seed ran ran_now old new (statuses.Ended endings.Done) = IsMade seed ran ran_now old new
 MakesTo seed ran ran_now old new (statuses.Ended (endings.Misused misuse)) = ⊥
 MakesTo seed ran ran_now old new (statuses.Ended endings.Deadlocked) = ⊥
+MakesTo seed ran ran_now old new (statuses.Ended endings.Raced) = ⊥
 MakesTo seed ran ran_now old new (statuses.Unread (unreads.NotAccepted line reason)) = ⊥
 MakesTo seed ran ran_now old new (statuses.Unread unreads.CannotRead) = ⊥
 MakesTo seed ran ran_now old new (statuses.Unread unreads.Memory) = new ≡ old

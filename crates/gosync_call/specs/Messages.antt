@@ -21,6 +21,7 @@ abbrev pub code_of : Status → ℕ
 code_of (statuses.Ended endings.Done) = 0
 code_of (statuses.Ended (endings.Misused misuse)) = 2
 code_of (statuses.Ended endings.Deadlocked) = 2
+code_of (statuses.Ended endings.Raced) = 6
 code_of (statuses.Unread (unreads.NotAccepted line reason)) = 1
 code_of (statuses.Unread unreads.CannotRead) = 3
 code_of (statuses.Unread unreads.Memory) = 4
@@ -48,6 +49,7 @@ abbrev pub ending_line : Ending → List ℕ
 ending_line endings.Done = []
 ending_line (endings.Misused misuse) = text_of misuse ++ codes "\n"
 ending_line endings.Deadlocked = codes "fatal error: all goroutines are asleep - deadlock!\n"
+ending_line endings.Raced = []
 
 -- why no workload is read from this file
 abbrev pub unread_line : List ℕ → Unread → List ℕ
@@ -66,4 +68,4 @@ abbrev pub message_of : List ℕ → Status → List ℕ
 message_of file (statuses.Ended ending) = ending_line ending
 message_of file (statuses.Unread why) = unread_line file why
 message_of file (statuses.Failed fault) = fault_line fault
-message_of file statuses.Usage = codes "usage: gosync run FILE | gosync step FILE | gosync make SEED\n"
+message_of file statuses.Usage = codes "usage: gosync run FILE | gosync step FILE | gosync make SEED | gosync race FILE\n"

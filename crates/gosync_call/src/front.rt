@@ -1,15 +1,14 @@
 //! What the program does before any thread is started.
-ghost use Rattle.std.specs.Prelude.{◌≡◌, ◌⊎◌, ◌+◌, ◌≤◌, ℕ, false, List, map, string_bytes};
+ghost use Rattle.std.specs.Prelude.{◌≡◌, ◌≢◌, ◌⊎◌, ◌+◌, ◌≤◌, ℕ, false, List, map, string_bytes};
 ghost use Rattle.sync_outside.specs.Faults.{Rose};
 ghost use Rattle.workload.specs.declared.limits.TheConstants.{MAX_INPUT};
 ghost use Rattle.workload.specs.Dialect.{has_variables};
 ghost use Rattle.workload.specs.Plan.{Plan};
-ghost use Rattle.step_runner.specs.Outcomes.{StepsTo};
 ghost use Rattle.gosync_call.specs.Command.{asked, file_in, AreRefused, AskFor, AskToMake};
-ghost use Rattle.gosync_call.specs.ComesTo.{ComesTo};
 ghost use Rattle.gosync_call.specs.Front.{IsFrontOfRun, IsLeftOfAllBytes};
 ghost use Rattle.gosync_call.specs.Input.{IsWhollyRead, ReadFailed};
 ghost use Rattle.gosync_call.specs.Messages.{message_of, WritesOut};
+ghost use Rattle.gosync_call.specs.Modes.{ModeComesTo};
 ghost use Rattle.gosync_call.specs.declared.status.Front.TheVariants as fronts;
 ghost use Rattle.gosync_call.specs.declared.status.Status.{Status};
 ghost use Rattle.gosync_call.specs.declared.status.Status.TheVariants as statuses;
@@ -19,13 +18,14 @@ ghost use Rattle.gosync_call.specs.declared.words.Mode.{Mode};
 ghost use Rattle.gosync_call.specs.declared.words.Mode.TheVariants as modes;
 
 use crate::message::say;
+use crate::one_thread::on_one_thread;
 use crate::read::read_workload;
 use crate::status::{Front, Status, Unread};
-use crate::step::step;
 use crate::words::{Mode, Request, asked};
 use command_line::WordsFault;
 use std::alloc::Global;
 use sync_outside::{Sink, Sources};
+use workload::keyword::Dialect;
 
 // Says how the program ends, and ends it.
 fn ended<E: Sink>(err: &mut E, file: &str, status: Status) -> Front
@@ -37,7 +37,7 @@ fn ended<E: Sink>(err: &mut E, file: &str, status: Status) -> Front
     Front::Ended(status)
 }
 
-/// Does what the words ask for up to the first start of a thread: all of a run by schedule, and the reading of the file for
+/// Does what the words ask for up to the first start of a thread: all of a run on one thread, and the reading of the file for
 /// a run with threads. A workload that is to be made isn't made yet. It waits for nobody.
 pub fn front<S: Sources, O: Sink, E: Sink>(
     alloc: Global,
@@ -49,12 +49,12 @@ pub fn front<S: Sources, O: Sink, E: Sink>(
     // What the words ask for, and what the bytes of the file come to.
     ensures usage { result ≡ fronts.Ended statuses.Usage → AreRefused (map string_bytes words.now) }
     ensures refused { AreRefused (map string_bytes words.now) → (result ≡ fronts.Ended statuses.Usage) ⊎ (result ≡ fronts.Ended (statuses.Unread unreads.Memory)) }
-    ensures step { (file : List ℕ) → AskFor (map string_bytes words.now) modes.Step file → (status : Status) × (result ≡ fronts.Ended status) × ComesTo StepsTo (S.contents src.old file) (O.contents out.old) (O.contents out.new) status }
+    ensures one_thread { (mode : Mode) (file : List ℕ) → AskFor (map string_bytes words.now) mode file → mode ≢ modes.Run → (status : Status) × (result ≡ fronts.Ended status) × ModeComesTo mode (S.contents src.old file) (O.contents out.old) (O.contents out.new) status }
     ensures run { (file : List ℕ) → AskFor (map string_bytes words.now) modes.Run file → IsFrontOfRun (S.contents src.old file) result }
     ensures make { (seed : ℕ) → AskToMake (map string_bytes words.now) seed → (result ≡ fronts.Make seed) ⊎ (result ≡ fronts.Ended (statuses.Unread unreads.Memory)) }
     ensures plain { (plan : Plan) → result ≡ fronts.Run plan → has_variables plan ≡ false }
     ensures made { (seed : ℕ) → result ≡ fronts.Make seed → AskToMake (map string_bytes words.now) seed }
-    ensures unwritten { ((file : List ℕ) → ¬ AskFor (map string_bytes words.now) modes.Step file) → (O.contents out.new ≡ O.contents out.old) × (O.faults out.new ≡ O.faults out.old) }
+    ensures unwritten { ((mode : Mode) (file : List ℕ) → AskFor (map string_bytes words.now) mode file → mode ≡ modes.Run) → (O.contents out.new ≡ O.contents out.old) × (O.faults out.new ≡ O.faults out.old) }
 
     // Where no file is named nothing is read, and where words are refused nothing is written.
     ensures unread { AreRefused (map string_bytes words.now) ⊎ ((seed : ℕ) × AskToMake (map string_bytes words.now) seed) → src.new ≡ src.old }
@@ -81,14 +81,16 @@ pub fn front<S: Sources, O: Sink, E: Sink>(
     ensures err_faults { E.faults err.old ≤ E.faults err.new }
 {
     match asked(alloc, words) {
-        Ok(Request::File(Mode::Step, file)) => {
-            let status = step(alloc, file, src, out);
+        Ok(Request::File(Mode::Run, file)) => {
+            match read_workload(alloc, Dialect::Plain, file, src) {
+                Ok(workload) => Front::Run(workload),
+                Err(why) => ended(err, file, Status::Unread(why)),
+            }
+        }
+        Ok(Request::File(mode, file)) => {
+            let status = on_one_thread(alloc, mode, file, src, out);
             ended(err, file, status)
         }
-        Ok(Request::File(Mode::Run, file)) => match read_workload(alloc, file, src) {
-            Ok(workload) => Front::Run(workload),
-            Err(why) => ended(err, file, Status::Unread(why)),
-        },
         Ok(Request::Make(seed)) => Front::Make(seed),
         Err(WordsFault::Refused) => ended(err, "", Status::Usage),
         Err(WordsFault::Memory) => ended(err, "", Status::Unread(Unread::Memory)),

@@ -24,13 +24,13 @@ fn say_text<E: Sink>(err: &mut E, text: &[u8])
     let _ = err.write(text);
 }
 
-/// Says how a run ended, in Go's words; nothing where every script has ended.
+/// Says how a run ended, in Go's words; nothing where every script has ended, whether accesses raced or not.
 fn say_ending<E: Sink>(err: &mut E, ending: Ending)
     ensures says { WritesOut (E.contents err.old) (E.contents err.new) (E.faults err.old) (E.faults err.new) (ending_line ending) }
     ensures faults { E.faults err.old ≤ E.faults err.new }
 {
     match ending {
-        Ending::Done => {}
+        Ending::Done | Ending::Raced => {}
         Ending::Misused(misuse) => say_pieces(err, &[misuse.text().as_bytes(), b"\n"]),
         Ending::Deadlocked => {
             say_text(err, b"fatal error: all goroutines are asleep - deadlock!\n")
@@ -79,7 +79,7 @@ pub fn say<E: Sink>(err: &mut E, file: &str, status: Status)
         Status::Failed(fault) => say_fault(err, fault),
         Status::Usage => say_text(
             err,
-            b"usage: gosync run FILE | gosync step FILE | gosync make SEED\n",
+            b"usage: gosync run FILE | gosync step FILE | gosync make SEED | gosync race FILE\n",
         ),
     }
 }

@@ -4,7 +4,7 @@ ghost use Rattle.sync_outside.specs.Faults.{Rose};
 ghost use Rattle.script_calls.specs.declared.outcome.Outcome.{Outcome};
 ghost use Rattle.workload.specs.declared.limits.TheConstants.{MAX_INPUT};
 ghost use Rattle.workload.specs.Plan.{Plan};
-ghost use Rattle.workload.specs.Reads.{Reads};
+ghost use Rattle.workload.specs.Reads.{Reads, ReadsIn};
 ghost use Rattle.step_runner.specs.Outcomes.{StepsTo};
 ghost use Rattle.gosync_call.specs.Command.{asked, file_in, AreRefused, AskFor, AskToMake};
 ghost use Rattle.gosync_call.specs.ComesTo.{ComesTo};
@@ -13,6 +13,10 @@ ghost use Rattle.gosync_call.specs.Headline.{Headline, RunsTo, RunsInJobs};
 ghost use Rattle.gosync_call.specs.Input.{IsWhollyRead, ReadFailed, NoReadFailed, NoWriteFailed};
 ghost use Rattle.gosync_call.specs.Made.{MakesTo};
 ghost use Rattle.gosync_call.specs.Messages.{code_of, ending_of, message_of, IsOutOfMemory, WritesOut};
+ghost use Rattle.gosync_call.specs.Modes.{dialect_of};
+ghost use Rattle.gosync_call.specs.Races.{ending_with, HasRaces, RacesTo};
+ghost use Rattle.race_clocks.specs.declared.race.Race.{Race};
+ghost use Rattle.workload.specs.declared.keyword.Dialect.TheVariants.{Races};
 ghost use Rattle.gosync_call.specs.declared.status.Ending.TheVariants as endings;
 ghost use Rattle.gosync_call.specs.declared.status.Status.TheVariants as statuses;
 ghost use Rattle.gosync_call.specs.declared.status.Unread.TheVariants as unreads;
@@ -29,7 +33,7 @@ use std::alloc::Global;
 use std::sync::Wait;
 use std::thread::Threads;
 use sync_outside::{Clock, Gate, Sink, Sources, Spawner};
-use workload::laws::one_reading;
+use workload::laws::{one_reading, race_texts_are_read_or_refused};
 
 /// The program `gosync`, on the words of its command line, of which the first is its own name.
 ///
@@ -59,6 +63,9 @@ pub fn gosync<
     // A run by schedule comes to what that run is defined to come to.
     ensures step { (file : List ℕ) → AskFor (map string_bytes words.now) modes.Step file → ComesTo StepsTo (S.contents src.old file) (O.contents out.old) (O.contents out.new) result }
 
+    // So does one whose races are asked for: to the report of that run and its races, of which the status tells whether there are any.
+    ensures race { (file : List ℕ) → AskFor (map string_bytes words.now) modes.Race file → RacesTo (S.contents src.old file) (O.contents out.old) (O.contents out.new) result }
+
     // The workload of a seed comes to the five lines of the seed, whatever the interleaving.
     ensures make { (seed : ℕ) → AskToMake (map string_bytes words.now) seed → MakesTo seed (P.ran spawner.old) (P.ran spawner.new) (O.contents out.old) (O.contents out.new) result }
 
@@ -72,6 +79,7 @@ pub fn gosync<
     ensures jobs { (file : List ℕ) → AskFor (map string_bytes words.now) modes.Run file → ComesTo (RunsInJobs (P.ran spawner.old) (P.ran spawner.new)) (S.contents src.old file) (O.contents out.old) (O.contents out.new) result }
     ensures rounds { P.rounds spawner.new ≤ P.rounds spawner.old + 1 }
     ensures unstarted { IsUnstarted result ⊎ ((file : List ℕ) × AskFor (map string_bytes words.now) modes.Step file) → (P.ran spawner.new ≡ P.ran spawner.old) × (P.rounds spawner.new ≡ P.rounds spawner.old) }
+    ensures race_unstarted { ((file : List ℕ) × AskFor (map string_bytes words.now) modes.Race file) → (P.ran spawner.new ≡ P.ran spawner.old) × (P.rounds spawner.new ≡ P.rounds spawner.old) }
 
     // What is told of a file is told of all its bytes: it was read to its end, or as far as a text may go and a byte more.
     ensures whole { (mode : Mode) (file : List ℕ) → AskFor (map string_bytes words.now) mode file → IsOfAllBytes result → IsWhollyRead (S.contents src.old file) (S.remaining src.new) }
@@ -93,7 +101,10 @@ pub fn gosync<
         → NoReadFailed (S.open_faults src.old file) (S.open_faults src.new file) (S.read_faults src.old) (S.read_faults src.new) → NoWriteFailed (O.faults out.old) (O.faults out.new)
         → ¬ Rose (P.faults spawner.old) (P.faults spawner.new)
         → ((outcome : Outcome) × RunsTo plan outcome × (result ≡ statuses.Ended (ending_of outcome))) ⊎ IsOutOfMemory result }
-    ensures refused { (mode : Mode) (file bytes : List ℕ) → AskFor (map string_bytes words.now) mode file → S.contents src.old file ≡ Some bytes → ((plan : Plan) → ¬ Reads bytes plan)
+    ensures races { (file bytes : List ℕ) (plan : Plan) → AskFor (map string_bytes words.now) modes.Race file → S.contents src.old file ≡ Some bytes → ReadsIn Races bytes plan
+        → NoReadFailed (S.open_faults src.old file) (S.open_faults src.new file) (S.read_faults src.old) (S.read_faults src.new) → NoWriteFailed (O.faults out.old) (O.faults out.new)
+        → ((outcome : Outcome) × (races : List Race) × HasRaces plan outcome races × (result ≡ statuses.Ended (ending_with outcome races))) ⊎ IsOutOfMemory result }
+    ensures refused { (mode : Mode) (file bytes : List ℕ) → AskFor (map string_bytes words.now) mode file → S.contents src.old file ≡ Some bytes → ((plan : Plan) → ¬ ReadsIn (dialect_of mode) bytes plan)
         → NoReadFailed (S.open_faults src.old file) (S.open_faults src.new file) (S.read_faults src.old) (S.read_faults src.new)
         → (code_of result ≡ 1) ⊎ IsOutOfMemory result }
 
@@ -109,6 +120,7 @@ pub fn gosync<
     ensures start_faults { P.faults spawner.old ≤ P.faults spawner.new }
 {
     one_reading();
+    race_texts_are_read_or_refused();
     match front(alloc, words, src, out, err) {
         Front::Ended(status) => status,
         Front::Run(workload) => {

@@ -3,18 +3,22 @@ ghost use Rattle.std.specs.Prelude.{◌≡◌, ℕ, List, ◌+◌, ◌≤◌, tr
 ghost use Rattle.workload.specs.declared.limits.TheConstants.{MAX_INPUT};
 ghost use Rattle.workload.specs.Dialect.{has_variables};
 ghost use Rattle.workload.specs.Plan.{is_valid};
+ghost use Rattle.workload.specs.Reads.{IsFaultIn, ReadsIn};
 ghost use Rattle.gosync_call.specs.Front.{IsRefusal};
 ghost use Rattle.gosync_call.specs.Input.{IsWhollyRead, ReadFailed};
-ghost use Rattle.gosync_call.specs.ComesTo.{IsReadFromFile, IsUnread};
+ghost use Rattle.gosync_call.specs.ComesTo.{IsReadIn, IsUnreadIn};
 ghost use Rattle.gosync_call.specs.declared.status.Unread.TheVariants as unreads;
 
 use crate::input::{InputFault, read_input};
 use crate::status::Unread;
 use std::alloc::Global;
 use sync_outside::Sources;
-use workload::laws::{plain_texts_are_race_texts_without_variables, read_or_refused};
+use workload::keyword::Dialect;
+use workload::laws::{
+    plain_texts_are_race_texts_without_variables, race_texts_are_read_or_refused, read_or_refused,
+};
 use workload::{ParseFault, Workload};
-use workload_text::parse;
+use workload_text::{parse, parse_race};
 
 /// Each place and number in a workload is in range.
 pub fn is_in_range(workload: &Workload)
@@ -23,24 +27,41 @@ pub fn is_in_range(workload: &Workload)
     workload.workers();
 }
 
-/// The workload that a file is read as. It has no plain variable.
-pub fn read_workload<S: Sources>(alloc: Global, file: &str, src: &mut S) -> Result<Workload, Unread>
-    ensures read { MatchResult result (IsReadFromFile (S.contents src.old file.now)) (IsUnread (S.contents src.old file.now)) }
+/// Reads a text of a dialect.
+fn parse_in(alloc: Global, dialect: Dialect, bytes: &[u8]) -> Result<Workload, ParseFault>
+    ensures read { IfOk result (ReadsIn dialect bytes.now) }
+    ensures refused { IfErr result (IsFaultIn dialect bytes.now) }
+{
+    match dialect {
+        Dialect::Plain => parse(alloc, bytes),
+        Dialect::Races => parse_race(alloc, bytes),
+    }
+}
+
+/// The workload that a file is read as in a dialect. It has no plain variable where that is the plain one.
+pub fn read_workload<S: Sources>(
+    alloc: Global,
+    dialect: Dialect,
+    file: &str,
+    src: &mut S,
+) -> Result<Workload, Unread>
+    ensures read { MatchResult result (IsReadIn dialect (S.contents src.old file.now)) (IsUnreadIn dialect (S.contents src.old file.now)) }
     ensures whole { MatchResult result (λ _. IsWhollyRead (S.contents src.old file.now) (S.remaining src.new)) (λ why. IsRefusal why → IsWhollyRead (S.contents src.old file.now) (S.remaining src.new)) }
-    ensures plain { IfOk result (λ workload. has_variables workload ≡ false) }
+    ensures plain { IfOk result (λ workload. dialect ≡ Dialect.Plain → has_variables workload ≡ false) }
     ensures cannot_read { IfErr result (λ why. why ≡ unreads.CannotRead → ReadFailed (S.open_faults src.old file.now) (S.open_faults src.new file.now) (S.read_faults src.old) (S.read_faults src.new)) }
     ensures reads { S.reads src.new ≤ S.reads src.old + (MAX_INPUT + 1) }
     ensures read_faults { S.read_faults src.old ≤ S.read_faults src.new }
     ensures open_faults { (name : List ℕ) → S.open_faults src.old name ≤ S.open_faults src.new name }
 {
     read_or_refused();
+    race_texts_are_read_or_refused();
     plain_texts_are_race_texts_without_variables();
     let bytes = match read_input(alloc, file, src) {
         Ok(bytes) => bytes,
         Err(InputFault::Failed) => return Err(Unread::CannotRead),
         Err(InputFault::Memory) => return Err(Unread::Memory),
     };
-    match parse(alloc, &bytes) {
+    match parse_in(alloc, dialect, &bytes) {
         Ok(workload) => {
             is_in_range(&workload);
             Ok(workload)

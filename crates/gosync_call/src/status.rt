@@ -14,6 +14,8 @@ pub enum Ending {
     Misused(Misuse),
     /// All workers waited.
     Deadlocked,
+    /// Every script has ended, and accesses of plain variables raced.
+    Raced,
 }
 
 /// Why no workload is read from a file.
@@ -52,7 +54,7 @@ pub enum Status {
 }
 
 impl Status {
-    /// The program's exit status, 0 to 5.
+    /// The program's exit status, 0 to 6.
     pub fn code(self) -> u8
         ensures { result ≡ code_of self }
     {
@@ -64,6 +66,7 @@ impl Status {
             | Status::Failed(Fault::CannotWrite | Fault::CannotStart) => 3,
             Status::Unread(Unread::Memory) | Status::Failed(Fault::Memory) => 4,
             Status::Usage => 5,
+            Status::Ended(Ending::Raced) => 6,
         }
     }
 }

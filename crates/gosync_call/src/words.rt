@@ -1,10 +1,12 @@
 //! What the words of the command ask for.
-ghost use Rattle.std.specs.Prelude.{IfOk, IsErrOf, OnOk, map, string_bytes};
+ghost use Rattle.std.specs.Prelude.{◌≡◌, IfOk, IsErrOf, OnOk, map, string_bytes};
 ghost use Rattle.command_line.specs.declared.matching.WordsFault.TheVariants as words_faults;
 ghost use Rattle.gosync_call.specs.Command.{Asks, AreRefused};
+ghost use Rattle.gosync_call.specs.Modes.{dialect_of};
 
 use command_line::{Subcommand, WordsFault, matched, seed_of};
 use std::alloc::Global;
+use workload::keyword::Dialect;
 
 /// How the workload of a file is run.
 #[derive(Clone, Copy, PartialEq, Eq)]
@@ -13,6 +15,20 @@ pub enum Mode {
     Step,
     /// With a thread for each worker.
     Run,
+    /// By its schedule, on one thread, and its races are told.
+    Race,
+}
+
+impl Mode {
+    /// Which words the text of the file may have.
+    pub fn dialect(self) -> Dialect
+        ensures { result ≡ dialect_of self }
+    {
+        match self {
+            Mode::Step | Mode::Run => Dialect::Plain,
+            Mode::Race => Dialect::Races,
+        }
+    }
 }
 
 /// What the words ask for.
@@ -37,6 +53,7 @@ pub fn asked<'a>(alloc: Global, words: &'a [String]) -> Result<Request<'a>, Word
             Some(seed) => Ok(Request::Make(seed)),
             None => Err(WordsFault::Refused),
         },
+        Ok((Subcommand::Race, file)) => Ok(Request::File(Mode::Race, file)),
         Err(fault) => Err(fault),
     }
 }

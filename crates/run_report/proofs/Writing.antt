@@ -12,7 +12,7 @@ pub record Goes (old now : Option (List ℕ)) (all left : List ℕ) : Type 0 whe
   pub wrote : Appends old now done
   pub rest : all ≡ done ++ left
 
-append_known-nil : (a : Option (List ℕ)) → a ≡ append_known a []
+pub append_known-nil : (a : Option (List ℕ)) → a ≡ append_known a []
 append_known-nil None = refl
 append_known-nil (Some xs) = ap (λ (l : List ℕ). Some l) (sym (append-nil xs))
 

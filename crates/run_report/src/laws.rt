@@ -1,6 +1,7 @@
 //! What it means that a report was written, and what it tells.
-ghost use Rattle.std.specs.Prelude.{◌≡◌, ◌≢◌, ◌↔◌, ◌≤◌, ◌+◌, ℕ, false, List, [], ◌++◌, codes, length, get_or, sum_by, Some, slice_get};
+ghost use Rattle.std.specs.Prelude.{◌≡◌, ◌≢◌, ◌↔◌, ◌≤◌, ◌+◌, ℕ, false, List, [], ◌++◌, codes, length, get_or, sum_by, Option, Some, slice_get};
 ghost use Rattle.std.specs.Fmt.{decimal};
+ghost use Rattle.sync_outside.specs.Bytes.{Appends, AppendsFront};
 ghost use Rattle.sync_types.specs.declared.end.End.{End};
 ghost use Rattle.sync_types.specs.declared.misuse.Misuse.{Misuse};
 ghost use Rattle.script_calls.specs.Outcome.{left_by};
@@ -16,6 +17,7 @@ ghost use Rattle.workload_text.specs.ReportLines.{completed_line};
 ghost use Rattle.run_report.specs.ReportText.{outcome_ends, report_lines, report_text};
 ghost use Rattle.run_report.specs.Shown.{completed_before, AreReplies, Shows};
 ghost use Rattle.run_report.specs.Told.{ReportTellsWhatIsLeft};
+ghost use Rattle.run_report.specs.Writes.{Wrote, WroteUpTo};
 
 use script_calls::laws::{a_script_without_tests_is_its_own_run, calls_keep_their_places};
 use workload::laws::keys_are_numbered_by_first_appearance;
@@ -57,3 +59,15 @@ pub fn a_report_tells_what_is_left()
 {
     keys_are_numbered_by_first_appearance();
 }
+
+/// Texts that are written one behind the other are written as one. A first part of a text is one of the text and what is behind it, and
+/// a text with a first part of what is behind it is one of both. The numbers of writes add up.
+pub fn what_is_written_adds_up()
+    ensures nothing { (old : Option (List ℕ)) → Appends old old [] }
+    ensures both { (old mid new : Option (List ℕ)) (text behind : List ℕ) → Appends old mid text → Appends mid new behind → Appends old new (text ++ behind) }
+    ensures part { (old new : Option (List ℕ)) (text behind : List ℕ) → AppendsFront old new text → AppendsFront old new (text ++ behind) }
+    ensures further { (old mid new : Option (List ℕ)) (text behind : List ℕ) → Appends old mid text → AppendsFront mid new behind → AppendsFront old new (text ++ behind) }
+    ensures writes { (before mid now times more : ℕ) → Wrote before mid times → Wrote mid now more → Wrote before now (times + more) }
+    ensures some { (before now times more : ℕ) → WroteUpTo before now times → WroteUpTo before now (times + more) }
+    ensures up_to { (before mid now times more : ℕ) → Wrote before mid times → WroteUpTo mid now more → WroteUpTo before now (times + more) }
+{}

@@ -3,7 +3,8 @@ ghost use Rattle.std.specs.Prelude.{◌≡◌, ◌⊎◌, ◌+◌, ◌-◌, ◌^
 ghost use Rattle.sync_outside.specs.Bytes.{Appends};
 ghost use Rattle.sync_outside.specs.Faults.{RoseBy};
 ghost use Rattle.workload.specs.Plan.{Plan};
-ghost use Rattle.workload.specs.Reads.{IsRefused, Reads};
+ghost use Rattle.workload.specs.Reads.{IsRefused, IsRefusedIn, Reads};
+ghost use Rattle.workload.specs.declared.keyword.Dialect.TheVariants.{Races};
 ghost use Rattle.workload.specs.declared.limits.TheConstants.{MAX_INPUT};
 ghost use Rattle.workload.specs.declared.reason.Reason.{Reason};
 ghost use Rattle.made_workload.specs.Summary.{summary, summary_text};
@@ -14,6 +15,7 @@ ghost use Rattle.gosync_call.specs.Headline.{Headline, RunsInJobs};
 ghost use Rattle.gosync_call.specs.Input.{IsWhollyRead};
 ghost use Rattle.gosync_call.specs.Made.{MakesTo};
 ghost use Rattle.gosync_call.specs.Messages.{WritesOut};
+ghost use Rattle.gosync_call.specs.Races.{RacesTo};
 ghost use Rattle.gosync_call.specs.declared.status.Ending.{Ending};
 ghost use Rattle.gosync_call.specs.declared.status.Ending.TheVariants as endings;
 ghost use Rattle.gosync_call.specs.declared.status.Fault.{Fault};
@@ -35,6 +37,7 @@ pub fn a_status_tells_whether_workers_made_calls()
 pub fn what_was_not_started_wrote_nothing()
     ensures with_threads { (told old new : Option (List ℕ)) (status : Status) → Headline told old new status → IsUnstarted status → new ≡ old }
     ensures by_schedule { (told old new : Option (List ℕ)) (status : Status) → ComesTo StepsTo told old new status → IsUnstarted status → new ≡ old }
+    ensures with_races { (told old new : Option (List ℕ)) (status : Status) → RacesTo told old new status → IsUnstarted status → new ≡ old }
     ensures of_a_seed { (seed ran ran_now : ℕ) (old new : Option (List ℕ)) (status : Status) → MakesTo seed ran ran_now old new status → IsUnstarted status → new ≡ old }
 {}
 
@@ -43,12 +46,14 @@ pub fn a_line_is_written_whole_without_a_fault()
     ensures { (old new : Option (List ℕ)) (before now : ℕ) (line : List ℕ) → WritesOut old new before now line → now ≤ before → now < 2 ^ 64 - 1 → Appends old new line }
 {}
 
-/// A text that is refused is told with the line and the reason of its first fault.
+/// A text that is refused is told with the line and the reason of its first fault: a race text with that of the grammar of race texts.
 pub fn a_refusal_tells_the_first_fault()
     ensures with_threads { (bytes : List ℕ) (old new : Option (List ℕ)) (line : ℕ) (reason : Reason)
         → Headline (Some bytes) old new (statuses.Unread (unreads.NotAccepted line reason)) → IsRefused bytes line reason }
     ensures by_schedule { (bytes : List ℕ) (old new : Option (List ℕ)) (line : ℕ) (reason : Reason)
         → ComesTo StepsTo (Some bytes) old new (statuses.Unread (unreads.NotAccepted line reason)) → IsRefused bytes line reason }
+    ensures with_races { (bytes : List ℕ) (old new : Option (List ℕ)) (line : ℕ) (reason : Reason)
+        → RacesTo (Some bytes) old new (statuses.Unread (unreads.NotAccepted line reason)) → IsRefusedIn Races bytes line reason }
 {}
 
 /// All bytes of a file are told of but where it can't be read, where memory is out before it is, and where no file is asked

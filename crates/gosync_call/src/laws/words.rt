@@ -8,11 +8,12 @@ ghost use Rattle.gosync_call.specs.declared.words.Mode.TheVariants as modes;
 
 use command_line::laws::{a_seed_is_its_decimal_text, a_subcommand_with_its_argument_is_taken};
 
-/// `gosync run FILE` asks to run FILE with threads, `gosync step FILE` to run it by its schedule, and `gosync make SEED` to make
-/// the workload of SEED, whatever the program is called. FILE is `-`, or isn't empty and doesn't begin with `-`.
+/// `gosync run FILE` asks to run FILE with threads, `gosync step FILE` to run it by its schedule, `gosync race FILE` to run it so and tell
+/// its races, and `gosync make SEED` to make the workload of SEED, whatever the program is called. FILE is `-`, or isn't empty and doesn't begin with `-`.
 pub fn three_words_ask_for_what_they_say()
     ensures run { (program file : List ℕ) → is_argument file ≡ true → AskFor (program ∷ codes "run" ∷ file ∷ []) modes.Run file }
     ensures step { (program file : List ℕ) → is_argument file ≡ true → AskFor (program ∷ codes "step" ∷ file ∷ []) modes.Step file }
+    ensures race { (program file : List ℕ) → is_argument file ≡ true → AskFor (program ∷ codes "race" ∷ file ∷ []) modes.Race file }
     ensures make { (program : List ℕ) (seed : ℕ) → seed < 2 ^ 64 → AskToMake (program ∷ codes "make" ∷ decimal seed ∷ []) seed }
 {
     a_subcommand_with_its_argument_is_taken();

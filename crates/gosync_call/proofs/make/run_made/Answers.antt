@@ -1,4 +1,4 @@
-use Rattle.std.proofs.Common.{ap, subst, ◌∙◌}
+use Rattle.std.proofs.Common.{subst}
 use Rattle.gosync_call.proofs.Seeds.{IsSummed, left_summed, made_so, summed}
 use Rattle.gosync_call.proofs.make.run_made.Goals as goal
 

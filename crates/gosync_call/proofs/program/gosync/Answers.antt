@@ -6,6 +6,9 @@ use Rattle.gosync_call.specs.declared.status.Status.TheVariants as statuses
 use Rattle.gosync_call.specs.declared.status.Fault.TheVariants as faults
 use Rattle.gosync_call.specs.declared.status.Unread.TheVariants as unreads
 use Rattle.gosync_call.specs.Messages.{message_of}
+use Rattle.gosync_call.specs.Modes.{dialect_of}
+use Rattle.workload.specs.Plan.{Plan}
+use Rattle.workload.specs.Reads.{ReadsIn}
 use Rattle.gosync_call.specs.declared.words.Mode.{Mode}
 use Rattle.gosync_call.specs.declared.words.Mode.TheVariants as modes
 use Rattle.gosync_call.specs.Command.{asked, file_in}
@@ -13,8 +16,8 @@ use Rattle.gosync_call.specs.Headline.{RunsTo, RunsInJobs}
 use Rattle.gosync_call.specs.Input.{ReadFailed}
 use Rattle.sync_outside.specs.Faults.{Rose}
 use Rattle.gosync_call.proofs.AskedWords.{no_file, not_both}
-use Rattle.gosync_call.proofs.Fronts.{asking, asks_run, by_mode, ended_make, ended_makes, ended_no_failed, ended_no_unread, err_of, failed_no_unread, front_comes, make_taken, refuses, run_is_read, run_no_ended, run_taken, run_unasked, run_unmade, same_fault}
-use Rattle.gosync_call.proofs.Runs.{completes, ended_run, ends_by_record, failed_run, fails_by_record, is_read, no_step, says_run, step_comes}
+use Rattle.gosync_call.proofs.Fronts.{asking, asks_run, by_threads, ended_make, ended_makes, ended_no_failed, ended_no_unread, err_of, failed_no_unread, front_comes, make_taken, refuses_by, run_is_read, run_no_ended, run_taken, run_unasked, run_unmade, same_fault}
+use Rattle.gosync_call.proofs.Runs.{completes_races, completes_report, ended_run, ends_by_record, failed_run, fails_by_record, is_read, mode_comes, same_mode, says_run}
 use Rattle.gosync_call.proofs.program.gosync.Goals as goal
 
 pub returns-in-Ended-clause-says : goal.returns-in-Ended-clause-says
@@ -25,10 +28,10 @@ returns-in-Ended-clause-steps g c file bytes plan asks is reads no_read no_write
     let told = g.S.Sources.contents c.args.src.now file in
     let old = g.O.Sink.contents c.args.out.now in
     let new = g.O.Sink.contents c.front.new.out in
-    completes StepsTo old new bytes plan told
+    completes_report old new bytes plan told
     (ReadFailed (g.S.Sources.open_faults c.args.src.now file) (g.S.Sources.open_faults c.front.new.src file) (g.S.Sources.read_faults c.args.src.now) (g.S.Sources.read_faults c.front.new.src))
     (Rose (g.O.Sink.faults c.args.out.now) (g.O.Sink.faults c.front.new.out)) ⊥
-    c.one_reading.ensures c.in-Ended.status (step_comes StepsTo old new told c.in-Ended.status (c.in-Ended.ensures.step file asks)) is reads
+    StepsTo c.one_reading.ensures c.in-Ended.status (mode_comes modes.Step told old new c.in-Ended.status (c.in-Ended.ensures.one_thread modes.Step file asks (λ e. cc))) is reads
     (λ e. c.in-Ended.ensures.cannot_read modes.Step file asks (ap (λ (s : Status). fronts.Ended s) e))
     (λ e. c.in-Ended.ensures.cannot_write (ap (λ (s : Status). fronts.Ended s) e))
     (λ e. c.in-Ended.ensures.started (ap (λ (s : Status). fronts.Ended s) e))
@@ -40,7 +43,7 @@ returns-in-Ok-clause-headline g c file asks =
     let mid = g.O.Sink.contents c.front.new.out in
     let new = g.O.Sink.contents c.run_by_threads.new.out in
     ended_run RunsTo told (g.O.Sink.contents c.args.out.now) mid new c.in-Run.workload c.in-Ok.ending c.say_run.result c.say_run.ensures.status (is_read told c.in-Run.workload (c.in-Run.ensures.run file asks))
-    (c.in-Run.ensures.unwritten (λ other step. no_step (map string_bytes c.args.words.now) file other asks step)).0
+    (c.in-Run.ensures.unwritten (λ mode other also. same_mode (map string_bytes c.args.words.now) modes.Run mode file other asks also)).0
     (ends_by_record c.in-Run.workload mid new (g.P.Spawner.ran c.args.spawner.now) (g.P.Spawner.ran c.run_by_threads.new.spawner) c.in-Ok.ending c.in-Ok.ensures.ran)
 
 pub returns-in-Ok-clause-jobs : goal.returns-in-Ok-clause-jobs
@@ -48,7 +51,7 @@ returns-in-Ok-clause-jobs g c file asks =
     let told = g.S.Sources.contents c.args.src.now file in
     ended_run (RunsInJobs (g.P.Spawner.ran c.args.spawner.now) (g.P.Spawner.ran c.run_by_threads.new.spawner)) told (g.O.Sink.contents c.args.out.now) (g.O.Sink.contents c.front.new.out) (g.O.Sink.contents c.run_by_threads.new.out)
     c.in-Run.workload c.in-Ok.ending c.say_run.result c.say_run.ensures.status (is_read told c.in-Run.workload (c.in-Run.ensures.run file asks))
-    (c.in-Run.ensures.unwritten (λ other step. no_step (map string_bytes c.args.words.now) file other asks step)).0 c.in-Ok.ensures.ran
+    (c.in-Run.ensures.unwritten (λ mode other also. same_mode (map string_bytes c.args.words.now) modes.Run mode file other asks also)).0 c.in-Ok.ensures.ran
 
 pub returns-in-Ok-clause-says : goal.returns-in-Ok-clause-says
 returns-in-Ok-clause-says g c =
@@ -62,7 +65,7 @@ returns-in-Run-clause-headline g c file asks =
     let mid = g.O.Sink.contents c.front.new.out in
     let new = g.O.Sink.contents c.run_by_threads.new.out in
     failed_run RunsTo told (g.O.Sink.contents c.args.out.now) mid new c.in-Run.workload c.in-Err.fault c.say_run-in-Err.result c.say_run-in-Err.ensures.status (is_read told c.in-Run.workload (c.in-Run.ensures.run file asks))
-    (c.in-Run.ensures.unwritten (λ other step. no_step (map string_bytes c.args.words.now) file other asks step)).0
+    (c.in-Run.ensures.unwritten (λ mode other also. same_mode (map string_bytes c.args.words.now) modes.Run mode file other asks also)).0
     (fails_by_record c.in-Run.workload mid new (g.P.Spawner.ran c.args.spawner.now) (g.P.Spawner.ran c.run_by_threads.new.spawner) c.in-Err.fault c.in-Err.ensures.ran)
 
 pub returns-in-Run-clause-jobs : goal.returns-in-Run-clause-jobs
@@ -70,7 +73,7 @@ returns-in-Run-clause-jobs g c file asks =
     let told = g.S.Sources.contents c.args.src.now file in
     failed_run (RunsInJobs (g.P.Spawner.ran c.args.spawner.now) (g.P.Spawner.ran c.run_by_threads.new.spawner)) told (g.O.Sink.contents c.args.out.now) (g.O.Sink.contents c.front.new.out) (g.O.Sink.contents c.run_by_threads.new.out)
     c.in-Run.workload c.in-Err.fault c.say_run-in-Err.result c.say_run-in-Err.ensures.status (is_read told c.in-Run.workload (c.in-Run.ensures.run file asks))
-    (c.in-Run.ensures.unwritten (λ other step. no_step (map string_bytes c.args.words.now) file other asks step)).0 c.in-Err.ensures.ran
+    (c.in-Run.ensures.unwritten (λ mode other also. same_mode (map string_bytes c.args.words.now) modes.Run mode file other asks also)).0 c.in-Err.ensures.ran
 
 pub returns-in-Run-clause-says : goal.returns-in-Run-clause-says
 returns-in-Run-clause-says g c =
@@ -81,7 +84,7 @@ returns-in-Run-clause-says g c =
 pub returns-in-Ended-clause-make : goal.returns-in-Ended-clause-make
 returns-in-Ended-clause-make g c seed asks =
     ended_make c.in-Ended.status seed (g.P.Spawner.ran c.args.spawner.now) (g.P.Spawner.ran c.args.spawner.now) (g.O.Sink.contents c.args.out.now) (g.O.Sink.contents c.front.new.out) (c.in-Ended.ensures.make seed asks)
-    (c.in-Ended.ensures.unwritten (λ file step. not_both (map string_bytes c.args.words.now) seed modes.Step file asks step)).0
+    (c.in-Ended.ensures.unwritten (λ mode file also. absurd (not_both (map string_bytes c.args.words.now) seed mode file asks also))).0
 
 pub returns-in-Ended-clause-makes : goal.returns-in-Ended-clause-makes
 returns-in-Ended-clause-makes g c seed asks no_write no_start = ended_makes c.in-Ended.status seed (c.in-Ended.ensures.make seed asks)
@@ -94,11 +97,11 @@ returns-in-Ended-clause-runs g c file bytes plan asks is reads no_read no_write 
     let told = g.S.Sources.contents c.args.src.now file in
     let old = g.O.Sink.contents c.args.out.now in
     let new = g.O.Sink.contents c.front.new.out in
-    completes RunsTo old new bytes plan told
+    completes_report old new bytes plan told
     (ReadFailed (g.S.Sources.open_faults c.args.src.now file) (g.S.Sources.open_faults c.front.new.src file) (g.S.Sources.read_faults c.args.src.now) (g.S.Sources.read_faults c.front.new.src))
     (Rose (g.O.Sink.faults c.args.out.now) (g.O.Sink.faults c.front.new.out)) ⊥
-    c.one_reading.ensures c.in-Ended.status
-    (front_comes RunsTo told old new c.in-Ended.status (c.in-Ended.ensures.run file asks) (c.in-Ended.ensures.unwritten (λ other step. no_step (map string_bytes c.args.words.now) file other asks step)).0)
+    RunsTo c.one_reading.ensures c.in-Ended.status
+    (front_comes RunsTo told old new c.in-Ended.status (c.in-Ended.ensures.run file asks) (c.in-Ended.ensures.unwritten (λ mode other also. same_mode (map string_bytes c.args.words.now) modes.Run mode file other asks also)).0)
     is reads
     (λ e. c.in-Ended.ensures.cannot_read modes.Run file asks (ap (λ (s : Status). fronts.Ended s) e))
     (λ e. c.in-Ended.ensures.cannot_write (ap (λ (s : Status). fronts.Ended s) e))
@@ -112,12 +115,13 @@ returns-in-Ended-clause-refused g c mode file bytes asks is none no_read =
     let old = g.O.Sink.contents c.args.out.now in
     let new = g.O.Sink.contents c.front.new.out in
     let Read = ReadFailed (g.S.Sources.open_faults c.args.src.now file) (g.S.Sources.open_faults c.front.new.src file) (g.S.Sources.read_faults c.args.src.now) (g.S.Sources.read_faults c.front.new.src) in
-    by_mode words file mode asks
-    (λ step. refuses StepsTo told old new bytes Read c.in-Ended.status (step_comes StepsTo old new told c.in-Ended.status (c.in-Ended.ensures.step file step)) is none
-    (λ e. c.in-Ended.ensures.cannot_read modes.Step file step (ap (λ (s : Status). fronts.Ended s) e)) no_read)
-    (λ run. refuses RunsTo told old new bytes Read c.in-Ended.status
-    (front_comes RunsTo told old new c.in-Ended.status (c.in-Ended.ensures.run file run) (c.in-Ended.ensures.unwritten (λ other step. no_step words file other run step)).0) is none
+    by_threads words mode file asks
+    (λ run is_run. refuses_by modes.Run told old new bytes Read c.in-Ended.status
+    (front_comes RunsTo told old new c.in-Ended.status (c.in-Ended.ensures.run file run) (c.in-Ended.ensures.unwritten (λ other name also. same_mode words modes.Run other file name run also)).0) is
+    (subst (λ (m : Mode). (p : Plan) → ReadsIn (dialect_of m) bytes p → ⊥) is_run none)
     (λ e. c.in-Ended.ensures.cannot_read modes.Run file run (ap (λ (s : Status). fronts.Ended s) e)) no_read)
+    (λ other. refuses_by mode told old new bytes Read c.in-Ended.status (mode_comes mode told old new c.in-Ended.status (c.in-Ended.ensures.one_thread mode file asks other)) is none
+    (λ e. c.in-Ended.ensures.cannot_read mode file asks (ap (λ (s : Status). fronts.Ended s) e)) no_read)
 
 pub returns-in-Ok-clause-make : goal.returns-in-Ok-clause-make
 returns-in-Ok-clause-make g c seed asks = absurd (run_unmade c.in-Run.workload seed (c.in-Run.ensures.make seed asks))
@@ -132,9 +136,9 @@ returns-in-Ok-clause-runs g c file bytes plan asks is reads no_read no_write no_
     let mid = g.O.Sink.contents c.front.new.out in
     let new = g.O.Sink.contents c.run_by_threads.new.out in
     let comes = ended_run RunsTo told old mid new c.in-Run.workload c.in-Ok.ending c.say_run.result c.say_run.ensures.status (is_read told c.in-Run.workload (c.in-Run.ensures.run file asks))
-    (c.in-Run.ensures.unwritten (λ other step. no_step (map string_bytes c.args.words.now) file other asks step)).0
+    (c.in-Run.ensures.unwritten (λ mode other also. same_mode (map string_bytes c.args.words.now) modes.Run mode file other asks also)).0
     (ends_by_record c.in-Run.workload mid new (g.P.Spawner.ran c.args.spawner.now) (g.P.Spawner.ran c.run_by_threads.new.spawner) c.in-Ok.ending c.in-Ok.ensures.ran) in
-    completes RunsTo old new bytes plan told ⊥ ⊥ ⊥ c.one_reading.ensures c.say_run.result comes is reads
+    completes_report old new bytes plan told ⊥ ⊥ ⊥ RunsTo c.one_reading.ensures c.say_run.result comes is reads
     (λ e. ended_no_unread c.in-Ok.ending unreads.CannotRead (sym c.say_run.ensures.status ∙ e))
     (λ e. ended_no_failed c.in-Ok.ending faults.CannotWrite (sym c.say_run.ensures.status ∙ e))
     (λ e. ended_no_failed c.in-Ok.ending faults.CannotStart (sym c.say_run.ensures.status ∙ e))
@@ -146,9 +150,9 @@ returns-in-Ok-clause-whole g c mode file asks all = c.in-Run.ensures.whole mode 
 pub returns-in-Ok-clause-refused : goal.returns-in-Ok-clause-refused
 returns-in-Ok-clause-refused g c mode file bytes asks is none no_read =
     let plan = c.in-Run.workload in
-    absurd (by_mode (map string_bytes c.args.words.now) file mode asks
-    (λ step. let ended = c.in-Run.ensures.step file step in run_no_ended plan ended.0 ended.1)
-    (λ run. run_is_read (g.S.Sources.contents c.args.src.now file) bytes plan (c.in-Run.ensures.run file run) is none))
+    absurd (by_threads (map string_bytes c.args.words.now) mode file asks
+    (λ run is_run. run_is_read (g.S.Sources.contents c.args.src.now file) bytes plan (c.in-Run.ensures.run file run) is (subst (λ (m : Mode). (p : Plan) → ReadsIn (dialect_of m) bytes p → ⊥) is_run none))
+    (λ other. let ended = c.in-Run.ensures.one_thread mode file asks other in run_no_ended plan ended.0 ended.1))
 
 pub returns-in-Run-clause-whole : goal.returns-in-Run-clause-whole
 returns-in-Run-clause-whole g c mode file asks all = c.in-Run.ensures.whole mode file asks tt
@@ -156,9 +160,9 @@ returns-in-Run-clause-whole g c mode file asks all = c.in-Run.ensures.whole mode
 pub returns-in-Run-clause-refused : goal.returns-in-Run-clause-refused
 returns-in-Run-clause-refused g c mode file bytes asks is none no_read =
     let plan = c.in-Run.workload in
-    absurd (by_mode (map string_bytes c.args.words.now) file mode asks
-    (λ step. let ended = c.in-Run.ensures.step file step in run_no_ended plan ended.0 ended.1)
-    (λ run. run_is_read (g.S.Sources.contents c.args.src.now file) bytes plan (c.in-Run.ensures.run file run) is none))
+    absurd (by_threads (map string_bytes c.args.words.now) mode file asks
+    (λ run is_run. run_is_read (g.S.Sources.contents c.args.src.now file) bytes plan (c.in-Run.ensures.run file run) is (subst (λ (m : Mode). (p : Plan) → ReadsIn (dialect_of m) bytes p → ⊥) is_run none))
+    (λ other. let ended = c.in-Run.ensures.one_thread mode file asks other in run_no_ended plan ended.0 ended.1))
 
 pub returns-in-Run-clause-runs : goal.returns-in-Run-clause-runs
 returns-in-Run-clause-runs g c file bytes plan asks is reads no_read no_write no_start =
@@ -166,12 +170,12 @@ returns-in-Run-clause-runs g c file bytes plan asks is reads no_read no_write no
     let old = g.O.Sink.contents c.args.out.now in
     let mid = g.O.Sink.contents c.front.new.out in
     let new = g.O.Sink.contents c.run_by_threads.new.out in
-    let silent = c.in-Run.ensures.unwritten (λ other step. no_step (map string_bytes c.args.words.now) file other asks step) in
+    let silent = c.in-Run.ensures.unwritten (λ mode other also. same_mode (map string_bytes c.args.words.now) modes.Run mode file other asks also) in
     let status = sym c.say_run-in-Err.ensures.status in
     let comes = failed_run RunsTo told old mid new c.in-Run.workload c.in-Err.fault c.say_run-in-Err.result c.say_run-in-Err.ensures.status (is_read told c.in-Run.workload (c.in-Run.ensures.run file asks)) silent.0
     (fails_by_record c.in-Run.workload mid new (g.P.Spawner.ran c.args.spawner.now) (g.P.Spawner.ran c.run_by_threads.new.spawner) c.in-Err.fault c.in-Err.ensures.ran) in
-    completes RunsTo old new bytes plan told ⊥ (Rose (g.O.Sink.faults c.args.out.now) (g.O.Sink.faults c.run_by_threads.new.out)) (Rose (g.P.Spawner.faults c.args.spawner.now) (g.P.Spawner.faults c.run_by_threads.new.spawner))
-    c.one_reading.ensures c.say_run-in-Err.result comes is reads
+    completes_report old new bytes plan told ⊥ (Rose (g.O.Sink.faults c.args.out.now) (g.O.Sink.faults c.run_by_threads.new.out)) (Rose (g.P.Spawner.faults c.args.spawner.now) (g.P.Spawner.faults c.run_by_threads.new.spawner))
+    RunsTo c.one_reading.ensures c.say_run-in-Err.result comes is reads
     (λ e. failed_no_unread c.in-Err.fault unreads.CannotRead (status ∙ e))
     (λ e. subst (λ (n : ℕ). Rose n (g.O.Sink.faults c.run_by_threads.new.out)) silent.1 (c.in-Err.ensures.cannot_write (ap err_of (same_fault c.in-Err.fault faults.CannotWrite (status ∙ e)))))
     (λ e. c.in-Err.ensures.cannot_start (ap err_of (same_fault c.in-Err.fault faults.CannotStart (status ∙ e))))
@@ -187,7 +191,7 @@ returns-in-Run-clause-cannot_start g c is =
     let fault = same_fault c.in-Err.fault faults.CannotStart (sym c.say_run-in-Err.ensures.status ∙ is) in (
       c.in-Err.ensures.cannot_start (ap err_of fault),
       inl (asks_run words (asking words)
-          (λ file step. let ended = c.in-Run.ensures.step file step in run_no_ended plan ended.0 ended.1)
+          (λ mode file asks other. let ended = c.in-Run.ensures.one_thread mode file asks other in run_no_ended plan ended.0 ended.1)
           (λ seed make. run_unmade plan seed (c.in-Run.ensures.make seed make))
           (λ refused. run_taken plan (c.in-Run.ensures.refused refused))),
     )
@@ -227,3 +231,25 @@ returns-clause-cannot_start g c is = (c.make.ensures.cannot_start is, inr (c.in-
 
 pub returns-clause-whole : goal.returns-clause-whole
 returns-clause-whole g c mode file asks all = absurd (not_both (map string_bytes c.args.words.now) c.in-Make.seed mode file (c.in-Make.ensures.made c.in-Make.seed refl) asks)
+
+pub returns-in-Ended-clause-step : goal.returns-in-Ended-clause-step
+returns-in-Ended-clause-step g c file asks =
+    mode_comes modes.Step (g.S.Sources.contents c.args.src.now file) (g.O.Sink.contents c.args.out.now) (g.O.Sink.contents c.front.new.out) c.in-Ended.status (c.in-Ended.ensures.one_thread modes.Step file asks (λ e. cc))
+
+pub returns-in-Ended-clause-race : goal.returns-in-Ended-clause-race
+returns-in-Ended-clause-race g c file asks =
+    mode_comes modes.Race (g.S.Sources.contents c.args.src.now file) (g.O.Sink.contents c.args.out.now) (g.O.Sink.contents c.front.new.out) c.in-Ended.status (c.in-Ended.ensures.one_thread modes.Race file asks (λ e. cc))
+
+pub returns-in-Ended-clause-races : goal.returns-in-Ended-clause-races
+returns-in-Ended-clause-races g c file bytes plan asks is reads no_read no_write =
+    let told = g.S.Sources.contents c.args.src.now file in
+    let old = g.O.Sink.contents c.args.out.now in
+    let new = g.O.Sink.contents c.front.new.out in
+    completes_races old new bytes plan told
+    (ReadFailed (g.S.Sources.open_faults c.args.src.now file) (g.S.Sources.open_faults c.front.new.src file) (g.S.Sources.read_faults c.args.src.now) (g.S.Sources.read_faults c.front.new.src))
+    (Rose (g.O.Sink.faults c.args.out.now) (g.O.Sink.faults c.front.new.out)) ⊥
+    c.race_texts_are_read_or_refused.ensures.one c.in-Ended.status (mode_comes modes.Race told old new c.in-Ended.status (c.in-Ended.ensures.one_thread modes.Race file asks (λ e. cc))) is reads
+    (λ e. c.in-Ended.ensures.cannot_read modes.Race file asks (ap (λ (s : Status). fronts.Ended s) e))
+    (λ e. c.in-Ended.ensures.cannot_write (ap (λ (s : Status). fronts.Ended s) e))
+    (λ e. c.in-Ended.ensures.started (ap (λ (s : Status). fronts.Ended s) e))
+    no_read no_write (λ e. e)

@@ -15,6 +15,10 @@ pub returns-clause-step : goal.returns-clause-step
 returns-clause-step c program file plain =
     ap (λ (found : Option (Subcommand × List ℕ)). option_and_then file_of found) (c.a_subcommand_with_its_argument_is_taken.ensures program (codes "step") file subcommands.Step refl plain)
 
+pub returns-clause-race : goal.returns-clause-race
+returns-clause-race c program file plain =
+    ap (λ (found : Option (Subcommand × List ℕ)). option_and_then file_of found) (c.a_subcommand_with_its_argument_is_taken.ensures program (codes "race") file subcommands.Race refl plain)
+
 pub returns-clause-make : goal.returns-clause-make
 returns-clause-make c program seed small = (
   decimal seed,

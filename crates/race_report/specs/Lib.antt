@@ -1,0 +1,2 @@
+pub mod RaceText
+pub mod Variables

@@ -1,0 +1,6 @@
+//! The races of a run by schedule, told behind its report.
+#![tactic(auto)]
+
+pub mod laws;
+pub mod report;
+pub mod variables;
