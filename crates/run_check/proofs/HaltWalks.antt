@@ -1,6 +1,6 @@
 -- Going along lists and journals for their halts.
-use Rattle.std.proofs.Common.{◌≡◌, ◌≢◌, ◌↔◌, ℕ, zero, suc, ◌+◌, ◌<◌, ◌≤◌, Bool, true, false, ◌&&◌, List, [], ◌∷◌, length, take, drop, get_or, slice_get, Option, Some, None, refl, sym, ap, ◌∙◌, subst, add-one, arith}
-use Rattle.std.specs.Prelude.{All, not}
+use Rattle.std.proofs.Common.{◌≡◌, ◌≢◌, ◌↔◌, ℕ, zero, suc, ◌+◌, ◌<◌, ◌≤◌, Bool, true, false, ◌&&◌, List, [], ◌∷◌, length, take, drop, get_or, slice_get, Some, None, refl, sym, ap, ◌∙◌, subst, add-one, arith}
+use Rattle.std.specs.Prelude.{not}
 use Rattle.std.proofs.Math.Seq.{drop-cons}
 use Rattle.std.proofs.lemmas.List.Elements.{All-cons, All-head, All-nil, All-tail}
 use Rattle.sync_model.specs.declared.journal.Deed.{Deed}
@@ -16,7 +16,7 @@ use Rattle.list_checks.specs.declared.spell.line.Ending.{Ending}
 use Rattle.list_checks.specs.declared.spell.line.Ending.TheVariants.{Whole, Misused, Halted, Unfinished, Never, Stopped, Waits}
 use Rattle.list_checks.specs.SpellLines.{line_end}
 use Rattle.object_checks.specs.declared.journals.row.Row.{Row}
-use Rattle.object_checks.specs.JournalItems.{entries_in_row, entry_in}
+use Rattle.object_checks.specs.JournalItems.{entries_in_row}
 use Rattle.record_clauses.specs.Lists.{is_halt}
 use Rattle.run_check.specs.Found.{are_no_halts, begins_with_halt}
 

@@ -1,10 +1,8 @@
 -- Where halts stand in lists.
-use Rattle.std.proofs.Common.{◌≡◌, ◌↔◌, ℕ, zero, suc, ◌+◌, ◌<◌, ◌≤◌, Bool, true, false, ◌&&◌, cond, List, [], ◌∷◌, ◌++◌, map, length, take, drop, slice_get, Option, Some, None, refl, sym, ap, ◌∙◌, subst, append_assoc, arith}
+use Rattle.std.proofs.Common.{◌≡◌, ℕ, zero, suc, Bool, true, false, ◌&&◌, cond, List, [], ◌∷◌, ◌++◌, map, take, drop, slice_get, Option, Some, None, refl, sym, ap, ◌∙◌, subst, append_assoc}
 use Rattle.std.specs.Prelude.{All, not}
-use Rattle.std.specs.List.{list_all}
 use Rattle.std.proofs.lemmas.Bool.{false≢true}
 use Rattle.std.proofs.lemmas.List.Elements.{All-head, All-tail}
-use Rattle.sync_model.specs.declared.journal.Deed.TheVariants.{Halt}
 use Rattle.sync_model.specs.Journal.{halt_of}
 use Rattle.sync_types.specs.declared.misuse.Misuse.{Misuse}
 use Rattle.run_record.specs.declared.made.Made.{Made}
@@ -16,7 +14,7 @@ use Rattle.list_checks.specs.declared.spell.line.SpeltLine.{SpeltLine}
 use Rattle.list_checks.specs.SpellLines.{line_end}
 use Rattle.run_record.specs.Record.{ObjectEntry, journal_of, stop}
 use Rattle.record_clauses.specs.Account.{Account, Claim, made_in, record_of}
-use Rattle.record_clauses.specs.Clauses.{HasHalts, IsStoppedBy}
+use Rattle.record_clauses.specs.Clauses.{IsStoppedBy}
 use Rattle.record_clauses.specs.Lists.{before_halts, halts, is_halt, without_halts}
 use Rattle.run_check.proofs.Endings.{all_of_found, endings, found_endings, found_of_all, head_of, tail_of}
 use Rattle.run_check.specs.Found.{AllHaltsBehind, AreFound, HaltsBehind, IsStoppedSo, StopHolds, are_no_halts, begins_with_halt}
@@ -96,7 +94,7 @@ only_halts (y ∷ ys) later begins e = by (without_halts ys) (none_left ys) (e �
 pub behind_back : (n : ℕ) (list : List Made) (ending : LineEnd) → are_no_halts (take n list) ≡ true → begins_with_halt (drop n list) ≡ true → HaltsBehind list ending → AreHalts ending (drop n list)
 behind_back n list ending none begins (later, is, are) =
     let whole_is : take n list ++ drop n list ≡ take n list ++ (without_halts (drop n list) ++ later) =
-        split n list ∙ is ∙ ap (λ xs. xs ++ later) (parts_without n list none) ∙ append_assoc (take n list) (without_halts (drop n list)) later in
+    split n list ∙ is ∙ ap (λ xs. xs ++ later) (parts_without n list none) ∙ append_assoc (take n list) (without_halts (drop n list)) later in
     subst (AreHalts ending) (sym (only_halts (drop n list) later begins (same_behind (take n list) (drop n list) (without_halts (drop n list) ++ later) whole_is))) are
 
 -- ---- all lists
@@ -106,7 +104,7 @@ items_split : (line : Line) → items_of line ≡ items_of (before_halts line) +
 items_split line =
     let made = flat_map (λ (s : SpeltCall). s.items) line.spelt in
     let tail_is : made ++ (line.last ++ line.halts) ≡ (made ++ (line.last ++ [])) ++ line.halts =
-        sym (append_assoc made line.last line.halts) ∙ ap (λ xs. (made ++ xs) ++ line.halts) (sym (nothing_behind line.last)) in
+    sym (append_assoc made line.last line.halts) ∙ ap (λ xs. (made ++ xs) ++ line.halts) (sym (nothing_behind line.last)) in
     ap (λ xs. line.first ++ xs) tail_is ∙ sym (append_assoc line.first (made ++ (line.last ++ [])) line.halts)
 
 with_halts : Line → List Made → Line
@@ -135,13 +133,15 @@ fuller (line ∷ old) (list ∷ lists) (f ∷ found) ends are behind =
     let (new, rest) = fuller old lists found (tail_of line.ending (line_end f.ending) _ _ ends) (tail_of (items_of (before_halts line)) (without_halts list) _ _ are) (λ worker l g at_l at_g. behind (suc worker) l g at_l at_g) in
     let this : Line = record line { halts = later } in
     let items_are : items_of this ≡ list = items_split this ∙ ap (λ xs. xs ++ later) (head_of (items_of (before_halts line)) (without_halts list) _ _ are) ∙ sym is in
-    let ending_is : line.ending ≡ line_end f.ending = head_of line.ending (line_end f.ending) _ _ ends in
-    (this ∷ new, record {
-      before = ap (λ ls. before_halts line ∷ ls) rest.before;
-      items = ap (λ xs. xs ∷ map items_of new) items_are ∙ ap (λ ls. list ∷ ls) rest.items;
-      halts = at this new (subst (λ e. AreHalts e later) (sym ending_is) halts_are) rest.halts;
-      same = ap (λ es. line.ending ∷ es) rest.same;
-    })
+    let ending_is : line.ending ≡ line_end f.ending = head_of line.ending (line_end f.ending) _ _ ends in (
+      this ∷ new,
+      record {
+        before = ap (λ ls. before_halts line ∷ ls) rest.before;
+        items = ap (λ xs. xs ∷ map items_of new) items_are ∙ ap (λ ls. list ∷ ls) rest.items;
+        halts = at this new (subst (λ e. AreHalts e later) (sym ending_is) halts_are) rest.halts;
+        same = ap (λ es. line.ending ∷ es) rest.same;
+      },
+    )
   where
     at : (this : Line) (new : List Line) → AreHalts this.ending this.halts → ((worker : ℕ) (line : Line) → slice_get new worker ≡ Some line → AreHalts line.ending line.halts) → (worker : ℕ) (line : Line) → slice_get (this ∷ new) worker ≡ Some line → AreHalts line.ending line.halts
     at this new first rest zero line there = subst (λ (l : Line). AreHalts l.ending l.halts) (same_some this line there) first
@@ -170,7 +170,7 @@ ends_before [] = refl
 ends_before (l ∷ lines) = ap (λ es. l.ending ∷ es) (ends_before lines)
 
 module _ (claim : Claim) (account : Account) (lists : List (List Made)) (found : List SpeltLine) (stops : List ObjectEntry) (made : map made_in claim.lists ≡ lists) (ends : AreFound found account)
-  (are : map items_of (map before_halts account.lines) ≡ map without_halts lists) (journal : journal_of (record_of claim account) stop ≡ stops) where
+    (are : map items_of (map before_halts account.lines) ≡ map without_halts lists) (journal : journal_of (record_of claim account) stop ≡ stops) where
   stopped_by : (lines : List Line) → endings lines ≡ found_endings found → (by : Option Misuse) → IsStoppedSo found (halt_of stops) by → IsStoppedBy claim (record account { lines = lines }) by
   stopped_by lines same None is = tt
   stopped_by lines same (Some misuse) is = (all_of_found HasEnded lines found same is.0, ap halt_of journal ∙ is.1)

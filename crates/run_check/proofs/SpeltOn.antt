@@ -1,7 +1,6 @@
 -- What is spelt of a claim is on objects that are there; and what a claim that a text tells comes to is of the text.
-use Rattle.std.proofs.Common.{◌≡◌, ℕ, zero, suc, Bool, true, false, cond, List, [], ◌∷◌, map, get_or, slice_get, Option, Some, None, refl, sym, ap, ◌∙◌, subst}
+use Rattle.std.proofs.Common.{◌≡◌, ℕ, zero, suc, Bool, true, false, cond, List, [], ◌∷◌, map, get_or, slice_get, Option, Some, refl, sym, ap, ◌∙◌, subst}
 use Rattle.script_calls.specs.declared.outcome.Report.{Report}
-use Rattle.script_calls.specs.Runs.{RunsAlong}
 use Rattle.sync_model.specs.declared.item.Item.{Item}
 use Rattle.sync_types.specs.declared.misuse.Misuse.{Misuse}
 use Rattle.workload.specs.Plan.{Plan}
@@ -13,11 +12,11 @@ use Rattle.run_record.specs.Lines.{Line, items_of}
 use Rattle.run_record.specs.Objects.{contents_of}
 use Rattle.run_record.specs.Record.{Record, calls_of, shared_in}
 use Rattle.run_report.specs.ReportText.{report_text}
-use Rattle.shared_checks.specs.Placing.{AreOn, IsOn}
+use Rattle.shared_checks.specs.Placing.{AreOn}
 use Rattle.record_text.specs.Told.{Told, joined}
 use Rattle.record_clauses.specs.Account.{Account, Claim, made_in, outcome_by, record_of}
 use Rattle.record_clauses.specs.Clauses.{IsSpelt}
-use Rattle.record_clauses.specs.Lists.{before_halts, halts, is_halt, without_halts}
+use Rattle.record_clauses.specs.Lists.{before_halts, halts, without_halts}
 use Rattle.run_check.specs.Tells.{Tells}
 use Rattle.run_check.proofs.OnObjects.{spelt_is_on}
 

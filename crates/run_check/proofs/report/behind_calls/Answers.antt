@@ -1,4 +1,4 @@
-use Rattle.std.proofs.Common.{◌≡◌, ℕ, ◌+◌, List, ◌++◌, refl, sym, ap, ◌∙◌, arith}
+use Rattle.std.proofs.Common.{◌≡◌, ◌+◌, ◌++◌, refl, sym, ap, ◌∙◌, arith}
 use Rattle.script_calls.specs.Runs.{passed_over}
 use Rattle.run_report.specs.ReportText.{calls_text}
 use Rattle.run_check.proofs.ReportRest.{calls_next, goes_on, goes_wrong}

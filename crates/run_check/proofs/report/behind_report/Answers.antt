@@ -1,4 +1,4 @@
-use Rattle.std.proofs.Common.{◌≡◌, ◌++◌, ap, ◌∙◌, subst}
+use Rattle.std.proofs.Common.{◌++◌, ap, ◌∙◌, subst}
 use Rattle.run_report.specs.ReportText.{ends_text, workers_text}
 use Rattle.run_check.specs.Rest.{IsRest}
 use Rattle.run_check.proofs.ReportRest.{rest_after}
