@@ -398,7 +398,7 @@ fn found_in(alloc: Global, text: &RecordText<'_>, worker: u32) -> Result<Found, 
     }
 }
 
-fn found(alloc: Global, row: Row) -> Result<Found, AllocError> {
+fn find(alloc: Global, row: Row) -> Result<Found, AllocError> {
     let (workload, worker, items, _) = row;
     let text = text_of(alloc, workload, items)?;
     match read_record(alloc, &text) {
@@ -411,7 +411,7 @@ fn found(alloc: Global, row: Row) -> Result<Found, AllocError> {
 fn lists_on_locks_are_spelt(rt: HostRuntime) -> Result<(), Fail> {
     for &row in &LOCKS {
         let items = row.2;
-        let is = found(rt.alloc(), row)?;
+        let is = find(rt.alloc(), row)?;
         assert!(rt; is == row.3, "at {items:?}: {is:?}");
     }
     Ok(())
@@ -421,7 +421,7 @@ fn lists_on_locks_are_spelt(rt: HostRuntime) -> Result<(), Fail> {
 fn lists_on_what_is_waited_for_are_spelt(rt: HostRuntime) -> Result<(), Fail> {
     for &row in &WAITS {
         let items = row.2;
-        let is = found(rt.alloc(), row)?;
+        let is = find(rt.alloc(), row)?;
         assert!(rt; is == row.3, "at {items:?}: {is:?}");
     }
     Ok(())
@@ -431,7 +431,7 @@ fn lists_on_what_is_waited_for_are_spelt(rt: HostRuntime) -> Result<(), Fail> {
 fn lists_on_other_objects_are_spelt(rt: HostRuntime) -> Result<(), Fail> {
     for &row in &OTHERS {
         let items = row.2;
-        let is = found(rt.alloc(), row)?;
+        let is = find(rt.alloc(), row)?;
         assert!(rt; is == row.3, "at {items:?}: {is:?}");
     }
     Ok(())

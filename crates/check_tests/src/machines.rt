@@ -223,6 +223,9 @@ fn found_in(alloc: Global, text: &RecordText<'_>) -> Result<Found, AllocError> {
     let Some(lists) = entry_lists(alloc, &text.workload, text.items.as_slice())? else {
         return Ok(Found::Unread);
     };
+    if lists.len() > 64 {
+        return Ok(Found::Unread);
+    }
     let Some(journals) = journals_of(alloc, &lists, object_count(&text.workload))? else {
         return Ok(Found::NoJournals);
     };
@@ -238,7 +241,7 @@ fn found_in(alloc: Global, text: &RecordText<'_>) -> Result<Found, AllocError> {
     Ok(Found::Lawful)
 }
 
-fn found(alloc: Global, items: &[u8]) -> Result<Found, AllocError> {
+fn find(alloc: Global, items: &[u8]) -> Result<Found, AllocError> {
     let text = text_of(alloc, WORKLOAD, items)?;
     match read_record(alloc, &text) {
         Err(_) => Ok(Found::Unread),
@@ -250,7 +253,7 @@ fn found(alloc: Global, items: &[u8]) -> Result<Found, AllocError> {
 fn journals_of_locks_are_judged(rt: HostRuntime) -> Result<(), Fail> {
     for &row in &LOCKS {
         let items = row.0;
-        let is = found(rt.alloc(), items)?;
+        let is = find(rt.alloc(), items)?;
         assert!(rt; is == row.1, "at {items:?}: {is:?}");
     }
     Ok(())
@@ -260,7 +263,7 @@ fn journals_of_locks_are_judged(rt: HostRuntime) -> Result<(), Fail> {
 fn journals_of_what_is_waited_for_are_judged(rt: HostRuntime) -> Result<(), Fail> {
     for &row in &WAITS {
         let items = row.0;
-        let is = found(rt.alloc(), items)?;
+        let is = find(rt.alloc(), items)?;
         assert!(rt; is == row.1, "at {items:?}: {is:?}");
     }
     Ok(())

@@ -106,12 +106,16 @@ fn map_reply(call: &MapCall<u32>, reply: PlacedReply) -> Option<MapReply> {
 }
 
 fn atomic_reply(kind: AtomicKind, call: AtomicCall, reply: PlacedReply) -> Option<AtomicReply> {
-    match (call, reply) {
-        (AtomicCall::Store { .. }, PlacedReply::Done) => Some(AtomicReply::Done),
-        (AtomicCall::CompareAndSwap { .. }, PlacedReply::Truth(is_old)) => {
-            Some(AtomicReply::Compared(is_old))
-        }
-        (_, PlacedReply::Number(number)) => Some(AtomicReply::Held(number_of(kind, number)?)),
+    match reply {
+        PlacedReply::Done => match call {
+            AtomicCall::Store { .. } => Some(AtomicReply::Done),
+            _ => None,
+        },
+        PlacedReply::Truth(is_old) => match call {
+            AtomicCall::CompareAndSwap { .. } => Some(AtomicReply::Compared(is_old)),
+            _ => None,
+        },
+        PlacedReply::Number(number) => Some(AtomicReply::Held(number_of(kind, number)?)),
         _ => None,
     }
 }
