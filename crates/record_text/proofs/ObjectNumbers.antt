@@ -79,9 +79,9 @@ part_at workers zero part (first ∷ objects) object at pool below =
     let same : first ≡ object = cc in
     ap (slice_get (flat_map (named_parts workers) (first ∷ objects))) (let start : 0 * workers + part ≡ part = omega arith in start)
     ∙ get_left (named_parts workers first) (flat_map (named_parts workers) objects) part (named_part object part)
-        (ap (λ (o : ObjectLine). slice_get (named_parts workers o) part) same
-        ∙ ap (λ (k : ObjectKind). slice_get (map (named_part object) (range_with_len 0 (part_count workers k))) part) pool
-        ∙ get_map (named_part object) (range_with_len 0 workers) part part (get_range 0 workers part below ∙ ap (λ (k : ℕ). Some k) (let start : 0 + part ≡ part = omega arith in start)))
+    (ap (λ (o : ObjectLine). slice_get (named_parts workers o) part) same
+    ∙ ap (λ (k : ObjectKind). slice_get (map (named_part object) (range_with_len 0 (part_count workers k))) part) pool
+    ∙ get_map (named_part object) (range_with_len 0 workers) part part (get_range 0 workers part below ∙ ap (λ (k : ℕ). Some k) (let start : 0 + part ≡ part = omega arith in start)))
 part_at workers (suc place) part (first ∷ objects) object at pool below =
     let count = ap (λ (n : ℕ). n * workers) (pools_cons first (take place objects)) ∙ times (cond (is_pool first.kind) 1 0) (pools_in (take place objects)) workers in
     let length_is = part_length workers first in

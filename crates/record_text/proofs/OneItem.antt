@@ -165,9 +165,9 @@ pub same_pair : (keys : List (List ℕ)) (p q : ℕ × ℕ) → AreNumbered keys
 same_pair keys (k, v) (l, w) numbered fits other e =
     let end = same_name keys (k, v) (l, w) fits other e in
     let name : key_name keys k ≡ key_name keys l =
-        sym (take_name (key_name keys k) (decimal v)) ∙ ap (take (length (key_name keys k))) e ∙ ap (λ (n : ℕ). take n (pair_text keys (l, w))) end ∙ take_name (key_name keys l) (decimal w) in
+    sym (take_name (key_name keys k) (decimal v)) ∙ ap (take (length (key_name keys k))) e ∙ ap (λ (n : ℕ). take n (pair_text keys (l, w))) end ∙ take_name (key_name keys l) (decimal w) in
     let value : decimal v ≡ decimal w =
-        sym (drop_name (key_name keys k) (decimal v)) ∙ ap (drop (suc (length (key_name keys k)))) e ∙ ap (λ (n : ℕ). drop (suc n) (pair_text keys (l, w))) end ∙ drop_name (key_name keys l) (decimal w) in
+    sym (drop_name (key_name keys k) (decimal v)) ∙ ap (drop (suc (length (key_name keys k)))) e ∙ ap (λ (n : ℕ). drop (suc n) (pair_text keys (l, w))) end ∙ drop_name (key_name keys l) (decimal w) in
     let here = parts_of keys (k, v) fits in
     let there = parts_of keys (l, w) other in
     let key : k ≡ l = same_some k l (sym ((numbered (key_name keys k) k).1 (at keys k here.0)) ∙ ap (number_in keys) name ∙ (numbered (key_name keys l) l).1 (at keys l there.0)) in
@@ -266,7 +266,7 @@ same_words plan item other plain fits fit e =
     let in_there = both (is_front plan.workers other.front) (is_said plan other.said) there.1 in
     let words = third (said_word item.said) (decimal item.worker) (index_word item.index) (said_word other.said) (decimal other.worker) (index_word other.index) _ _ e in
     let behind = two_behind (decimal item.worker) (index_word item.index) (decimal other.worker) (index_word other.index) (said_words plan (front_word item.front) item.said) (said_words plan (front_word other.front) other.said)
-        (tail (said_word item.said) (said_word other.said) _ _ e) in
+    (tail (said_word item.said) (said_word other.said) _ _ e) in
     let worker = decimal_injective item.worker other.worker (worker_below item.worker plan.workers plain.few at_here.0) (worker_below other.worker plan.workers plain.few at_there.0) words.1 in
     same_parts item other worker
     (same_index (length (get_or plan.scripts item.worker [])) item.index other.index (plain.short item.worker) at_here.1 (subst (λ (w : ℕ). is_index (length (get_or plan.scripts w [])) other.index ≡ true) (sym worker) at_there.1) words.2)

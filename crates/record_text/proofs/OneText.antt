@@ -132,7 +132,7 @@ same_told one plain bytes told other is also =
     let says = is.says in
     let says_also = also.says in
     let behind = same_behind other.plan says.items says_also.items told.items other.items told.misused other.misused told.report other.report (plain (joined also.before) other.plan also.workload)
-        (subst (λ (p : Plan). AreItemLines p says.items told.items) plan says.each) says_also.each (sym says.are ∙ split.1 ∙ says_also.are) in
+    (subst (λ (p : Plan). AreItemLines p says.items told.items) plan says.each) says_also.each (sym says.are ∙ split.1 ∙ says_also.are) in
     same_fields told other plan behind.0 behind.1 behind.2
 
 -- ---- refusals

@@ -15,7 +15,9 @@ use crate::event::JournalKind;
 use crate::fault::CheckReason;
 use crate::item_line::ItemLine;
 use crate::limits::{MAX_ITEMS, MAX_RECORD, MAX_RECORD_LINE};
-use workload::laws::{keys_are_numbered_by_first_appearance, one_reading, one_refusal, read_or_refused};
+use workload::laws::{
+    keys_are_numbered_by_first_appearance, one_reading, one_refusal, read_or_refused,
+};
 use workload::{ObjectKind, ObjectLine};
 
 /// The limits by their numbers, of which the definitions speak by name.

@@ -1,0 +1,13 @@
+//! Tests of the parts of a checker: hand-made lists of each kind of object, right and wrong. They are written as the texts of records.
+#![tactic(auto)]
+
+#[cfg(test)]
+mod deeds;
+#[cfg(test)]
+mod lists;
+#[cfg(test)]
+mod machines;
+#[cfg(test)]
+mod placed;
+#[cfg(test)]
+mod texts;
