@@ -23,12 +23,12 @@ use Rattle.race_clocks.specs.declared.race.Race.{Race}
 use Rattle.race_clocks.specs.Races.{access_by, IsRace, Pair, ArePairs, race_of, AreRaces}
 use Rattle.race_clocks.proofs.RaceLaws.{same_somes}
 
-all_at : {A : Type 0} (p : A → Bool) (xs : List A) (k : ℕ) (x : A) → list_all p xs ≡ true → slice_get xs k ≡ Some x → p x ≡ true
+pub all_at : {A : Type 0} (p : A → Bool) (xs : List A) (k : ℕ) (x : A) → list_all p xs ≡ true → slice_get xs k ≡ Some x → p x ≡ true
 all_at p [] k x all at = absurd (none-some x at)
 all_at p (y ∷ xs) zero x all at = ap p (sym (same_Some y x at)) ∙ (and_parts (p y) (list_all p xs) all).0
 all_at p (y ∷ xs) (suc k) x all at = all_at p xs k x (and_parts (p y) (list_all p xs) all).1 at
 
-all_or : {A : Type 0} (p : A → Bool) (xs : List A) (k : ℕ) (d : A) → list_all p xs ≡ true → p d ≡ true → p (get_or xs k d) ≡ true
+pub all_or : {A : Type 0} (p : A → Bool) (xs : List A) (k : ℕ) (d : A) → list_all p xs ≡ true → p d ≡ true → p (get_or xs k d) ≡ true
 all_or p [] k d all is = is
 all_or p (y ∷ xs) zero d all is = (and_parts (p y) (list_all p xs) all).0
 all_or p (y ∷ xs) (suc k) d all is = all_or p xs k d (and_parts (p y) (list_all p xs) all).1 is

@@ -2,7 +2,7 @@
 use Rattle.std.proofs.Common.{◌≡◌, ℕ, ◌+◌, ◌==◌, Bool, true, false, List, [], ◌∷◌, ◌++◌, length, Option, Some, None, slice_get, refl, sym, ap, ◌∙◌, append_assoc, arith}
 use Rattle.std.specs.Prelude.{cond}
 use Rattle.std.specs.List.{fold}
-use Rattle.std.proofs.lemmas.Bool.{false≢true, eq-eqb}
+use Rattle.std.proofs.lemmas.Bool.{false≢true, eq-eqb, eqb-true}
 use Rattle.std.proofs.lemmas.List.{append-nil}
 use Rattle.std.proofs.lemmas.Option.{none-some}
 use Rattle.pool_core.specs.PoolMachine.{PoolState, start, next}
@@ -106,20 +106,46 @@ unfolding got
 put_of puts (pool_replies.Item number) value e = record { number = number; takes = eq-eqb number number refl; item = sym (ap got e) }
 put_of puts reply value e = absurd (none-some value (sym (ap got e)))
 
-pub its_put : (plan : Plan) (place caller value : ℕ) (earlier : List Item) (event : PoolEvent ℕ) (answer : ObjectReply) → is_put event ≡ false → (next (kept_behind plan place earlier) caller event).1 ≡ pool_replies.Item value
-    → (number : ℕ) × (takes_put number (pool_behind plan place earlier) caller (deeds.Entered (events.Pool event) answer) ≡ true) × (slice_get (puts_into place earlier) number ≡ Some value)
-its_put plan place caller value earlier event answer looks is = by (put_of (puts_into place earlier) (pool_step told caller event).1 value (sym (ap (reply_with Some) is) ∙ ap (λ r. r.1) (both_step (puts_into place earlier) real told.pool told.count caller event same (look_alike (puts_into place earlier) told.count event looks)))) where
-  told : NumberedPool
-  told = pool_behind plan place earlier
-
-  real : PoolState ℕ
-  real = kept_behind plan place earlier
-
+pools_same : (plan : Plan) (place : ℕ) (earlier : List Item) → pool_with Some (kept_behind plan place earlier) ≡ pool_with (slice_get (puts_into place earlier)) (pool_behind plan place earlier).pool
+pools_same plan place earlier = still_same (puts_into place earlier) place earlier [] (record { pool = start plan.workers room; count = 0 }) (start plan.workers room) refl refl (started_empty Some plan.workers room ∙ sym (started_empty (slice_get (puts_into place earlier)) plan.workers room)) where
   room : ℕ
   room = puts_at place plan.scripts
 
-  same : pool_with Some real ≡ pool_with (slice_get (puts_into place earlier)) told.pool
-  same = still_same (puts_into place earlier) place earlier [] (record { pool = start plan.workers room; count = 0 }) (start plan.workers room) refl refl (started_empty Some plan.workers room ∙ sym (started_empty (slice_get (puts_into place earlier)) plan.workers room))
+pub its_put : (plan : Plan) (place caller value : ℕ) (earlier : List Item) (event : PoolEvent ℕ) (answer : ObjectReply) → is_put event ≡ false → (next (kept_behind plan place earlier) caller event).1 ≡ pool_replies.Item value
+    → (number : ℕ) × (takes_put number (pool_behind plan place earlier) caller (deeds.Entered (events.Pool event) answer) ≡ true) × (slice_get (puts_into place earlier) number ≡ Some value)
+its_put plan place caller value earlier event answer looks is = by (put_of (puts_into place earlier) (pool_step told caller event).1 value
+    (sym (ap (reply_with Some) is) ∙ ap (λ r. r.1) (both_step (puts_into place earlier) (kept_behind plan place earlier) told.pool told.count caller event (pools_same plan place earlier) (look_alike (puts_into place earlier) told.count event looks))))
+  where
+    told : NumberedPool
+    told = pool_behind plan place earlier
 
-  by : IsPutOf (puts_into place earlier) (pool_step told caller event).1 value → (number : ℕ) × (takes_put number told caller (deeds.Entered (events.Pool event) answer) ≡ true) × (slice_get (puts_into place earlier) number ≡ Some value)
-  by p = (p.number, p.takes, p.item)
+    by : IsPutOf (puts_into place earlier) (pool_step told caller event).1 value → (number : ℕ) × (takes_put number told caller (deeds.Entered (events.Pool event) answer) ≡ true) × (slice_get (puts_into place earlier) number ≡ Some value)
+    by p = (p.number, p.takes, p.item)
+
+-- and the other way round: a look that takes the put of a number is answered that put's item
+record IsAnswered (puts : List ℕ) (number : ℕ) (reply : PoolReply ℕ) : Type 0 where
+  value : ℕ
+  is : reply ≡ pool_replies.Item value
+  item : slice_get puts number ≡ Some value
+
+holds : PoolReply (Option ℕ) → Bool
+holds (pool_replies.Item o) = true
+holds reply = false
+
+answered_by : (puts : List ℕ) (number : ℕ) (reply : PoolReply ℕ) → reply_with Some reply ≡ pool_replies.Item (slice_get puts number) → IsAnswered puts number reply
+unfolding got holds
+answered_by puts number (pool_replies.Item value) e = record { value = value; is = refl; item = sym (ap got e) }
+answered_by puts number reply e = absurd (false≢true (ap holds e))
+
+numbered_by : (puts : List ℕ) (number : ℕ) (told : PoolReply ℕ) → is_item number told ≡ true → reply_with (slice_get puts) told ≡ pool_replies.Item (slice_get puts number)
+numbered_by puts number (pool_replies.Item n) e = ap (λ m. pool_replies.Item (slice_get puts m)) (eqb-true n number e)
+numbered_by puts number reply e = absurd (false≢true e)
+
+pub its_item : (plan : Plan) (place caller number : ℕ) (earlier : List Item) (event : PoolEvent ℕ) (answer : ObjectReply) → is_put event ≡ false → takes_put number (pool_behind plan place earlier) caller (deeds.Entered (events.Pool event) answer) ≡ true
+    → (value : ℕ) × ((next (kept_behind plan place earlier) caller event).1 ≡ pool_replies.Item value) × (slice_get (puts_into place earlier) number ≡ Some value)
+its_item plan place caller number earlier event answer looks takes = by (answered_by (puts_into place earlier) number (next (kept_behind plan place earlier) caller event).1 (
+    ap (λ r. r.1) (both_step (puts_into place earlier) (kept_behind plan place earlier) (pool_behind plan place earlier).pool (pool_behind plan place earlier).count caller event (pools_same plan place earlier) (look_alike (puts_into place earlier) (pool_behind plan place earlier).count event looks))
+    ∙ numbered_by (puts_into place earlier) number (pool_step (pool_behind plan place earlier) caller event).1 takes
+    )) where
+      by : IsAnswered (puts_into place earlier) number (next (kept_behind plan place earlier) caller event).1 → (value : ℕ) × ((next (kept_behind plan place earlier) caller event).1 ≡ pool_replies.Item value) × (slice_get (puts_into place earlier) number ≡ Some value)
+      by a = (a.value, a.is, a.item)

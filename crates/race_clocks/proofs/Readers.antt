@@ -20,7 +20,7 @@ module _ (plan : Plan) (earlier : List Item) (it : Item) (is : it.deed ≡ reade
   never : (a b : Bool) → b ≡ false → (a && b) ≡ true → (channel : Channel) → (lock : ℕ) × (channel ≡ ReaderUnlock lock)
   never a b not both channel = absurd (false≢true (sym not ∙ (and_parts a b both).1))
 
-  just_reader : (channel : Channel) → gives plan earlier it channel ≡ true → (lock : ℕ) × (channel ≡ ReaderUnlock lock)
+  pub just_reader : (channel : Channel) → gives plan earlier it channel ≡ true → (lock : ℕ) × (channel ≡ ReaderUnlock lock)
   just_reader (MutexUnlock o) e = never (it.object == o) (unlocks_mutex it.deed) (ap unlocks_mutex is) e (MutexUnlock o)
   just_reader (WriterUnlock o) e = never (it.object == o) (unlocks_as_writer it.deed) (ap unlocks_as_writer is) e (WriterUnlock o)
   just_reader (ReaderUnlock o) e = (o, refl)
@@ -43,7 +43,7 @@ not_writers : {call : Option Call} → IsReadersCall call → is_writers_call ca
 not_writers (r_lock place) = refl
 not_writers (try_r_lock place) = refl
 
-takes_none : (plan : Plan) (earlier : List Item) (turn : TraceItem) → IsReadersCall turn.call → (lock : ℕ) → takes_in plan earlier turn (ReaderUnlock lock) ≡ true → ⊥
+pub takes_none : (plan : Plan) (earlier : List Item) (turn : TraceItem) → IsReadersCall turn.call → (lock : ℕ) → takes_in plan earlier turn (ReaderUnlock lock) ≡ true → ⊥
 takes_none plan earlier turn call lock is = at_item (found (λ before it. takes plan before it turn.call (ReaderUnlock lock)) earlier turn.made is) where
   at_item : Found (λ before it. takes plan before it turn.call (ReaderUnlock lock)) earlier turn.made → ⊥
   at_item f = false≢true (sym (not_writers call) ∙ (and_parts ((f.it.object == lock) && locks_rw_mutex f.it.deed) (is_writers_call turn.call) f.passes).1)

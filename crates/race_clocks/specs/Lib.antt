@@ -1,3 +1,4 @@
+pub mod Agreement
 pub mod Channels
 pub mod Deeds
 pub mod HappensBefore
@@ -5,3 +6,8 @@ pub mod PoolItems
 pub mod Races
 pub mod Rows
 pub mod Seen
+pub mod Handing
+pub mod Numbering
+pub mod Passing
+pub mod Stepping
+pub mod Places

@@ -1,5 +1,5 @@
 -- The rows of the table of edges as the laws name them: by the very events and answers, and by the turns that make them.
-use Rattle.std.specs.Prelude.{◌≡◌, ℕ, ℤ, pos, ◌<◌, true, false, List, ◌∷◌, ◌++◌, Contains, Option, Some, slice_get}
+use Rattle.std.specs.Prelude.{◌≡◌, ◌⊎◌, ℕ, ℤ, pos, ◌<◌, true, false, List, [], ◌∷◌, ◌++◌, Contains, Option, Some, None, slice_get}
 use Rattle.sync_types.specs.declared.atomic_object.AtomicCall.{AtomicCall}
 use Rattle.sync_types.specs.declared.atomic_object.AtomicCall.TheVariants as atomic_calls
 use Rattle.sync_types.specs.declared.atomic_object.AtomicReply.{AtomicReply}
@@ -9,10 +9,12 @@ use Rattle.sync_types.specs.declared.lock_call.RwMutexCall.TheVariants as rw_cal
 use Rattle.sync_types.specs.declared.map_object.MapCall.TheVariants as map_calls
 use Rattle.sync_types.specs.declared.misuse.Misuse.{Misuse}
 use Rattle.script_calls.specs.declared.call.Call.{Call}
+use Rattle.script_calls.specs.declared.call.Operation.{Operation}
 use Rattle.script_calls.specs.declared.call.Operation.TheVariants as operations
 use Rattle.script_calls.specs.declared.call.Reply.{Reply}
 use Rattle.script_calls.specs.declared.call.Reply.TheVariants as replies
 use Rattle.script_calls.specs.declared.call.VarCall.{VarCall}
+use Rattle.mutex_core.specs.declared.event.MutexEvent.{MutexEvent}
 use Rattle.mutex_core.specs.declared.event.MutexEvent.TheVariants as mutex_events
 use Rattle.mutex_core.specs.declared.reply.MutexReply.TheVariants as mutex_replies
 use Rattle.mutex_core.specs.declared.reply.Arrival.TheVariants as mutex_arrival
@@ -24,6 +26,7 @@ use Rattle.rw_core.specs.declared.reply.RwReply.TheVariants as rw_replies
 use Rattle.rw_core.specs.declared.reply.Arrival.TheVariants as rw_arrival
 use Rattle.rw_core.specs.declared.reply.Resumption.TheVariants as rw_resumption
 use Rattle.rw_core.specs.declared.reply.Unlocking.TheVariants as rw_unlocking
+use Rattle.wait_cores.specs.declared.notify.NotifyEvent.{NotifyEvent}
 use Rattle.wait_cores.specs.declared.notify.NotifyEvent.TheVariants as notify_events
 use Rattle.wait_cores.specs.declared.notify.NotifyReply.TheVariants as notify_replies
 use Rattle.wait_cores.specs.declared.group.GroupEvent.{GroupEvent}
@@ -43,8 +46,9 @@ use Rattle.step_runner.specs.declared.trace.TraceItem.{TraceItem}
 use Rattle.step_runner.specs.declared.turns.item.Deed.{Deed}
 use Rattle.step_runner.specs.declared.turns.item.Deed.TheVariants as deeds
 use Rattle.step_runner.specs.declared.turns.item.Item.{Item}
-use Rattle.race_clocks.specs.Channels.{Channel, takes_in}
+use Rattle.race_clocks.specs.Channels.{Channel, MutexUnlock, WriterUnlock, ReaderUnlock, Notice, Lowering, FunctionEnd, PutItem, Start, Atomic, MapKey, takes_in}
 use Rattle.race_clocks.specs.HappensBefore.{done_before, Stands}
+use Rattle.race_clocks.specs.Races.{Access, is_write}
 
 -- ---- who makes what
 
@@ -62,6 +66,13 @@ pub record Makes (trace : List TraceItem) (i place caller : ℕ) (deed : Deed) :
 -- what was done before that
 abbrev pub earlier_of : (trace : List TraceItem) (i place caller : ℕ) (deed : Deed) → Makes trace i place caller deed → List Item
 earlier_of trace i place caller deed makes = done_before trace i ++ makes.front
+
+-- turn i of the trace completed this call on the object at this place, with this reply
+pub record Completes (trace : List TraceItem) (i place : ℕ) (operation : Operation) (reply : Reply (List ℕ)) : Type 0 where
+  pub turn : TraceItem
+  pub at : slice_get trace i ≡ Some turn
+  pub of : turn.call ≡ Some (record { object = place; operation = operation })
+  pub with : turn.reply ≡ Some reply
 
 -- turns i and j are of one worker, and i is the earlier one
 pub record IsOwn (trace : List TraceItem) (i j : ℕ) : Type 0 where
@@ -167,53 +178,103 @@ start_of worker = deeds.Entered (events.Starts (start_events.Start worker)) (ans
 abbrev pub on_atomic : AtomicCall → AtomicReply → Deed
 on_atomic call reply = deeds.Placed (operations.Atomic call) (replies.Atomic reply)
 
+-- ---- a plain variable
+
+-- the turn made this access of a call of its script, and nothing else
+pub record IsAccessed (one : TraceItem) (access : Access) : Type 0 where
+  pub call : VarCall
+  pub reply : Reply (List ℕ)
+  pub index : ℕ
+  pub made : one.made ≡ item access.variable one.worker (deeds.Placed (operations.Var call) reply) ∷ []
+  pub writes : access.writes ≡ is_write call
+  pub placed : one.index ≡ Some index
+
 -- ---- what hands on nothing, and what takes in nothing
 
 -- each item of a turn does such a thing
 abbrev pub EachDoes : (Deed → Type 0) → TraceItem → Type 0
 EachDoes P turn = (it : Item) → Contains turn.made it → P it.deed
 
--- the misuses, an `add` of 0 or above, the adds and looks that only find, and a plain variable
-pub data IsSilent : Deed → Type 0 where
-  mutex_locked : (d : Deed) → IsMutexLock d → IsSilent d
-  mutex_misused : (misuse : Misuse) → IsSilent (deeds.Entered (events.Mutex mutex_events.Unlock) (answered.Mutex (mutex_replies.Unlocked (mutex_unlocking.Misuse misuse))))
-  rw_locked : (d : Deed) → IsRwLock d → IsSilent d
-  rw_misused : (event : RwEvent) (misuse : Misuse) → IsSilent (deeds.Entered (events.RwMutex event) (answered.RwMutex (rw_replies.Unlocked (rw_unlocking.Misuse misuse))))
-  raised : (amount : ℕ) → IsSilent (added (pos amount))
-  group_misused : (event : GroupEvent) (misuse : Misuse) → IsSilent (deeds.Entered (events.WaitGroup event) (answered.WaitGroup (group_replies.Misused misuse)))
-  group_returned : (d : Deed) → IsGroupReturn d → IsSilent d
-  once_returned : (d : Deed) → IsOnceReturn d → IsSilent d
-  pool_taken : (event : PoolEvent ℕ) (value : ℕ) → IsSilent (deeds.Entered (events.Pool event) (answered.Pool (pool_replies.Item value)))
-  pool_missed : (event : PoolEvent ℕ) → IsSilent (deeds.Entered (events.Pool event) (answered.Pool pool_replies.Nothing))
-  pool_dropped : (event : PoolEvent ℕ) (value : ℕ) → IsSilent (deeds.Entered (events.Pool event) (answered.Pool (pool_replies.Dropped value)))
-  pool_swept : (event : PoolEvent ℕ) → IsSilent (deeds.Entered (events.Pool event) (answered.Pool pool_replies.Swept))
-  loaded : (reply : AtomicReply) → IsSilent (on_atomic atomic_calls.Load reply)
-  not_swapped : (old new : Number) → IsSilent (on_atomic (atomic_calls.CompareAndSwap old new) (atomic_replies.Compared false))
-  key_loaded : (key : List ℕ) (reply : Reply (List ℕ)) → IsSilent (deeds.Placed (operations.Map (map_calls.Load key)) reply)
-  ranged : (reply : Reply (List ℕ)) → IsSilent (deeds.Placed operations.Range reply)
-  accessed : (call : VarCall) (reply : Reply (List ℕ)) → IsSilent (deeds.Placed (operations.Var call) reply)
+-- the misuses, what gives a lock, fails to or waits for it, what returns, an `add` of 0 or above, looks and loads, an event that changes nothing, and a plain variable
+pub data HandsOnNothing : Deed → Type 0 where
+  mutex_locked : (d : Deed) → IsMutexLock d → HandsOnNothing d
+  mutex_misused : (misuse : Misuse) → HandsOnNothing (deeds.Entered (events.Mutex mutex_events.Unlock) (answered.Mutex (mutex_replies.Unlocked (mutex_unlocking.Misuse misuse))))
+  rw_locked : (d : Deed) → IsRwLock d → HandsOnNothing d
+  rw_misused : (event : RwEvent) (misuse : Misuse) → HandsOnNothing (deeds.Entered (events.RwMutex event) (answered.RwMutex (rw_replies.Unlocked (rw_unlocking.Misuse misuse))))
+  raised : (amount : ℕ) → HandsOnNothing (added (pos amount))
+  group_misused : (event : GroupEvent) (misuse : Misuse) → HandsOnNothing (deeds.Entered (events.WaitGroup event) (answered.WaitGroup (group_replies.Misused misuse)))
+  group_returned : (d : Deed) → IsGroupReturn d → HandsOnNothing d
+  once_returned : (d : Deed) → IsOnceReturn d → HandsOnNothing d
+  pool_taken : (event : PoolEvent ℕ) (value : ℕ) → HandsOnNothing (deeds.Entered (events.Pool event) (answered.Pool (pool_replies.Item value)))
+  pool_missed : (event : PoolEvent ℕ) → HandsOnNothing (deeds.Entered (events.Pool event) (answered.Pool pool_replies.Nothing))
+  pool_dropped : (event : PoolEvent ℕ) (value : ℕ) → HandsOnNothing (deeds.Entered (events.Pool event) (answered.Pool (pool_replies.Dropped value)))
+  pool_swept : (event : PoolEvent ℕ) → HandsOnNothing (deeds.Entered (events.Pool event) (answered.Pool pool_replies.Swept))
+  loaded : (reply : AtomicReply) → HandsOnNothing (on_atomic atomic_calls.Load reply)
+  not_swapped : (old new : Number) → HandsOnNothing (on_atomic (atomic_calls.CompareAndSwap old new) (atomic_replies.Compared false))
+  key_loaded : (key : List ℕ) (reply : Reply (List ℕ)) → HandsOnNothing (deeds.Placed (operations.Map (map_calls.Load key)) reply)
+  ranged : (reply : Reply (List ℕ)) → HandsOnNothing (deeds.Placed operations.Range reply)
+  accessed : (call : VarCall) (reply : Reply (List ℕ)) → HandsOnNothing (deeds.Placed (operations.Var call) reply)
+  mutex_still : (event : MutexEvent) → HandsOnNothing (deeds.Entered (events.Mutex event) (answered.Mutex mutex_replies.Still))
+  rw_still : (event : RwEvent) → HandsOnNothing (deeds.Entered (events.RwMutex event) (answered.RwMutex rw_replies.Still))
+  group_still : (event : GroupEvent) → HandsOnNothing (deeds.Entered (events.WaitGroup event) (answered.WaitGroup group_replies.Still))
+  mutex_failed : HandsOnNothing (deeds.Entered (events.Mutex mutex_events.Try) (answered.Mutex (mutex_replies.Tried false)))
+  mutex_queued : (now ticket : ℕ) → HandsOnNothing (deeds.Entered (events.Mutex (mutex_events.Arrive now)) (answered.Mutex (mutex_replies.Arrived (mutex_arrival.Queued ticket))))
+  mutex_requeued : (now : ℕ) → HandsOnNothing (deeds.Entered (events.Mutex (mutex_events.Woken now)) (answered.Mutex (mutex_replies.Resumed mutex_resumption.Requeued)))
+  rw_failed : (event : RwEvent) → HandsOnNothing (deeds.Entered (events.RwMutex event) (answered.RwMutex (rw_replies.Tried false)))
+  rw_queued : (event : RwEvent) → HandsOnNothing (deeds.Entered (events.RwMutex event) (answered.RwMutex (rw_replies.Arrived rw_arrival.Queued)))
+  rw_waits : (event : RwEvent) → HandsOnNothing (deeds.Entered (events.RwMutex event) (answered.RwMutex (rw_replies.Resumed rw_resumption.Queued)))
+  rw_requeued : (event : RwEvent) → HandsOnNothing (deeds.Entered (events.RwMutex event) (answered.RwMutex (rw_replies.Resumed rw_resumption.Requeued)))
 
--- tries that failed, whoever waits still, unlocks, and what is written without looking
-pub data IsDeaf : Deed → Type 0 where
-  mutex_failed : IsDeaf (deeds.Entered (events.Mutex mutex_events.Try) (answered.Mutex (mutex_replies.Tried false)))
-  mutex_queued : (now ticket : ℕ) → IsDeaf (deeds.Entered (events.Mutex (mutex_events.Arrive now)) (answered.Mutex (mutex_replies.Arrived (mutex_arrival.Queued ticket))))
-  mutex_requeued : (now : ℕ) → IsDeaf (deeds.Entered (events.Mutex (mutex_events.Woken now)) (answered.Mutex (mutex_replies.Resumed mutex_resumption.Requeued)))
-  mutex_unlocked : (d : Deed) → IsMutexUnlock d → IsDeaf d
-  rw_failed : (event : RwEvent) → IsDeaf (deeds.Entered (events.RwMutex event) (answered.RwMutex (rw_replies.Tried false)))
-  rw_queued : (event : RwEvent) → IsDeaf (deeds.Entered (events.RwMutex event) (answered.RwMutex (rw_replies.Arrived rw_arrival.Queued)))
-  rw_waits : (event : RwEvent) → IsDeaf (deeds.Entered (events.RwMutex event) (answered.RwMutex (rw_replies.Resumed rw_resumption.Queued)))
-  rw_requeued : (event : RwEvent) → IsDeaf (deeds.Entered (events.RwMutex event) (answered.RwMutex (rw_replies.Resumed rw_resumption.Requeued)))
-  rw_unlocked : (event : RwEvent) → IsDeaf (deeds.Entered (events.RwMutex event) (answered.RwMutex (rw_replies.Unlocked rw_unlocking.Done)))
-  signalled : IsDeaf signal
-  broadcasted : IsDeaf broadcast
-  counted : (delta : ℤ) → IsDeaf (added delta)
-  group_queued : IsDeaf (deeds.Entered (events.WaitGroup group_events.Wait) (answered.WaitGroup group_replies.Queued))
-  group_misused : (event : GroupEvent) (misuse : Misuse) → IsDeaf (deeds.Entered (events.WaitGroup event) (answered.WaitGroup (group_replies.Misused misuse)))
-  once_begun : IsDeaf (deeds.Entered (events.Once once_events.Begin) (answered.Once once_replies.Run))
-  once_ended : (d : Deed) → IsOnceEnd d → IsDeaf d
-  started : (worker : ℕ) → IsDeaf (start_of worker)
-  stored : (value : Number) (reply : Reply (List ℕ)) → IsDeaf (deeds.Placed (operations.Atomic (atomic_calls.Store value)) reply)
-  key_stored : (key : List ℕ) (value : ℕ) (reply : Reply (List ℕ)) → IsDeaf (deeds.Placed (operations.Map (map_calls.Store key value)) reply)
-  key_deleted : (key : List ℕ) (reply : Reply (List ℕ)) → IsDeaf (deeds.Placed (operations.Map (map_calls.Delete key)) reply)
-  cleared : (reply : Reply (List ℕ)) → IsDeaf (deeds.Placed (operations.Map map_calls.Clear) reply)
-  accessed : (call : VarCall) (reply : Reply (List ℕ)) → IsDeaf (deeds.Placed (operations.Var call) reply)
+-- tries that failed, whoever waits still, unlocks, what is written without looking, an event that changes nothing, and a plain variable
+pub data TakesInNothing : Deed → Type 0 where
+  mutex_failed : TakesInNothing (deeds.Entered (events.Mutex mutex_events.Try) (answered.Mutex (mutex_replies.Tried false)))
+  mutex_queued : (now ticket : ℕ) → TakesInNothing (deeds.Entered (events.Mutex (mutex_events.Arrive now)) (answered.Mutex (mutex_replies.Arrived (mutex_arrival.Queued ticket))))
+  mutex_requeued : (now : ℕ) → TakesInNothing (deeds.Entered (events.Mutex (mutex_events.Woken now)) (answered.Mutex (mutex_replies.Resumed mutex_resumption.Requeued)))
+  mutex_unlocked : (d : Deed) → IsMutexUnlock d → TakesInNothing d
+  rw_failed : (event : RwEvent) → TakesInNothing (deeds.Entered (events.RwMutex event) (answered.RwMutex (rw_replies.Tried false)))
+  rw_queued : (event : RwEvent) → TakesInNothing (deeds.Entered (events.RwMutex event) (answered.RwMutex (rw_replies.Arrived rw_arrival.Queued)))
+  rw_waits : (event : RwEvent) → TakesInNothing (deeds.Entered (events.RwMutex event) (answered.RwMutex (rw_replies.Resumed rw_resumption.Queued)))
+  rw_requeued : (event : RwEvent) → TakesInNothing (deeds.Entered (events.RwMutex event) (answered.RwMutex (rw_replies.Resumed rw_resumption.Requeued)))
+  rw_unlocked : (event : RwEvent) → TakesInNothing (deeds.Entered (events.RwMutex event) (answered.RwMutex (rw_replies.Unlocked rw_unlocking.Done)))
+  signalled : TakesInNothing signal
+  broadcasted : TakesInNothing broadcast
+  counted : (delta : ℤ) → TakesInNothing (added delta)
+  group_queued : TakesInNothing (deeds.Entered (events.WaitGroup group_events.Wait) (answered.WaitGroup group_replies.Queued))
+  group_misused : (event : GroupEvent) (misuse : Misuse) → TakesInNothing (deeds.Entered (events.WaitGroup event) (answered.WaitGroup (group_replies.Misused misuse)))
+  once_begun : TakesInNothing (deeds.Entered (events.Once once_events.Begin) (answered.Once once_replies.Run))
+  once_func_begun : TakesInNothing (deeds.Entered (events.OnceFunc once_events.Begin) (answered.OnceFunc once_replies.Run))
+  once_value_begun : TakesInNothing (deeds.Entered (events.OnceValue once_events.Begin) (answered.OnceValue once_replies.Run))
+  once_queued : TakesInNothing (deeds.Entered (events.Once once_events.Begin) (answered.Once once_replies.Queued))
+  once_func_queued : TakesInNothing (deeds.Entered (events.OnceFunc once_events.Begin) (answered.OnceFunc once_replies.Queued))
+  once_value_queued : TakesInNothing (deeds.Entered (events.OnceValue once_events.Begin) (answered.OnceValue once_replies.Queued))
+  once_ended : (d : Deed) → IsOnceEnd d → TakesInNothing d
+  started : (worker : ℕ) → TakesInNothing (start_of worker)
+  stored : (value : Number) (reply : Reply (List ℕ)) → TakesInNothing (deeds.Placed (operations.Atomic (atomic_calls.Store value)) reply)
+  key_stored : (key : List ℕ) (value : ℕ) (reply : Reply (List ℕ)) → TakesInNothing (deeds.Placed (operations.Map (map_calls.Store key value)) reply)
+  key_deleted : (key : List ℕ) (reply : Reply (List ℕ)) → TakesInNothing (deeds.Placed (operations.Map (map_calls.Delete key)) reply)
+  cleared : (reply : Reply (List ℕ)) → TakesInNothing (deeds.Placed (operations.Map map_calls.Clear) reply)
+  accessed : (call : VarCall) (reply : Reply (List ℕ)) → TakesInNothing (deeds.Placed (operations.Var call) reply)
+  mutex_still : (event : MutexEvent) → TakesInNothing (deeds.Entered (events.Mutex event) (answered.Mutex mutex_replies.Still))
+  rw_still : (event : RwEvent) → TakesInNothing (deeds.Entered (events.RwMutex event) (answered.RwMutex rw_replies.Still))
+  cond_still : (event : NotifyEvent) → TakesInNothing (deeds.Entered (events.Cond event) (answered.Cond notify_replies.Still))
+  group_still : (event : GroupEvent) → TakesInNothing (deeds.Entered (events.WaitGroup event) (answered.WaitGroup group_replies.Still))
+
+-- a turn of a reader: it hands on by nothing but a reader's unlock, and takes in at most by an `rlock` or a `tryrlock`
+pub record IsReaders (turn : TraceItem) : Type 0 where
+  pub hands : EachDoes (λ d. HandsOnNothing d ⊎ (d ≡ reader_unlock)) turn
+  pub takes : IsReadersCall turn.call ⊎ EachDoes TakesInNothing turn
+
+-- ---- whose a channel is
+
+-- the object of a channel; that of a start is nobody's
+abbrev pub object_of : Channel → Option ℕ
+object_of (MutexUnlock place) = Some place
+object_of (WriterUnlock place) = Some place
+object_of (ReaderUnlock place) = Some place
+object_of (Notice place worker) = Some place
+object_of (Lowering place) = Some place
+object_of (FunctionEnd place) = Some place
+object_of (PutItem place number) = Some place
+object_of (Start worker) = None
+object_of (Atomic place) = Some place
+object_of (MapKey place key) = Some place

@@ -4,6 +4,8 @@ ghost use Rattle.step_runner.specs.Traces.{trace_of};
 ghost use Rattle.race_clocks.specs.Races.{AreRaces};
 
 use crate::race::Race;
+use crate::steps::steps_of;
+use crate::telling::races_by_steps;
 use std::alloc::{AllocError, Global};
 use step_runner::Trace;
 use workload::Workload;
@@ -14,6 +16,6 @@ pub fn races(alloc: Global, workload: &Workload, trace: &Trace) -> Result<Vec<Ra
     requires { trace.now ≡ trace_of workload.now }
     ensures { IfOk result (λ races. AreRaces workload.now trace.now races.items) }
 {
-    let _room = Vec::<Race>::with_capacity(alloc, trace.as_slice().len())?;
-    Err(AllocError)
+    let (steps, channels) = steps_of(alloc, workload, trace)?;
+    races_by_steps(alloc, workload, trace, &steps, channels)
 }

@@ -4,7 +4,8 @@ ghost use Rattle.workload.specs.Plan.{Plan};
 ghost use Rattle.step_runner.specs.declared.trace.TraceItem.{TraceItem};
 ghost use Rattle.step_runner.specs.declared.turns.item.Deed.{Deed};
 ghost use Rattle.race_clocks.specs.HappensBefore.{Edge, Before};
-ghost use Rattle.race_clocks.specs.Rows.{Makes, IsMutexUnlock, IsMutexLock, writer_unlock, reader_unlock, IsRwLock, IsWritersCall, IsReadersCall, EachDoes};
+ghost use Rattle.race_clocks.specs.Rows.{Makes, IsMutexUnlock, IsMutexLock, writer_unlock, reader_unlock, IsRwLock, IsWritersCall, IsReadersCall, EachDoes, IsReaders, IsOwn};
+ghost use Rattle.race_clocks.specs.Races.{Conflicts, IsRace};
 
 /// An unlock of a mutex, that of a cond's `wait` too, is before each later acquisition of it: an arrival or a going on that acquires, a
 /// try that is true.
@@ -33,4 +34,14 @@ pub fn a_readers_unlock_is_not_before_a_later_rlock()
         → x.worker ≢ y.worker → EachDoes (λ d. d ≡ reader_unlock) x → IsReadersCall y.call → Edge plan trace i j → ⊥ }
     ensures two { (plan : Plan) (x y : TraceItem) → x.worker ≢ y.worker → EachDoes (λ d. d ≡ reader_unlock) x → IsReadersCall y.call
         → Before plan (x ∷ y ∷ []) 0 1 → ⊥ }
+{}
+
+/// Readers order nothing among themselves. In a trace of turns that only `rlock`, `runlock`, read and write, and what else hands on
+/// nothing, a turn is before another one only where both are of one worker. So two accesses of two workers that conflict race there,
+/// though both hold the mutex as readers.
+pub fn readers_are_not_ordered()
+    ensures own { (plan : Plan) (trace : List TraceItem) → ((n : ℕ) (one : TraceItem) → slice_get trace n ≡ Some one → IsReaders one)
+        → (i j : ℕ) → Before plan trace i j → IsOwn trace i j }
+    ensures race { (plan : Plan) (trace : List TraceItem) → ((n : ℕ) (one : TraceItem) → slice_get trace n ≡ Some one → IsReaders one)
+        → (i j : ℕ) (x y : TraceItem) → slice_get trace i ≡ Some x → slice_get trace j ≡ Some y → i < j → Conflicts x y → IsRace plan trace i j }
 {}

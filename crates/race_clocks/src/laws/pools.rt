@@ -30,11 +30,16 @@ pub fn a_look_takes_the_item_of_one_put()
     ensures { (seen : NumberedPool) (caller a b : ℕ) (deed : Deed) → takes_put a seen caller deed ≡ true → takes_put b seen caller deed ≡ true → a ≡ b }
 {}
 
-/// The put is one of just the item that the look is answered: where the pool's machine answers a look an item, with the items
-/// themselves in it, the look takes the put of some number, and the put of this number into the pool was of this item.
+/// And it is a put of just the item that the look is answered. Where the pool's machine answers a look an item, with the items
+/// themselves in it, the look takes the put of some number, and the put of that number into the pool was of this item. Where the look
+/// takes the put of a number, it is answered the item of that put.
 pub fn a_look_takes_the_item_that_was_put()
-    ensures { (plan : Plan) (place caller value : ℕ) (earlier : List Item) (event : PoolEvent ℕ) (answer : ObjectReply) → is_put event ≡ false
+    ensures put { (plan : Plan) (place caller value : ℕ) (earlier : List Item) (event : PoolEvent ℕ) (answer : ObjectReply) → is_put event ≡ false
         → (pool.next (kept_behind plan place earlier) caller event).1 ≡ PoolReply.Item value
         → (number : ℕ) × (takes_put number (pool_behind plan place earlier) caller (deeds.Entered (events.Pool event) answer) ≡ true)
+        × (slice_get (puts_into place earlier) number ≡ Some value) }
+    ensures answered { (plan : Plan) (place caller number : ℕ) (earlier : List Item) (event : PoolEvent ℕ) (answer : ObjectReply) → is_put event ≡ false
+        → takes_put number (pool_behind plan place earlier) caller (deeds.Entered (events.Pool event) answer) ≡ true
+        → (value : ℕ) × ((pool.next (kept_behind plan place earlier) caller event).1 ≡ PoolReply.Item value)
         × (slice_get (puts_into place earlier) number ≡ Some value) }
 {}

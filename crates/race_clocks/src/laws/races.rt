@@ -4,9 +4,19 @@ ghost use Rattle.workload.specs.Plan.{Plan};
 ghost use Rattle.step_runner.specs.declared.trace.TraceItem.{TraceItem};
 ghost use Rattle.race_clocks.specs.HappensBefore.{Before};
 ghost use Rattle.race_clocks.specs.Races.{Access, access_of, IsRace, Pair, pair, ArePairs, race_of, AreRaces};
-ghost use Rattle.race_clocks.specs.Rows.{IsOwn};
+ghost use Rattle.race_clocks.specs.Rows.{IsOwn, IsAccessed};
+ghost use Rattle.step_runner.specs.Traces.{trace_of};
 
 use crate::race::Race;
+use step_runner::laws::a_trace_tells_what_turns_made;
+
+/// In a run a turn of a `read` or a `write` makes just that call, whole, on its variable. So what races are the calls of scripts, each
+/// at its place there.
+pub fn an_access_is_made_whole()
+    ensures { (plan : Plan) (number : ℕ) (one : TraceItem) (access : Access) → slice_get (trace_of plan) number ≡ Some one → access_of one ≡ Some access → IsAccessed one access }
+{
+    a_trace_tells_what_turns_made();
+}
 
 /// Two accesses of one variable race where one of them is a write and neither is before the other. They are one race, told by the
 /// earlier turn and the later one.

@@ -1,5 +1,5 @@
 //! What conds, wait groups, onces and `go` order.
-ghost use Rattle.std.specs.Prelude.{◌≡◌, ◌≢◌, ℕ, negsuc, ◌<◌, false, All, List, [], ◌∷◌, ◌++◌, Some, slice_get};
+ghost use Rattle.std.specs.Prelude.{◌≡◌, ◌≢◌, ℕ, negsuc, ◌<◌, ◌≤◌, true, false, All, List, [], ◌∷◌, ◌++◌, Some, slice_get};
 ghost use Rattle.wait_cores.specs.NotifyMachine as notify;
 ghost use Rattle.workload.specs.Plan.{Plan};
 ghost use Rattle.step_runner.specs.declared.trace.TraceItem.{TraceItem};
@@ -7,7 +7,7 @@ ghost use Rattle.step_runner.specs.declared.turns.item.Deed.{Deed};
 ghost use Rattle.step_runner.specs.declared.turns.item.Item.{Item};
 ghost use Rattle.race_clocks.specs.HappensBefore.{Before};
 ghost use Rattle.race_clocks.specs.Seen.{cond_behind, notifies};
-ghost use Rattle.race_clocks.specs.Rows.{item, Makes, earlier_of, signal, leaving, added, IsGroupReturn, IsOnceEnd, IsOnceReturn, start_of};
+ghost use Rattle.race_clocks.specs.Rows.{item, Makes, earlier_of, signal, broadcast, leaving, added, IsGroupReturn, IsOnceEnd, IsOnceReturn, start_of};
 
 use wait_cores::NotifyPlace;
 
@@ -20,11 +20,22 @@ pub fn a_notice_is_before_the_leaving()
         → e ≡ leaving → Before plan trace i j }
 {}
 
-/// A signal notifies nobody behind a worker that waits: of two that wait, not the one with the later ticket.
+/// A signal notifies the first ticket that isn't notified yet, and of two workers that wait never the one with the later ticket. So it
+/// is for whoever has waited longest.
 pub fn a_signal_is_for_whoever_waits_longest()
-    ensures { (plan : Plan) (place caller w v a b : ℕ) (earlier : List Item) → slice_get (cond_behind plan place earlier).tickets w ≡ Some (Some a)
+    ensures first { (plan : Plan) (place caller w a : ℕ) (earlier : List Item) → caller < notify.callers_of (cond_behind plan place earlier)
+        → slice_get (cond_behind plan place earlier).tickets w ≡ Some (Some a) → a ≡ (cond_behind plan place earlier).notified
+        → a < (cond_behind plan place earlier).next_ticket → notifies plan place w earlier (item place caller signal) ≡ true }
+    ensures later { (plan : Plan) (place caller w v a b : ℕ) (earlier : List Item) → slice_get (cond_behind plan place earlier).tickets w ≡ Some (Some a)
         → slice_get (cond_behind plan place earlier).tickets v ≡ Some (Some b) → a < b
         → notify.place_of (cond_behind plan place earlier) w ≡ NotifyPlace.Waiting → notifies plan place v earlier (item place caller signal) ≡ false }
+{}
+
+/// A broadcast notifies each ticket that was taken and isn't notified yet.
+pub fn a_broadcast_is_for_all_who_wait()
+    ensures { (plan : Plan) (place caller w a : ℕ) (earlier : List Item) → caller < notify.callers_of (cond_behind plan place earlier)
+        → slice_get (cond_behind plan place earlier).tickets w ≡ Some (Some a) → (cond_behind plan place earlier).notified ≤ a
+        → a < (cond_behind plan place earlier).next_ticket → notifies plan place w earlier (item place caller broadcast) ≡ true }
 {}
 
 /// An `add` below 0 to a wait group, a `done` among them, is before each later return of a `wait` on it.

@@ -222,6 +222,27 @@ fn keep_event(
     keep(so_far, worker, object, Deed::Entered(event, reply))
 }
 
+/// Keeps an event of an object of one kind, in the words of all kinds.
+#[cold]
+#[inline(never)]
+fn keep_made<P: Entered>(
+    so_far: &mut Seq<Item>,
+    worker: u32,
+    object: usize,
+    event: P::Event,
+    reply: P::Reply,
+) -> Result<(), AllocError>
+    ensures { OnOk result (so_far.new ≡ so_far.old ++ record { object = object; caller = worker; deed = Deed.Entered (P.event_word event) (P.reply_word reply) } ∷ []) }
+{
+    keep_event(
+        so_far,
+        worker,
+        object,
+        P::event_word(event),
+        P::reply_word(reply),
+    )
+}
+
 /// Keeps a call on an atomic with its reply.
 #[cold]
 #[inline(never)]
@@ -303,6 +324,23 @@ pub(crate) fn note_event(
     match notes {
         Notes::Nothing => Ok(()),
         Notes::All(so_far) => keep_event(so_far, worker, object, event, reply),
+    }
+}
+
+/// Notes an event of a worker on the object at a place, which is of one kind, with its answer. The words of all kinds are made where it is kept.
+#[inline(always)]
+pub(crate) fn note_made<P: Entered>(
+    notes: &mut Notes<Item>,
+    worker: u32,
+    object: usize,
+    event: P::Event,
+    reply: P::Reply,
+) -> Result<(), AllocError>
+    ensures { OnOk result (notes.new ≡ one_noted (record { object = object; caller = worker; deed = Deed.Entered (P.event_word event) (P.reply_word reply) }) notes.old) }
+{
+    match notes {
+        Notes::Nothing => Ok(()),
+        Notes::All(so_far) => keep_made::<P>(so_far, worker, object, event, reply),
     }
 }
 

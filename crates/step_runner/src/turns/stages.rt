@@ -7,7 +7,7 @@ ghost use Rattle.step_runner.specs.Stages.{outcome_of, make};
 use crate::notes::Notes;
 use crate::turns::answer::Answer;
 use crate::turns::item::Item;
-use crate::turns::noting::{Entered, note_event};
+use crate::turns::noting::{Entered, note_made};
 use protocols::Step;
 use std::alloc::AllocError;
 
@@ -59,12 +59,6 @@ pub(crate) fn make<P: Entered>(
     };
     let event = P::event(stage, taker.moment);
     let reply = P::step(object, taker.worker, event);
-    note_event(
-        notes,
-        taker.worker,
-        place,
-        P::event_word(event),
-        P::reply_word(reply),
-    )?;
+    note_made::<P>(notes, taker.worker, place, event, reply)?;
     Ok(outcome_of(P::meaning(stage, &reply)))
 }
