@@ -1,4 +1,4 @@
-use Rattle.std.proofs.Common.{inl, refl, ap, rules, w64, [], ◌∷◌}
+use Rattle.std.proofs.Common.{inl, refl, sym, ap, rules, w64, [], ◌∷◌}
 use Rattle.std.proofs.lemmas.Int.{to_z-of_z}
 use mir.Val.{SFits, of_z, to_z}
 use Rattle.sync_model.specs.declared.answer.Answer.TheVariants.{Done, Halted}
@@ -14,7 +14,7 @@ returns-in-Done-clause-made g c =
     let fits : SFits w64 c.work-value.result = search rules in
     let passed = to_z w64 (of_z w64 c.work-value.result) in
     made_two (c.growth.ensures.both _) c.growth.ensures.halted c.new-note.ensures (begun.0, begun.1, begun.2) (Event (Land passed) (Landed c.in-Done.shared)) (Done (Landed c.in-Done.shared)) c.in-Done.ensures.events (λ es meets. meets)
-    (inl (c.work-value.ensures, ap (λ value. Event (Join c.args.key) Lead ∷ (Event (Land value) (Landed c.in-Done.shared) ∷ [])) (to_z-of_z w64 c.work-value.result fits)))
+    (inl (rw (sym (to_z-of_z w64 c.work-value.result fits)) at c.work-value.ensures, refl))
 
 pub returns-in-Halted-land-clause-made : goal.returns-in-Halted-land-clause-made
 returns-in-Halted-land-clause-made g c =

@@ -1,9 +1,9 @@
-use Rattle.std.proofs.Common.{inl, inr, refl}
+use Rattle.std.proofs.Common.{inl, refl}
 use Rattle.sync_model.specs.declared.answer.Answer.TheVariants.{Done, Halted}
 use Rattle.sync_model.specs.declared.journal.Deed.TheVariants.{Event, Refused}
 use Rattle.wait_cores.specs.declared.once.OnceEvent.TheVariants.{End}
 use Rattle.wait_cores.specs.declared.once.OnceReply.TheVariants.{Ended}
-use Rattle.go_sync.proofs.Composed.{made_one, made_two}
+use Rattle.go_sync.proofs.Composed.{made_two}
 use Rattle.go_sync.proofs.once_value.calls.kept.Goals as goal
 
 pub returns-in-Done-clause-made : goal.returns-in-Done-clause-made
