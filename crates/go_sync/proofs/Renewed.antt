@@ -1,5 +1,5 @@
 -- What a call did with a pass that was renewed before, it did with the pass as it was.
-use Rattle.std.proofs.Common.{◌≡◌, ℕ, Bool, true, List, subst}
+use Rattle.std.proofs.Common.{◌≡◌, ℕ, Bool, true, List, refl, subst}
 use Rattle.sync_model.specs.declared.answer.Answer.{Answer}
 use Rattle.sync_model.specs.declared.journal.Deed.{Deed}
 use Rattle.sync_model.specs.Front.{Front}
@@ -41,4 +41,15 @@ made_so next halts start spells old mid new first last answer same fresh did = r
   grows = grew_so next halts start old mid new first (no_front last) did.0 same fresh did.1;
   spelt = did.2;
   halted = did.3;
+}
+
+-- the same of a call that shows it in these words already
+pub made_again : {S N E R A : Type 0} (next : S → ℕ → E → S × R) (halts : Bool) (start : S) (spells : List (Deed E R) → Answer A → Type 0) (old mid new : Pass S N E R) (answer : Answer A)
+    → IsSame old mid → Made next halts start spells mid answer new → Made next halts start spells old answer new
+made_again next halts start spells old mid new answer same made = record {
+  entries = made.entries;
+  time = made.time;
+  grows = grew_so next halts start old mid new 0 (no_front made.time) made.entries same refl made.grows;
+  spelt = made.spelt;
+  halted = made.halted;
 }

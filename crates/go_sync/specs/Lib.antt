@@ -1,11 +1,17 @@
 pub mod AtomicCallers
 pub mod CondCallers
+pub mod FlightCallers
+pub mod Flying
+pub mod GoCallers
 pub mod GroupCallers
 pub mod GuardedCallers
 pub mod Made
 pub mod MapCallers
 pub mod MutexCallers
 pub mod OnceCallers
+pub mod OnceValueCallers
+pub mod PassProps
+pub mod PoolCallers
 pub mod Renewing
 pub mod RwCallers
 pub mod SemaCallers

@@ -4,6 +4,7 @@ ghost use Rattle.go_waits.specs.Groups.{IsPassOf};
 
 mod calls;
 
+pub(crate) use calls::ready_for_group;
 use go_waits::{GroupPass, WaitGroup};
 use ruled_object::MAX_CALLS;
 use std::alloc::{AllocError, Global};
@@ -50,9 +51,9 @@ pub fn group_callers<'a, C: Clock>(
 /// In the words of Go's memory model: a `done` synchronizes before the return of any `wait` that it unblocks.
 #[derive(Drop)]
 pub struct GroupCaller<'a, C: Clock> {
-    group: &'a WaitGroup<NoNote>,
-    clock: &'a C,
-    pass: GroupPass<NoNote>,
+    pub(crate) group: &'a WaitGroup<NoNote>,
+    pub(crate) clock: &'a C,
+    pub(crate) pass: GroupPass<NoNote>,
     ghost is: { IsPassOf group.now pass },
 }
 

@@ -1,5 +1,6 @@
 //! Go's `sync.Map`: maps of a table, and the callers that threads use them by.
 ghost use Rattle.std.specs.Prelude.{◌≡◌, ◌+◌, ◌<◌, ◌≤◌, ◌*◌, All, IfOk, MatchOption, vec_len};
+ghost use Rattle.std.specs.Option.{ForSome};
 ghost use Rattle.sync_model.specs.Shared.{IsCallerAt};
 ghost use Rattle.shared_table.specs.CallerProps.{caller_prop};
 ghost use Rattle.shared_table.specs.Notes.{own_by, IsNoteOf};
@@ -81,7 +82,9 @@ impl<'a> MapCaller<'a> {
     }
 
     /// How many more calls of this caller may change the map.
-    pub fn room(&self) -> u32 {
+    pub fn room(&self) -> u32
+        ensures { ForSome (own_by self.now.caller.note) (λ holding. result ≡ holding.spare) }
+    {
         self.caller.spare()
     }
 }

@@ -15,7 +15,7 @@ use sync_outside::{At, Clock};
 use sync_types::Misuse;
 
 // A pass that is good for a call: where none is left it is renewed.
-fn ready(group: &WaitGroup<NoNote>, pass: &mut GroupPass<NoNote>)
+pub(crate) fn ready_for_group(group: &WaitGroup<NoNote>, pass: &mut GroupPass<NoNote>)
     requires { IsPassOf group.now pass.old }
     ensures pass { IsPassOf group.now pass.new × (0 < left_of pass.new) }
     ensures same { IsSame pass.old pass.new }
@@ -31,7 +31,7 @@ impl<C: Clock> GroupCaller<'_, C> {
     pub fn add<R: Wait>(&mut self, rt: &R, delta: i32) -> Answer<Result<(), Misuse>>
         ensures { Makes (Adds delta) self.old result self.new }
     {
-        ready(self.group, &mut self.pass);
+        ready_for_group(self.group, &mut self.pass);
         let at: At<NoNote, C> = At {
             home: &(),
             clock: self.clock,
@@ -52,7 +52,7 @@ impl<C: Clock> GroupCaller<'_, C> {
     pub fn wait<R: Wait>(&mut self, rt: &R) -> Answer<Result<(), Misuse>>
         ensures { Makes Waits self.old result self.new }
     {
-        ready(self.group, &mut self.pass);
+        ready_for_group(self.group, &mut self.pass);
         let at: At<NoNote, C> = At {
             home: &(),
             clock: self.clock,

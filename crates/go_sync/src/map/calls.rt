@@ -1,6 +1,7 @@
 //! The calls of a map's caller.
-ghost use Rattle.std.specs.Prelude.{◌≡◌, ◌<◌, ◌^◌, true, IfSome};
-ghost use Rattle.go_sync.specs.MapCallers.{Makes};
+ghost use Rattle.std.specs.Prelude.{◌≡◌, ◌↔◌, ◌<◌, ◌^◌, true};
+ghost use Rattle.go_map.specs.Maps.{HasSpare};
+ghost use Rattle.go_sync.specs.MapCallers.{Makes, MakesIf, MakesSome};
 
 use super::MapCaller;
 use shared_table::Steps;
@@ -26,12 +27,20 @@ impl MapCaller<'_> {
             .load(&mut self.caller, key, &mut Steps::<L>::new(rt, blank))
     }
 
+    // Whether a unit of room is left.
+    #[tactic(auto, using(crate::proofs::Rooms::has_some, crate::proofs::Rooms::has_none))]
+    fn has_room(&self) -> bool
+        ensures { result ≡ true ↔ HasSpare self.now.caller.note }
+    {
+        1 <= self.caller.spare()
+    }
+
     /// Go's `Store`: sets the value of the key. False where the caller has no room left, and nothing was done.
     pub fn store<R: Wait>(&mut self, rt: &R, key: u32, value: u64) -> bool
         requires { value < 2 ^ 63 }
-        ensures { result ≡ true → Makes (MapCall.Store key value) MapReply.Done self.old self.new }
+        ensures { MakesIf (MapCall.Store key value) self.old result self.new }
     {
-        if self.caller.spare() == 0 {
+        if !self.has_room() {
             return false;
         }
         self.map.store(rt, &mut self.caller, key, value);
@@ -42,9 +51,9 @@ impl MapCaller<'_> {
     /// `None` where the caller has no room left, and nothing was done.
     pub fn load_or_store<R: Wait>(&mut self, rt: &R, key: u32, value: u64) -> Option<(u64, bool)>
         requires { value < 2 ^ 63 }
-        ensures { IfSome result (λ found. Makes (MapCall.LoadOrStore key value) (MapReply.Settled found.0 found.1) self.old self.new) }
+        ensures { MakesSome (MapCall.LoadOrStore key value) (λ found. MapReply.Settled found.0 found.1) self.old result self.new }
     {
-        if self.caller.spare() == 0 {
+        if !self.has_room() {
             return None;
         }
         Some(self.map.load_or_store(rt, &mut self.caller, key, value))
@@ -54,9 +63,9 @@ impl MapCaller<'_> {
     /// where the caller has no room left, and nothing was done.
     pub fn swap<R: Wait>(&mut self, rt: &R, key: u32, value: u64) -> Option<Option<u64>>
         requires { value < 2 ^ 63 }
-        ensures { IfSome result (λ found. Makes (MapCall.Swap key value) (MapReply.Found found) self.old self.new) }
+        ensures { MakesSome (MapCall.Swap key value) MapReply.Found self.old result self.new }
     {
-        if self.caller.spare() == 0 {
+        if !self.has_room() {
             return None;
         }
         Some(self.map.swap(rt, &mut self.caller, key, value))
@@ -72,9 +81,9 @@ impl MapCaller<'_> {
         new: u64,
     ) -> Option<bool>
         requires { (old < 2 ^ 63) × (new < 2 ^ 63) }
-        ensures { IfSome result (λ was. Makes (MapCall.CompareAndSwap key old new) (MapReply.Compared was) self.old self.new) }
+        ensures { MakesSome (MapCall.CompareAndSwap key old new) MapReply.Compared self.old result self.new }
     {
-        if self.caller.spare() == 0 {
+        if !self.has_room() {
             return None;
         }
         Some(
@@ -87,9 +96,9 @@ impl MapCaller<'_> {
     /// room left, and nothing was done.
     pub fn compare_and_delete<R: Wait>(&mut self, rt: &R, key: u32, old: u64) -> Option<bool>
         requires { old < 2 ^ 63 }
-        ensures { IfSome result (λ was. Makes (MapCall.CompareAndDelete key old) (MapReply.Compared was) self.old self.new) }
+        ensures { MakesSome (MapCall.CompareAndDelete key old) MapReply.Compared self.old result self.new }
     {
-        if self.caller.spare() == 0 {
+        if !self.has_room() {
             return None;
         }
         Some(self.map.compare_and_delete(rt, &mut self.caller, key, old))
@@ -98,9 +107,9 @@ impl MapCaller<'_> {
     /// Go's `LoadAndDelete`: removes the key, and answers the value that it had, or `None` where it was absent. `None` outside
     /// where the caller has no room left, and nothing was done.
     pub fn load_and_delete<R: Wait>(&mut self, rt: &R, key: u32) -> Option<Option<u64>>
-        ensures { IfSome result (λ found. Makes (MapCall.LoadAndDelete key) (MapReply.Found found) self.old self.new) }
+        ensures { MakesSome (MapCall.LoadAndDelete key) MapReply.Found self.old result self.new }
     {
-        if self.caller.spare() == 0 {
+        if !self.has_room() {
             return None;
         }
         Some(self.map.load_and_delete(rt, &mut self.caller, key))
@@ -108,9 +117,9 @@ impl MapCaller<'_> {
 
     /// Go's `Delete`: removes the key. False where the caller has no room left, and nothing was done.
     pub fn delete<R: Wait>(&mut self, rt: &R, key: u32) -> bool
-        ensures { result ≡ true → Makes (MapCall.Delete key) MapReply.Done self.old self.new }
+        ensures { MakesIf (MapCall.Delete key) self.old result self.new }
     {
-        if self.caller.spare() == 0 {
+        if !self.has_room() {
             return false;
         }
         self.map.delete(rt, &mut self.caller, key);
@@ -119,9 +128,9 @@ impl MapCaller<'_> {
 
     /// Go's `Clear`: the map then has no key. False where the caller has no room left, and nothing was done.
     pub fn clear<R: Wait>(&mut self, rt: &R) -> bool
-        ensures { result ≡ true → Makes MapCall.Clear MapReply.Done self.old self.new }
+        ensures { MakesIf MapCall.Clear self.old result self.new }
     {
-        if self.caller.spare() == 0 {
+        if !self.has_room() {
             return false;
         }
         self.map.clear(rt, &mut self.caller);

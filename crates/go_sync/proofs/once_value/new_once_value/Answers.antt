@@ -1,0 +1,5 @@
+use Rattle.std.proofs.lemmas.Option.{slice_get-get_or}
+use Rattle.go_sync.proofs.once_value.new_once_value.Goals as goal
+
+pub returns-clause-passes : goal.returns-clause-passes
+returns-clause-passes g c = λ k d below. (c.in_ok-once.ensures.passes.all.each k _ (slice_get-get_or _ k d below)).0
