@@ -1,6 +1,6 @@
 //! Which calls a worker's list spells.
 use crate::texts::{made_list, text_of};
-use list_checks::spell::line::{Ending, spell_line};
+use list_checks::spell::line::{Ending, SpeltLine, spell_line};
 use record_text::{RecordText, read_record};
 use std::alloc::{AllocError, Global};
 use std::test::Fail;
@@ -385,6 +385,38 @@ const OTHERS: [Row; 19] = [
     ),
 ];
 
+// A workload, a worker, the lines of its items, and of which call of the script each item is.
+type CallsRow = (&'static [u8], u32, &'static [u8], &'static [Option<usize>]);
+
+const CALLS: [CallsRow; 6] = [
+    (
+        TEST,
+        0,
+        b"call 0 0 0 0 0\ncall 0 2 0 1 0\n",
+        &[Some(0), Some(2)],
+    ),
+    (
+        TEST,
+        0,
+        b"call 0 0 0 0 1\ncall 0 1 0 1 6\n",
+        &[Some(0), Some(1)],
+    ),
+    (
+        UNLOCK,
+        0,
+        b"event 0 0 m 0 0 unlock m1\nevent 0 - !stop 0 0 halt=M1 ok\n",
+        &[Some(0)],
+    ),
+    (
+        GO,
+        1,
+        b"event 1 - !starts 0 0,0 leave still\nevent 1 - !starts 1 0,0 leave go\ncall 1 0 0 0,0 0\nevent 1 - g 0 0,1 add=-1 ok\nevent 1 - !starts 2 0,1 end ok\n",
+        &[None, None, Some(0), None, None],
+    ),
+    (GO, 1, b"event 1 - !starts 0 0,0 leave never\n", &[None]),
+    (MUTEX, 0, b"event 0 0 m 0 0 arrive@0 queued\n", &[Some(0)]),
+];
+
 fn found_in(alloc: Global, text: &RecordText<'_>, worker: u32) -> Result<Found, AllocError> {
     if worker >= text.workload.workers() {
         return Ok(Found::Unread);
@@ -405,6 +437,39 @@ fn find(alloc: Global, row: Row) -> Result<Found, AllocError> {
         Err(_) => Ok(Found::Unread),
         Ok(text) => found_in(alloc, &text, worker),
     }
+}
+
+// The line that a worker's list spells, where the text is read.
+fn spelt(
+    alloc: Global,
+    workload: &'static [u8],
+    worker: u32,
+    items: &'static [u8],
+) -> Result<Option<SpeltLine>, AllocError> {
+    let text = text_of(alloc, workload, items)?;
+    let Ok(text) = read_record(alloc, &text) else {
+        return Ok(None);
+    };
+    if worker >= text.workload.workers() {
+        return Ok(None);
+    }
+    let Some(list) = made_list(alloc, &text.workload, text.items.as_slice(), worker)? else {
+        return Ok(None);
+    };
+    spell_line(alloc, &text.workload, worker, &list)
+}
+
+#[test]
+fn items_are_of_their_calls(rt: HostRuntime) -> Result<(), Fail> {
+    for (workload, worker, items, calls) in &CALLS {
+        let line = spelt(rt.alloc(), *workload, *worker, *items)?;
+        assert!(rt; line.is_some(), "at {items:?}");
+        if let Some(line) = line {
+            let is = line.calls.as_slice();
+            assert!(rt; is == *calls, "at {items:?}: {is:?}");
+        }
+    }
+    Ok(())
 }
 
 #[test]

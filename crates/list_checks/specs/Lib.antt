@@ -1,2 +1,3 @@
+pub mod CallMarks
 pub mod SpellFound
 pub mod SpellLines

@@ -8,11 +8,13 @@ use Rattle.script_calls.specs.declared.call.Reply.{Reply}
 use Rattle.script_calls.specs.Runs.{RunsAlong}
 use Rattle.workload.specs.declared.object.ObjectKind.{ObjectKind}
 use Rattle.workload.specs.declared.object.ObjectKind.TheVariants as kinds
+use Rattle.workload.specs.Dialect.{has_variables}
 use Rattle.workload.specs.Plan.{Plan}
 use Rattle.run_record.specs.Explains.{HasEnded}
 use Rattle.run_record.specs.declared.made.Made.{Made}
 use Rattle.run_record.specs.declared.made.Made.TheVariants.{Shared, Entered}
 use Rattle.run_record.specs.Lines.{Line, LineEnd, SpeltCall, IsLineOf, calls_made, items_of, whole, misused, halted, unfinished, stayed, never, stopped, waits, replies_of}
+use Rattle.run_cuts.specs.CallsAlong.{calls_along}
 use Rattle.run_cuts.specs.Cuts.{Beginning}
 use Rattle.run_cuts.specs.LineCuts.{is_halt}
 use Rattle.run_cuts.specs.OneLine.{SettlesEach, settles_by, with_calls}
@@ -41,14 +43,15 @@ module _ (settles : Call → Reply ℕ → Reply ℕ → Type 0) where
   AreSettled (told ∷ more) [] = ⊥
   AreSettled (told ∷ more) (reply ∷ replies) = settles told.call told.reply reply × AreSettled more replies
 
-  -- what is told of a line: its replies, and how it ends
-  abbrev pub IsToldOf : Line → SpeltLine → Type 0
-  IsToldOf line spelt = (line.ending ≡ line_end spelt.ending) × AreSettled line.spelt spelt.replies
+  module _ (calls : Line → List (Option ℕ)) where
+    -- what is told of a line: its replies, how it ends, and of which calls its items are
+    abbrev pub IsToldOf : Line → SpeltLine → Type 0
+    IsToldOf line spelt = (line.ending ≡ line_end spelt.ending) × AreSettled line.spelt spelt.replies × (calls line ≡ spelt.calls)
 
-  -- what is told is that of the line, and nothing exactly where there is none
-  abbrev pub IsLineTold : Option Line → Option SpeltLine → Type 0
-  IsLineTold cut None = cut ≡ None
-  IsLineTold cut (Some spelt) = (line : Line) × (cut ≡ Some line) × IsToldOf line spelt
+    -- what is told is that of the line, and nothing exactly where there is none
+    abbrev pub IsLineTold : Option Line → Option SpeltLine → Type 0
+    IsLineTold cut None = cut ≡ None
+    IsLineTold cut (Some spelt) = (line : Line) × (cut ≡ Some line) × IsToldOf line spelt
 
 -- the same but for the reply
 abbrev pub SettlesFound : (Reply ℕ → Reply ℕ → Type 0) → Result (Spelt (Reply ℕ)) Stop → Result (Spelt (Reply ℕ)) Stop → Type 0
@@ -77,18 +80,21 @@ is_composed operation = false
 abbrev pub IsLineHere : Plan → ℕ → List Made → Line → Type 0
 IsLineHere plan worker list line = RunsAlong (get_or plan.scripts worker []) (calls_made line) line.rest × (items_of line ≡ list) × IsLineOf plan worker line
 
--- A line with these replies and this end is one of the list. Each line of the list that has ended is this one, but for the order in which a range replies pairs whose keys have one name
+-- A line with these replies, calls and end is one of the list. Each line of the list that has ended is this one, but for the order in which a range replies pairs whose keys have one name; and each line of the list, ended or not, has the items of these calls
 pub record IsSpelling (plan : Plan) (worker : ℕ) (list : List Made) (spelt : SpeltLine) : Type 0 where
   pub line : Line
   pub here : IsLineHere plan worker list line
   pub ending : line.ending ≡ line_end spelt.ending
   pub replies : replies_of line ≡ spelt.replies
+  pub calls : calls_along line ≡ spelt.calls
   pub only : (other : Line) → IsLineHere plan worker list other → HasEnded other.ending
       → (with_calls line other.spelt ≡ other) × ((told : List SpeltCall) × SettlesEach (settles_by plan) told line.spelt × SettlesEach (settles_by plan) told other.spelt)
+  pub along : (other : Line) → IsLineHere plan worker list other → calls_along other ≡ calls_along line
 
--- no line of the list has ended
-abbrev pub HasNoLine : Plan → ℕ → List Made → Type 0
-HasNoLine plan worker list = (line : Line) → IsLineHere plan worker list line → HasEnded line.ending → ⊥
+-- No line of the list has ended. Where the workload has no plain variable, the list has no line at all
+pub record HasNoLine (plan : Plan) (worker : ℕ) (list : List Made) : Type 0 where
+  pub ended : (line : Line) → IsLineHere plan worker list line → HasEnded line.ending → ⊥
+  pub none : has_variables plan ≡ false → (line : Line) → IsLineHere plan worker list line → ⊥
 
 abbrev pub if_all_read : List Made → Ending → Option Ending
 if_all_read [] end = Some end
@@ -112,10 +118,10 @@ stays_by list stop.Wrong = None
 abbrev pub ended_at : List Made → ℕ → Ending → Option Ending
 ended_at list end ending = if_all_read (drop end list) ending
 
--- these replies, and this end
-abbrev pub line_told : List (Reply ℕ) → Option Ending → Option SpeltLine
-line_told replies None = None
-line_told replies (Some end) = Some (record { replies = replies; ending = end })
+-- these replies, these calls and this end
+abbrev pub line_told : List (Reply ℕ) → List (Option ℕ) → Option Ending → Option SpeltLine
+line_told replies calls None = None
+line_told replies calls (Some end) = Some (record { replies = replies; calls = calls; ending = end })
 
 -- whether an item is a call on a map or an atomic
 abbrev pub is_shared : Made → Bool

@@ -9,7 +9,7 @@ use Rattle.script_calls.specs.Runs.{passed_over, places_from, RunsAlong}
 use Rattle.run_record.specs.declared.made.Made.{Made}
 use Rattle.run_record.specs.Lines.{Line, SpeltCall}
 use Rattle.run_report.specs.Shown.{IsCompleted}
-use Rattle.record_clauses.specs.Lists.{next_call, calls_from, calls_along}
+use Rattle.run_cuts.specs.CallsAlong.{next_call, calls_from, calls_along}
 
 drop_past : (p k : ℕ) (xs : List Call) (x : Call) (ys : List Call) → drop p xs ≡ x ∷ ys → drop (p + 1 + k) xs ≡ drop k ys
 drop_past zero k xs x ys is =

@@ -15,7 +15,8 @@ use Rattle.record_clauses.specs.declared.clause.Clause.{Clause}
 use Rattle.record_clauses.specs.Account.{ToldItem, Claim, Account, made_in, record_of, outcome_by, outcome_of}
 use Rattle.record_clauses.specs.Clauses.{TellsCalls, TellsNumbers, Holds}
 use Rattle.record_clauses.specs.Journals.{numbered_by}
-use Rattle.record_clauses.specs.Lists.{without_halts, before_halts, calls_along, calls_told, numbered_in}
+use Rattle.run_cuts.specs.CallsAlong.{calls_along}
+use Rattle.record_clauses.specs.Lists.{without_halts, before_halts, calls_told, numbered_in}
 use Rattle.record_clauses.proofs.Explaining.{LawIsItsParts, EdgesAreKept, HaltsComeLast, all_hold}
 use Rattle.record_clauses.proofs.HaltsAside.{calm_part, same_items, cut_at}
 use Rattle.record_clauses.proofs.Telling.{tell, made_told, numbers_told, calls_are_told, halts_told, calls_along_length}

@@ -9,3 +9,5 @@ pub mod OneAccount
 pub mod Telling
 pub mod ToldLists
 pub mod VerdictLemmas
+mod PairOrder
+mod RangeKeys

@@ -12,7 +12,8 @@ use Rattle.run_record.specs.declared.made.Made.TheVariants.{Shared, Entered}
 use Rattle.run_record.specs.Lines.{Line, SpeltCall}
 use Rattle.run_record.specs.Record.{ObjectEntry, entries_in}
 use Rattle.record_clauses.specs.Account.{ToldItem, made_in}
-use Rattle.record_clauses.specs.Lists.{halts, is_halt, without_halts, calls_from, calls_along, calls_told, numbered_in}
+use Rattle.run_cuts.specs.CallsAlong.{calls_from, calls_along}
+use Rattle.record_clauses.specs.Lists.{halts, is_halt, without_halts, calls_told, numbered_in}
 use Rattle.record_clauses.proofs.FrontsAside.{first_same, rest_same, no_more}
 use Rattle.record_clauses.proofs.HaltsAside.{calm_part}
 use Rattle.record_clauses.proofs.ToldLists.{entries_of}

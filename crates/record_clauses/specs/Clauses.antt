@@ -23,7 +23,8 @@ use Rattle.record_clauses.specs.declared.clause.Clause.{Clause}
 use Rattle.record_clauses.specs.declared.clause.Clause.TheVariants as clauses
 use Rattle.record_clauses.specs.Account.{ToldItem, Claim, Account, record_of, outcome_of}
 use Rattle.record_clauses.specs.Journals.{numbered_by, without_fronts}
-use Rattle.record_clauses.specs.Lists.{is_halt, without_halts, before_halts, calls_along, calls_told, numbered_in}
+use Rattle.run_cuts.specs.CallsAlong.{calls_along}
+use Rattle.record_clauses.specs.Lists.{is_halt, without_halts, before_halts, calls_told, numbered_in}
 
 -- a record whose lists have their halts set aside
 abbrev pub halts_aside : Record → Record

@@ -3,3 +3,4 @@ pub mod Clauses
 pub mod Journals
 pub mod Lists
 pub mod Verdicts
+pub mod PairOrder

@@ -1,14 +1,12 @@
--- What is told along a list: which items are halts, of which calls of the script the others are, and which numbers entries have.
-use Rattle.std.specs.Prelude.{ℕ, ◌+◌, ◌==◌, Bool, true, false, cond, List, [], ◌∷◌, ◌++◌, length, replicate, Option, Some, None}
-use Rattle.script_calls.specs.declared.call.Call.{Call}
-use Rattle.script_calls.specs.Runs.{passed_over}
+-- What is told along a list: which items are halts, of which calls of the script the others are told to be, and which numbers entries have.
+use Rattle.std.specs.Prelude.{ℕ, ◌==◌, Bool, true, false, cond, List, [], ◌∷◌, Option}
 use Rattle.sync_model.specs.declared.journal.Deed.{Deed}
 use Rattle.sync_model.specs.declared.journal.Deed.TheVariants.{Event, Refused, Halt}
 use Rattle.run_record.specs.declared.entered.ObjectEvent.{ObjectEvent}
 use Rattle.run_record.specs.declared.entered.ObjectReply.{ObjectReply}
 use Rattle.run_record.specs.declared.made.Made.{Made}
 use Rattle.run_record.specs.declared.made.Made.TheVariants.{Shared, Entered}
-use Rattle.run_record.specs.Lines.{Line, SpeltCall}
+use Rattle.run_record.specs.Lines.{Line}
 use Rattle.run_record.specs.Record.{ObjectEntry}
 use Rattle.record_clauses.specs.Account.{ToldItem}
 
@@ -30,20 +28,6 @@ without_halts (item ∷ list) = cond (is_halt item) (without_halts list) (item �
 -- a line whose halts are set aside
 abbrev pub before_halts : Line → Line
 before_halts line = record line { halts = [] }
-
--- of which call the items behind the completed calls are, whose place is this: of none, where nothing is left of the script
-abbrev pub next_call : ℕ → List Call → Option ℕ
-next_call place [] = None
-next_call place (call ∷ rest) = Some place
-
--- of which call each item is from a completed call on, which stands at this place of the script; the next call stands behind it and those that it passes over
-abbrev pub calls_from : ℕ → List SpeltCall → List Call → List Made → List (Option ℕ)
-calls_from place [] rest last = replicate (length last) (next_call place rest)
-calls_from place (spelt ∷ later) rest last = replicate (length spelt.items) (Some place) ++ calls_from (place + 1 + passed_over spelt.call spelt.reply) later rest last
-
--- of which call of the script each item of a line is, up to its halts: of none, where it stands before the script or behind it
-abbrev pub calls_along : Line → List (Option ℕ)
-calls_along line = replicate (length line.first) None ++ calls_from 0 line.spelt line.rest line.last
 
 -- of which calls the items of a list are told to be, up to its halts
 abbrev pub calls_told : List ToldItem → List (Option ℕ)

@@ -14,7 +14,8 @@ ghost use Rattle.run_report.specs.Shown.{IsCompleted};
 ghost use Rattle.record_clauses.specs.Account.{Claim, Account, made_in, record_of, outcome_by, outcome_of, has_no_range};
 ghost use Rattle.record_clauses.specs.Clauses.{TellsCalls, TellsNumbers, IsSpelt, IsLegallyPlaced, HasFronts, HasRanges, HasJournals, HasEdges, HasEnds, IsStoppedBy, HasHalts, Holds};
 ghost use Rattle.record_clauses.specs.Journals.{without_fronts};
-ghost use Rattle.record_clauses.specs.Lists.{before_halts, calls_along};
+ghost use Rattle.run_cuts.specs.CallsAlong.{calls_along};
+ghost use Rattle.record_clauses.specs.Lists.{before_halts};
 ghost use Rattle.record_clauses.specs.Verdicts.{ComesTo};
 
 use crate::clause::{Clause, Verdict};

@@ -4,5 +4,6 @@
 
 pub mod clause;
 pub mod laws;
+pub mod pair_order;
 
 pub use clause::{Clause, Verdict};

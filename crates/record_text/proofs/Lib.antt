@@ -16,3 +16,16 @@ pub mod OneItem
 pub mod ReadPlans
 pub mod OneText
 pub mod ObjectNumbers
+pub mod OwnWords
+pub mod ItemTexts
+pub mod EachDeed
+pub mod MeantItems
+pub mod Rows
+pub mod WorkerItems
+pub mod NumberedObjects
+pub mod EntryLines
+pub mod KeptItems
+pub mod KeptLists
+pub mod KeptRecords
+pub mod KeysShown
+pub mod LawfulLines

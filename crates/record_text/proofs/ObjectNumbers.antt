@@ -1,5 +1,5 @@
 -- The objects of a record stand at their numbers.
-use Rattle.std.proofs.Common.{◌≡◌, ℕ, zero, suc, ◌+◌, ◌*◌, ◌<◌, ◌≤◌, Bool, true, false, cond, List, [], ◌∷◌, ◌++◌, map, length, length-append, slice_get, take, codes, Option, Some, None, refl, sym, ap, ◌∙◌, subst, arith, append_assoc}
+use Rattle.std.proofs.Common.{◌≡◌, ℕ, zero, suc, ◌+◌, ◌*◌, ◌<◌, cond, List, [], ◌∷◌, ◌++◌, map, length, length-append, slice_get, take, codes, Some, ap, ◌∙◌, arith, append_assoc}
 use Rattle.std.specs.Prelude.{count_by}
 use Rattle.std.specs.List.{flat_map, range_with_len}
 use Rattle.std.proofs.lemmas.List.{length-map}
@@ -37,7 +37,7 @@ get_range a (suc n) (suc i) below = get_range (a + 1) n i (omega (arith, below))
 abbrev pub pools_in : List ObjectLine → ℕ
 pools_in objects = count_by (λ (object : ObjectLine). is_pool object.kind) objects
 
-pools_cons : (object : ObjectLine) (objects : List ObjectLine) → pools_in (object ∷ objects) ≡ cond (is_pool object.kind) 1 0 + pools_in objects
+pub pools_cons : (object : ObjectLine) (objects : List ObjectLine) → pools_in (object ∷ objects) ≡ cond (is_pool object.kind) 1 0 + pools_in objects
 pools_cons object objects = sum_by-cons (λ (o : ObjectLine). cond (is_pool o.kind) 1 0) object objects
 
 -- a pool has a part for each worker, and another object has none
@@ -58,7 +58,7 @@ part_length : (workers : ℕ) (object : ObjectLine) → length (named_parts work
 part_length workers object =
     length-map (range_with_len 0 (part_count workers object.kind)) (named_part object) ∙ length-range_with_len 0 (part_count workers object.kind) ∙ parts_of workers object.kind
 
-times : (a b c : ℕ) → (a + b) * c ≡ a * c + b * c
+pub times : (a b c : ℕ) → (a + b) * c ≡ a * c + b * c
 times zero b c = omega arith
 times (suc a) b c = omega (arith, times a b c)
 

@@ -1,6 +1,6 @@
 -- An item is determined by the words of its line.
-use Rattle.std.proofs.Common.{◌≡◌, ℕ, zero, suc, ◌+◌, ◌^◌, ◌<◌, ◌≤◌, Bool, true, false, ◌&&◌, cond, nat_le, List, [], ◌∷◌, map, length, get_or, slice_get, take, drop, codes, Option, Some, None, refl, sym, ap, ◌∙◌, subst, arith}
-use Rattle.std.specs.Prelude.{nat_lt, ◌↔◌}
+use Rattle.std.proofs.Common.{◌≡◌, ℕ, zero, suc, ◌^◌, ◌<◌, ◌≤◌, Bool, true, false, ◌&&◌, nat_le, List, [], ◌∷◌, map, length, get_or, take, drop, codes, Option, Some, None, refl, sym, ap, ◌∙◌, subst, arith}
+use Rattle.std.specs.Prelude.{nat_lt}
 use Rattle.std.specs.List.{list_all}
 use Rattle.std.specs.Str.{all_ascii_digits, bytes_eq}
 use Rattle.std.specs.Fmt.{decimal}
@@ -8,7 +8,6 @@ use Rattle.std.proofs.lemmas.Bool.{false≢true, ltb-true}
 use Rattle.std.proofs.lemmas.Fmt.{decimal_injective}
 use Rattle.std.proofs.lemmas.Slice.Eq.{bytes_eq-Decides}
 use Rattle.workload.specs.Keys.{keys_in, key_name, number_in}
-use Rattle.workload.specs.NumberWords.{number_of}
 use Rattle.workload.specs.Plan.{Plan}
 use Rattle.workload_text.specs.ReportLines.{pair_text}
 use Rattle.record_text.specs.declared.event.EventWord.{EventWord}
@@ -26,16 +25,16 @@ use Rattle.record_text.specs.EventWords.{event_word}
 use Rattle.record_text.specs.ItemLines.{index_word, is_index, is_item, is_named, is_place, is_reply, is_said, is_shown, item_words, object_word, reply_words, said_word, said_words, shown_word, IsItemLine}
 use Rattle.record_text.specs.Journals.{named_in, number_named}
 use Rattle.record_text.specs.Numbers.{front_word, has_64_bits, is_front, is_whole, whole_word}
-use Rattle.record_text.proofs.Decimals.{both, digits, number_of-decimal, small}
+use Rattle.record_text.proofs.Decimals.{both, digits, small}
 use Rattle.record_text.proofs.Fronts.{commas, parts_are}
-use Rattle.record_text.proofs.PairLemmas.{AreNumbered, at, drop_name, is_pair, last_is, mark_at, mark_within, no_mark, parts_of, take_name, with_equals}
+use Rattle.record_text.proofs.PairLemmas.{AreNumbered, at, drop_name, is_pair, last_is, mark_at, no_mark, parts_of, take_name, with_equals}
 use Rattle.record_text.proofs.SaidLemmas.{begin_no_call, begin_no_event, begin_no_next, call_no_begin, call_no_event, call_no_next, entry_fits, event_no_begin, event_no_call, event_no_next, found_so, fourth, front_at, head, next_no_begin, next_no_call, next_no_event, tail, two_behind}
 use Rattle.record_text.proofs.SameWords.{same_answer, same_event, same_whole}
 
-same_some : {X : Type 0} (x y : X) → Some x ≡ Some y → x ≡ y
+pub same_some : {X : Type 0} (x y : X) → Some x ≡ Some y → x ≡ y
 same_some x y e = cc
 
-unequal : (a b : List ℕ) → (a ≡ b → ⊥) → bytes_eq a b ≡ false
+pub unequal : (a b : List ℕ) → (a ≡ b → ⊥) → bytes_eq a b ≡ false
 unequal a b other = by (bytes_eq a b) (bytes_eq-Decides a b).0 where
   by : (t : Bool) → (t ≡ true → a ≡ b) → t ≡ false
   by true is = absurd (other (is refl))

@@ -1,25 +1,23 @@
 -- A text tells one thing only, and none is both told and refused.
-use Rattle.std.proofs.Common.{◌≡◌, ℕ, suc, ◌+◌, ◌<◌, ◌≤◌, true, false, ◌&&◌, List, [], ◌∷◌, ◌++◌, length, codes, get_or, Option, Some, None, refl, sym, ap, ◌∙◌, subst, arith, inl, inr}
-use Rattle.std.specs.Prelude.{not, ◌⊎◌}
+use Rattle.std.proofs.Common.{◌≡◌, ℕ, ◌+◌, ◌≤◌, true, false, ◌&&◌, List, [], ◌∷◌, ◌++◌, length, get_or, Option, Some, None, refl, sym, ap, ◌∙◌, subst, arith, inl, inr}
+use Rattle.std.specs.Prelude.{not}
 use Rattle.std.specs.List.{list_all}
-use Rattle.std.specs.Str.{bytes_eq}
 use Rattle.std.proofs.lemmas.Bool.{false≢true}
 use Rattle.std.proofs.lemmas.List.Folds.{list_all-append}
 use Rattle.sync_types.specs.declared.misuse.Misuse.{Misuse}
 use Rattle.sync_types.specs.declared.misuse.Misuse.TheVariants.{UnlockOfUnlockedMutex, RUnlockOfUnlockedRwMutex, UnlockOfUnlockedRwMutex, NegativeWaitGroupCounter, WaitGroupReused}
 use Rattle.workload.specs.declared.reason.Reason.{Reason}
 use Rattle.workload.specs.KeywordWords.{first_named}
-use Rattle.workload.specs.Lines.{lines_of}
 use Rattle.workload.specs.Plan.{Plan}
 use Rattle.workload.specs.Reads.{Reads, IsRefused}
 use Rattle.record_text.specs.declared.fault.CheckReason.{CheckReason}
-use Rattle.record_text.specs.declared.fault.CheckReason.TheVariants.{Workload, BadRecordLine}
+use Rattle.record_text.specs.declared.fault.CheckReason.TheVariants.{Workload}
 use Rattle.record_text.specs.declared.item_line.ItemLine.{ItemLine}
 use Rattle.record_text.specs.declared.item_line.Said.{Said}
 use Rattle.record_text.specs.declared.item_line.Said.TheVariants.{Call, Begin, Next, Entered}
-use Rattle.record_text.specs.declared.limits.TheConstants.{MAX_ITEMS, MAX_RECORD}
-use Rattle.record_text.specs.ItemLines.{IsItemLine, item_words, said_word, spaced}
-use Rattle.record_text.specs.Refused.{FirstBad, FirstLong, IsBadBehind, IsNoOutcome, IsRecordRefused, IsUnended, IsWorkloadFault}
+use Rattle.record_text.specs.declared.limits.TheConstants.{MAX_ITEMS}
+use Rattle.record_text.specs.ItemLines.{IsItemLine, said_word, spaced}
+use Rattle.record_text.specs.Refused.{FirstBad, FirstLong, IsBadBehind, IsRecordRefused, IsUnended, IsWorkloadFault}
 use Rattle.record_text.specs.Told.{AreItemLines, IsBehind, IsTold, Told, are_before, is_record_line, is_short_line, joined, outcome_line, record_line}
 use Rattle.record_text.proofs.Decimals.{both}
 use Rattle.record_text.proofs.OneItem.{IsPlain, same_item}

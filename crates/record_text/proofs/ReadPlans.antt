@@ -1,6 +1,6 @@
 -- What the words of lines need of a workload holds of each that was read.
-use Rattle.std.proofs.Common.{◌≡◌, ℕ, zero, suc, ◌+◌, ◌^◌, ◌<◌, ◌≤◌, Bool, true, false, ◌&&◌, List, [], ◌∷◌, ◌++◌, length, length-append, get_or, set, Option, Some, None, refl, sym, ap, ◌∙◌, subst, arith}
-use Rattle.std.specs.Prelude.{is_some, nat_lt, nat_le, count_by, sum_by, replicate, MatchOption}
+use Rattle.std.proofs.Common.{◌≡◌, ℕ, zero, suc, ◌+◌, ◌^◌, ◌<◌, ◌≤◌, Bool, true, false, ◌&&◌, List, [], ◌∷◌, ◌++◌, length, length-append, get_or, Option, Some, None, refl, sym, ap, subst, arith}
+use Rattle.std.specs.Prelude.{is_some, nat_lt, nat_le, count_by, MatchOption}
 use Rattle.std.proofs.lemmas.Bool.{ltb-false, ltb-true}
 use Rattle.std.proofs.lemmas.List.{set_past}
 use Rattle.std.proofs.lemmas.List.Folds.{sum_by-replicate}
@@ -93,7 +93,7 @@ get_past [] worker past = refl
 get_past (s ∷ scripts) zero past = absurd (omega (arith, past))
 get_past (s ∷ scripts) (suc worker) past = get_past scripts worker (omega (arith, past))
 
-short_script : (scripts : List (List Call)) (worker : ℕ) → call_count scripts ≤ MAX_CALLS → length (get_or scripts worker []) < 2 ^ 64
+pub short_script : (scripts : List (List Call)) (worker : ℕ) → call_count scripts ≤ MAX_CALLS → length (get_or scripts worker []) < 2 ^ 64
 short_script scripts worker room = by (nat_lt worker (length scripts)) refl where
   by : (b : Bool) → nat_lt worker (length scripts) ≡ b → length (get_or scripts worker []) < 2 ^ 64
   by true h = let low = get_or-le-sum_by length scripts worker [] (ltb-true worker (length scripts) h) in omega (arith, low, room)

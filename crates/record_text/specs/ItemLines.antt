@@ -1,6 +1,6 @@
 -- The words of an item's line, and which items have one.
 use Rattle.std.specs.Prelude.{◌≡◌, ℕ, ◌≤◌, Bool, true, false, ◌&&◌, nat_lt, ◌==◌, List, [], ◌∷◌, length, codes, Option, Some, None, slice_get, get_or}
-use Rattle.std.specs.List.{slice_split}
+use Rattle.std.specs.List.{join_with_byte, slice_split}
 use Rattle.std.specs.Option.{option_map_or}
 use Rattle.std.specs.Fmt.{decimal}
 use Rattle.workload.specs.Keys.{keys_in}
@@ -85,6 +85,10 @@ line_words plan worker index front said = said_word said ∷ decimal worker ∷ 
 -- the words of an item's line
 abbrev pub item_words : Plan → ItemLine → List (List ℕ)
 item_words plan item = line_words plan item.worker item.index (front_word item.front) item.said
+
+-- the bytes of an item's line: its words, with one space between two
+abbrev pub item_text : Plan → ItemLine → List ℕ
+item_text plan item = join_with_byte 32 (item_words plan item)
 
 -- what is said is in range; an entry is of an object whose kind has the event, with an answer of the event's row
 abbrev pub is_said : Plan → Said → Bool

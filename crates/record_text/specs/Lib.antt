@@ -13,3 +13,4 @@ pub mod Refused
 pub mod RecordLines
 pub mod Reads
 pub mod Texts
+pub mod LawfulItems

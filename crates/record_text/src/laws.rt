@@ -1,20 +1,31 @@
 //! Laws of the text of a record.
-ghost use Rattle.std.specs.Prelude.{◌≡◌, ℕ, ◌+◌, ◌<◌, true, ◌∷◌, List, Option, Some, codes, length, slice_get};
+ghost use Rattle.std.specs.Prelude.{◌≡◌, ℕ, ◌+◌, ◌<◌, ◌≤◌, true, ◌∷◌, List, Option, Some, codes, length, map, slice_get, get_or, []};
+ghost use Rattle.std.specs.List.{list_all};
 ghost use Rattle.sync_types.specs.declared.misuse.Misuse.{Misuse};
 ghost use Rattle.workload.specs.Plan.{Plan};
+ghost use Rattle.workload.specs.Readable.{IsReadable};
 ghost use Rattle.workload.specs.Reads.{Reads};
+ghost use Rattle.run_record.specs.Explains.{Explains};
 ghost use Rattle.run_record.specs.Objects.{first_part, starts_number};
-ghost use Rattle.run_record.specs.Record.{stop, object_number};
-ghost use Rattle.record_text.specs.ItemLines.{is_item, item_words, IsItemLine};
+ghost use Rattle.run_record.specs.Record.{Record, list_of, object_number, stop};
+ghost use Rattle.record_text.specs.ItemLines.{is_index, is_item, is_named, item_text, item_words, object_word, IsItemLine};
 ghost use Rattle.record_text.specs.Journals.{named_in, named_object, named_part};
+ghost use Rattle.record_text.specs.LawfulItems.{has_numbers, IsNumbered};
+ghost use Rattle.record_text.specs.Numbers.{is_front};
 ghost use Rattle.record_text.specs.Refused.{IsRecordRefused};
-ghost use Rattle.record_text.specs.Told.{Told, IsTold, outcome_line};
+ghost use Rattle.record_text.specs.Told.{Told, AreItemLines, IsTold, is_short_line, outcome_line};
+ghost use Rattle.record_text.specs.Written.{front_in, item_line};
 
 use crate::directory::Named;
 use crate::event::JournalKind;
 use crate::fault::CheckReason;
 use crate::item_line::ItemLine;
 use crate::limits::{MAX_ITEMS, MAX_RECORD, MAX_RECORD_LINE};
+use run_record::Made;
+use run_record::laws::numbers::parts_have_numbers_of_their_own;
+use script_calls::Outcome;
+use sync_model::laws::shared::each_entry_is_a_call;
+use sync_types::laws::maps::{calls_leave_other_keys, only_a_clear_has_no_key};
 use workload::laws::{
     keys_are_numbered_by_first_appearance, one_reading, one_refusal, read_or_refused,
 };
@@ -63,3 +74,35 @@ pub fn objects_go_by_their_numbers()
     ensures starts { (plan : Plan) → slice_get (named_in plan) (starts_number plan) ≡ Some (record { word = codes "!starts"; kind = JournalKind.Starts }) }
     ensures count { (plan : Plan) → length (named_in plan) ≡ starts_number plan + 1 }
 {}
+
+/// Each object goes by a word of its own, in a workload that has a text: its word names it, and no other object has that word.
+pub fn each_object_goes_by_its_own_word()
+    ensures named { (plan : Plan) (object : ℕ) → IsReadable plan → object < length (named_in plan) → is_named plan object ≡ true }
+    ensures apart { (plan : Plan) (object other : ℕ) → IsReadable plan → object < length (named_in plan) → other < length (named_in plan) → object_word plan object ≡ object_word plan other → object ≡ other }
+{}
+
+/// An item in range has one line: its words, with one space between two. So whoever writes these bytes writes what is read back as the
+/// item, where the line has at most 400 bytes, and the lines of some items are read back as these items.
+pub fn an_item_is_read_back_from_its_line()
+    ensures line { (plan : Plan) (item : ItemLine) → IsReadable plan → is_item plan item ≡ true → length (item_text plan item) ≤ MAX_RECORD_LINE → IsItemLine plan (item_text plan item) item }
+    ensures only { (plan : Plan) (line : List ℕ) (item : ItemLine) → IsItemLine plan line item → line ≡ item_text plan item }
+    ensures lines { (plan : Plan) (items : List ItemLine) → IsReadable plan → list_all (is_item plan) items ≡ true → list_all is_short_line (map (item_text plan) items) ≡ true
+        → AreItemLines plan (map (item_text plan) items) items }
+{}
+
+/// Each item of a record that explains a run has a line. It is in range, where its numbers have 64 bits, its front has a number for each
+/// worker, and the call that it belongs to is one of its worker's script, or none. So what is lawful can be written down
+/// (`an_item_is_read_back_from_its_line`).
+pub fn each_item_of_a_record_has_a_line()
+    ensures { (plan : Plan) (outcome : Outcome) (r : Record) (worker place number : ℕ) (index : Option ℕ) (item : Made)
+        → IsReadable plan → Explains plan outcome r → slice_get (list_of r worker) place ≡ Some item → IsNumbered r number item
+        → is_index (length (get_or plan.scripts worker [])) index ≡ true → is_front plan.workers (front_in item) ≡ true
+        → (line : ItemLine) × (item_line worker index number item ≡ Some line) × (has_numbers line.said ≡ true → is_item plan line ≡ true) }
+{
+    calls_leave_other_keys::<u32>();
+    each_entry_is_a_call();
+    keys_are_numbered_by_first_appearance();
+    mutex_core::laws::validity();
+    only_a_clear_has_no_key::<u32>();
+    parts_have_numbers_of_their_own();
+}

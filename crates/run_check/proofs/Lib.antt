@@ -6,3 +6,17 @@ pub mod Endings
 pub mod HaltsLast
 pub mod HaltWalks
 pub mod ReportRest
+mod Legal
+mod NameTables
+mod Places
+pub mod ToldLists
+pub mod SpellNothing
+pub mod SpellWalk
+pub mod ReplyRoundTrip
+pub mod EntryRoundTrip
+pub mod LineRoundTrip
+pub mod TextRoundTrip
+pub mod SpeltClaims
+pub mod ToldShared
+pub mod SpellHolds
+pub mod MarkedClaims

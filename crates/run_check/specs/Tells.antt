@@ -1,24 +1,19 @@
 -- What ties the text of a record to the claims that it tells, and the verdict on a text.
-use Rattle.std.specs.Prelude.{◌≡◌, ℕ, ◌+◌, List, map, length, Option, Some, slice_get}
-use Rattle.record_text.specs.declared.item_line.ItemLine.{ItemLine}
-use Rattle.record_text.specs.Told.{Told, items_of, joined}
-use Rattle.record_text.specs.Written.{item_line}
+use Rattle.std.specs.Prelude.{◌≡◌, ℕ, ◌+◌, List, map, length, Some, slice_get}
+use Rattle.record_text.specs.Told.{Told, joined}
 use Rattle.record_clauses.specs.declared.clause.Clause.{Clause}
 use Rattle.record_clauses.specs.declared.clause.Verdict.{Verdict}
 use Rattle.record_clauses.specs.declared.clause.Verdict.TheVariants.{Yes, No}
 use Rattle.record_clauses.specs.Account.{Claim, ToldItem}
 use Rattle.record_clauses.specs.Verdicts as claims
+use Rattle.run_check.specs.Items.{told_list, unmarked_item}
 
--- the line of an item of a worker's list
-abbrev pub line_of : ℕ → ToldItem → Option ItemLine
-line_of worker x = item_line worker x.call x.number x.made
-
--- The text tells the claim: the same workload, end and report; and the items of each worker are written as its lines, one by one. A line doesn't say all of an item, so a text tells more claims than one
+-- The text tells the claim: the same workload, end and report, and the items of each worker as its lines say them. A line doesn't say which calls are entries of the history, so a text tells more claims than one
 pub record Tells (told : Told) (claim : Claim) : Type 0 where
   pub plan : claim.plan ≡ told.plan
   pub misused : claim.misused ≡ told.misused
   pub workers : length claim.lists ≡ told.plan.workers
-  pub lines : (worker : ℕ) (list : List ToldItem) → slice_get claim.lists worker ≡ Some list → map (line_of worker) list ≡ map (λ item. Some item) (items_of told.items worker)
+  pub lists : (worker : ℕ) (list : List ToldItem) → slice_get claim.lists worker ≡ Some list → told_list told worker ≡ Some (map unmarked_item list)
   pub report : claim.report ≡ joined told.report
 
 module _ (told : Told) where

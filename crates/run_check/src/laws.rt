@@ -4,19 +4,25 @@ ghost use Rattle.script_calls.specs.Runs.{RunsAlong};
 ghost use Rattle.workload.specs.Plan.{Plan};
 ghost use Rattle.workload.specs.Readable.{IsReadable};
 ghost use Rattle.run_record.specs.Explains.{Explains};
-ghost use Rattle.run_record.specs.Lines.{IsLineOf, Line, calls_made, items_of};
+ghost use Rattle.run_record.specs.Lines.{IsLineOf, Line, calls_made, items_of as items_in};
 ghost use Rattle.run_record.specs.Objects.{contents_of};
 ghost use Rattle.run_record.specs.Record.{Record, calls_of, shared_in};
 ghost use Rattle.run_report.specs.ReportText.{report_text};
 ghost use Rattle.shared_checks.specs.Placing.{AreOn, IsOn};
-ghost use Rattle.record_text.specs.Told.{IsTold, Told, joined};
-ghost use Rattle.record_clauses.specs.Account.{Account, Claim, made_in, outcome_by, record_of};
+ghost use Rattle.entry_marks.specs.Marks.{HaveNoHistory};
+ghost use Rattle.record_text.specs.Told.{IsTold, Told, items_of, joined};
+ghost use Rattle.record_clauses.specs.Account.{Account, Claim, ToldItem, made_in, outcome_by, record_of};
 ghost use Rattle.record_clauses.specs.Clauses.{IsSpelt};
-ghost use Rattle.run_check.specs.Tells.{ComesTo, Tells};
+ghost use Rattle.record_clauses.specs.Verdicts as claims;
+ghost use Rattle.run_check.specs.Items.{line_of};
+ghost use Rattle.run_check.specs.Lists.{AreSpeltTo, SomeSpellsNothing};
+ghost use Rattle.run_check.specs.Tells.{ComesTo, Tells, UpTo};
 
-use record_clauses::Verdict;
+use crate::spelling::Spelling;
 use record_clauses::laws::yes_is_that_a_record_explains;
+use record_clauses::{Clause, Verdict};
 use record_text::laws::a_text_tells_one_thing;
+use run_cuts::laws::a_spelling_is_blind;
 use script_calls::Report;
 use sync_model::Item;
 
@@ -28,7 +34,41 @@ pub fn a_text_comes_to_one_verdict()
     a_text_tells_one_thing();
 }
 
-/// Where the verdict is Yes, some record whose items are written as the text's lines explains an outcome that ends as the text says, and
+/// Where some worker's items, as the text's lines say them, spell nothing, the clause `spell` holds of no claim that the text tells.
+pub fn where_a_list_spells_nothing_the_clause_fails()
+    ensures { (told : Told) → SomeSpellsNothing told.plan told.items → UpTo told Clause.Spell → ⊥ }
+{
+    a_spelling_is_blind();
+}
+
+/// Where all workers' items spell something, the text tells a claim, and of each claim that it tells the clause `spell` holds.
+pub fn where_all_lists_spell_the_clause_holds()
+    ensures each { (told : Told) (found : Spelling) → IsReadable told.plan → AreSpeltTo told.plan told.items told.plan.workers found → (claim : Claim) → Tells told claim → claims.UpTo claim Clause.Spell }
+    ensures some { (told : Told) (found : Spelling) → IsReadable told.plan → AreSpeltTo told.plan told.items told.plan.workers found → UpTo told Clause.Spell }
+{
+    a_spelling_is_blind();
+}
+
+/// Where the calls on maps and atomics have no lawful history, whichever of them are entries, the clause `legal` holds of no claim that the
+/// text tells.
+pub fn where_no_marks_are_lawful_the_clause_fails()
+    ensures { (told : Told) (found : Spelling) → AreSpeltTo told.plan told.items told.plan.workers found → HaveNoHistory (contents_of told.plan) found.shared.items → UpTo told Clause.Legal → ⊥ }
+{}
+
+/// The claims that a text tells differ in the marks of their calls alone: with the same calls they are the same claim.
+pub fn the_marks_determine_what_a_text_tells()
+    ensures { (told : Told) (one other : Claim) → Tells told one → Tells told other
+        → ((worker : ℕ) (list others : List ToldItem) → slice_get one.lists worker ≡ Some list → slice_get other.lists worker ≡ Some others → shared_in (made_in list) ≡ shared_in (made_in others))
+        → one ≡ other }
+{}
+
+/// Each item that a text tells is written as its line, one by one.
+pub fn what_a_text_tells_is_written_as_its_lines()
+    ensures { (bytes : List ℕ) (told : Told) (claim : Claim) (worker : ℕ) (list : List ToldItem) → IsTold bytes told → Tells told claim → slice_get claim.lists worker ≡ Some list
+        → map (line_of worker) list ≡ map (λ item. Some item) (items_of told.items worker) }
+{}
+
+/// Where the verdict is Yes, some record whose items are those that the text's lines say explains an outcome that ends as the text says, and
 /// the text's report is that of it.
 pub fn yes_is_that_a_record_of_the_text_explains()
     ensures { (told : Told) → ComesTo told Verdict.Yes
@@ -42,6 +82,6 @@ pub fn yes_is_that_a_record_of_the_text_explains()
 /// the call. So behind the clause `spell` nobody needs to ask that.
 pub fn what_is_spelt_is_on_objects_that_are_there()
     ensures line { (plan : Plan) (worker i : ℕ) (line : Line) (x : Item) → IsReadable plan → RunsAlong (get_or plan.scripts worker []) (calls_made line) line.rest → IsLineOf plan worker line
-        → slice_get (shared_in (items_of line)) i ≡ Some x → IsOn (contents_of plan) x.call }
+        → slice_get (shared_in (items_in line)) i ≡ Some x → IsOn (contents_of plan) x.call }
     ensures all { (claim : Claim) (account : Account) → IsReadable claim.plan → IsSpelt claim account → AreOn (contents_of claim.plan) (calls_of (record_of claim account)) }
 {}

@@ -1,4 +1,9 @@
+mod AlongCut
+mod BlindCalls
+mod BlindLines
+mod BlindParts
 mod CallCut
+mod CallsBegin
 mod CondCut
 mod CutLemmas
 mod GroupCut

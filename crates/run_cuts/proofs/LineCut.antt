@@ -42,7 +42,7 @@ shared_append [] b = refl
 shared_append (Shared x ∷ a) b = ap (λ (l : List Item). x ∷ l) (shared_append a b)
 shared_append (Entered object entry ∷ a) b = shared_append a b
 
-shared_more : (a b : List Made) → length (shared_in (a ++ b)) ≡ length (shared_in a) + length (shared_in b)
+pub shared_more : (a b : List Made) → length (shared_in (a ++ b)) ≡ length (shared_in a) + length (shared_in b)
 shared_more a b = ap (λ (l : List Item). length l) (shared_append a b) ∙ length-append (shared_in a) (shared_in b)
 
 -- misuses and halts
@@ -89,17 +89,17 @@ nothing zero = refl
 nothing (suc n) = refl
 
 -- what is passed over isn't cut
-skipped : (closes : Cutter (Unit {0})) (cut : ℕ → Call → Cutter (Reply ℕ)) (before passes : ℕ) (script : List Call) (list : List Made) → cut_from closes cut before passes script list ≡ cut_from closes cut before 0 (drop passes script) list
+pub skipped : (closes : Cutter (Unit {0})) (cut : ℕ → Call → Cutter (Reply ℕ)) (before passes : ℕ) (script : List Call) (list : List Made) → cut_from closes cut before passes script list ≡ cut_from closes cut before 0 (drop passes script) list
 skipped closes cut before zero script list = refl
 skipped closes cut before (suc passes) [] list = refl
 skipped closes cut before (suc passes) (call ∷ script) list = skipped closes cut before passes script list
 
 -- completed calls, each with its reply
-abbrev made_in : List SpeltCall → List (Call × Reply ℕ)
+abbrev pub made_in : List SpeltCall → List (Call × Reply ℕ)
 made_in spelt = map (λ s. (s.call, s.reply)) spelt
 
 -- the items of completed calls
-abbrev flat : List SpeltCall → List Made
+abbrev pub flat : List SpeltCall → List Made
 flat spelt = flat_map (λ s. s.items) spelt
 
 -- a misuse is told as it is, and so is a halt
@@ -114,16 +114,16 @@ halt_told settles (Done (Err other)) misuse is = sym is
 halt_told settles (Halted other) misuse is = sym is
 
 -- a reply is told as one that it settles
-abbrev Told : (Reply ℕ → Reply ℕ → Type 0) → CallAnswer (Reply ℕ) → Reply ℕ → Type 0
+abbrev pub Told : (Reply ℕ → Reply ℕ → Type 0) → CallAnswer (Reply ℕ) → Reply ℕ → Type 0
 Told settles answer reply = (told : Reply ℕ) × (answer ≡ Done (Ok told)) × settles told reply
 
-reply_told : (settles : Reply ℕ → Reply ℕ → Type 0) (told : CallAnswer (Reply ℕ)) (reply : Reply ℕ) → SettlesAnswer settles told (Done (Ok reply)) → Told settles told reply
+pub reply_told : (settles : Reply ℕ → Reply ℕ → Type 0) (told : CallAnswer (Reply ℕ)) (reply : Reply ℕ) → SettlesAnswer settles told (Done (Ok reply)) → Told settles told reply
 reply_told settles (Done (Ok told)) reply (other, settled, is) = let same : reply ≡ other = cc in (told, refl, subst (λ (r : Reply ℕ). settles told r) (sym same) settled)
 reply_told settles (Done (Err other)) reply is = absurd cc
 reply_told settles (Halted other) reply is = absurd cc
 
 -- the worker came to its script
-abbrev Came : LineEnd → Type 0
+abbrev pub Came : LineEnd → Type 0
 Came at_end = Unit {0}
 Came (misused misuse) = Unit {0}
 Came (halted misuse) = Unit {0}
@@ -139,7 +139,7 @@ module _ (plan : Plan) (worker : ℕ) (opens : Cutter Bool) (closes : Cutter (Un
     (opens_cut : Cuts (opening plan worker) opens) (closes_cut : Cuts (closing plan worker) closes)
     (cuts : CutsCalls plan worker settles cut) where
   -- how many calls on maps and atomics a line's completed calls make, behind so many
-  abbrev made_by : ℕ → List SpeltCall → ℕ
+  abbrev pub made_by : ℕ → List SpeltCall → ℕ
   made_by before spelt = before + length (shared_in (flat spelt))
 
   -- the line of this script and list behind what stands before the script, from a number of calls on
@@ -356,7 +356,7 @@ module _ (plan : Plan) (worker : ℕ) (opens : Cutter Bool) (closes : Cutter (Un
     by (told, settled, is) = is ∙ ap (λ (answer : CallAnswer (Reply ℕ)). whole items answer rest) (halt_told (settles call) told misuse settled)
 
   -- what a line ends in is found as it ends, unless it is unfinished
-  ended : (before : ℕ) (ending : LineEnd) (rest : List Call) (last halts : List Made) → HasEnded ending → Came ending → EndsBy plan worker before ending rest last → AreHalts ending halts
+  pub ended : (before : ℕ) (ending : LineEnd) (rest : List Call) (last halts : List Made) → HasEnded ending → Came ending → EndsBy plan worker before ending rest last → AreHalts ending halts
       → cut_from closes cut before 0 rest (last ++ halts) ≡ Some (ends_in_call rest last halts ending)
   ended before at_end rest last halts e came (none, spelt) are =
       ap (λ (c : List Call). cut_from closes cut before 0 c (last ++ halts)) none

@@ -1,4 +1,6 @@
+pub mod Blind
 pub mod CallCuts
+pub mod CallsAlong
 pub mod CondCuts
 pub mod Cuts
 pub mod GroupCuts

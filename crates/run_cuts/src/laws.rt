@@ -1,11 +1,14 @@
 //! That the functions cut lists as the record of a run spells them. Each law is the contract of a function that does nothing.
-ghost use Rattle.std.specs.Prelude.{◌≡◌, ℕ, ℤ, Bool, true, List};
+ghost use Rattle.std.specs.Prelude.{◌≡◌, ℕ, ℤ, Bool, true, false, List, [], Some, None, get_or};
 ghost use Rattle.script_calls.specs.declared.call.Call.{Call};
 ghost use Rattle.script_calls.specs.declared.call.Reply.{Reply};
-ghost use Rattle.workload.specs.Plan.{Plan};
+ghost use Rattle.script_calls.specs.Runs.{RunsAlong};
+ghost use Rattle.workload.specs.Dialect.{has_variables};
+ghost use Rattle.workload.specs.Plan.{Plan, is_valid};
 ghost use Rattle.run_record.specs.AtomicKind.{adds, atomic_call};
 ghost use Rattle.run_record.specs.Calls.{SpellsCall};
 ghost use Rattle.run_record.specs.CondKind.{cond_call};
+ghost use Rattle.run_record.specs.Lines.{IsLineOf, Line, calls_made, items_of};
 ghost use Rattle.run_record.specs.MapKind.{map_call};
 ghost use Rattle.run_record.specs.MutexKind.{mutex_call};
 ghost use Rattle.run_record.specs.OnceKind.{do_call, func_call, value_call};
@@ -14,10 +17,17 @@ ghost use Rattle.run_record.specs.RwMutexKind.{rw_mutex_call};
 ghost use Rattle.run_record.specs.StartsKind.{opening, closing, go_call, wait_start_part, end_part};
 ghost use Rattle.run_record.specs.Tests.{if_equal_call, wait_for_call};
 ghost use Rattle.run_record.specs.WaitGroupKind.{wait_group_call};
+ghost use Rattle.run_record.specs.declared.made.Made.{Made};
+ghost use Rattle.run_record.specs.declared.made.Made.TheVariants.{Shared, Entered};
+ghost use Rattle.run_record.specs.Record.{ObjectEntry};
+ghost use Rattle.sync_model.specs.declared.item.Item.{Item};
+ghost use Rattle.run_cuts.specs.Blind.{AreAlike, Blind, HasLineLike, bare};
 ghost use Rattle.run_cuts.specs.CallCuts.{call_cut, is_told};
+ghost use Rattle.run_cuts.specs.CallsAlong.{calls_along};
 ghost use Rattle.run_cuts.specs.CondCuts.{cond_cut};
 ghost use Rattle.run_cuts.specs.Cuts.{Cuts, Cutter};
 ghost use Rattle.run_cuts.specs.GroupCuts.{group_cut};
+ghost use Rattle.run_cuts.specs.LineCuts.{line_cut};
 ghost use Rattle.run_cuts.specs.MutexCuts.{mutex_cut};
 ghost use Rattle.run_cuts.specs.OnceCuts.{do_cut, func_cut, value_cut};
 ghost use Rattle.run_cuts.specs.OneLine.{CutsCalls, CutsLines, settles_by};
@@ -80,4 +90,26 @@ pub fn a_list_is_cut_into_one_line()
     ensures by { (plan : Plan) (worker : ℕ) (opens : Cutter Bool) (closes : Cutter (Unit {0})) (cut : ℕ → Call → Cutter (Reply ℕ))
         → Cuts (opening plan worker) opens → Cuts (closing plan worker) closes → CutsCalls plan worker (settles_by plan) cut → CutsLines plan worker opens closes (settles_by plan) cut }
     ensures lines { (plan : Plan) (worker : ℕ) → CutsLines plan worker (opening_cut plan worker) (closing_cut plan worker) (settles_by plan) (call_cut plan worker) }
+{}
+
+/// A spelling looks at the call and the reply of each item on a map or an atomic, and at the object and the deed of each entry, and at
+/// nothing else of them. So items that are alike in these spell the same calls with the same replies, whatever places, marks, fronts,
+/// callers and numbers they have, and the list of such items is a line like the other's.
+pub fn a_spelling_is_blind()
+    ensures shared { (x y : Item) → x.call ≡ y.call → x.reply ≡ y.reply → bare (Shared x) ≡ bare (Shared y) }
+    ensures entered { (object : ℕ) (entry other : ObjectEntry) → entry.deed ≡ other.deed → bare (Entered object entry) ≡ bare (Entered object other) }
+    ensures calls { (plan : Plan) (worker before : ℕ) (call : Call) → Blind (SpellsCall plan worker before call) }
+    ensures before { (plan : Plan) (worker : ℕ) → Blind (opening plan worker) }
+    ensures behind { (plan : Plan) (worker : ℕ) → Blind (closing plan worker) }
+    ensures lines { (plan : Plan) (worker : ℕ) (line : Line) (items : List Made) → AreAlike (items_of line) items → IsLineOf plan worker line → HasLineLike plan worker line items }
+{}
+
+/// However a list is read as a line, whether that has ended or not, its items are of the same calls of the script: of those of which they
+/// are in the line that the list is cut into. Where the workload is valid and has no plain variable, whose calls make no item, the list of
+/// each line is cut into one.
+pub fn a_list_tells_of_which_call_each_item_is()
+    ensures same { (plan : Plan) (worker : ℕ) (script : List Call) (line told : Line) → RunsAlong script (calls_made line) line.rest → IsLineOf plan worker line
+        → line_cut (opening_cut plan worker) (closing_cut plan worker) (call_cut plan worker) 0 script (items_of line) ≡ Some told → calls_along told ≡ calls_along line }
+    ensures some { (plan : Plan) (worker : ℕ) (line : Line) → is_valid plan ≡ true → has_variables plan ≡ false → RunsAlong (get_or plan.scripts worker []) (calls_made line) line.rest → IsLineOf plan worker line
+        → line_cut (opening_cut plan worker) (closing_cut plan worker) (call_cut plan worker) 0 (get_or plan.scripts worker []) (items_of line) ≡ None → ⊥ }
 {}

@@ -18,7 +18,7 @@ fn before(objects: &[ObjectLine], place: usize) -> &[ObjectLine]
 }
 
 /// The number of the object at a place.
-pub(crate) fn object_number(workload: &Workload, place: usize) -> usize
+pub fn object_number(workload: &Workload, place: usize) -> usize
     requires { place < length workload.now.objects }
     ensures { result ≡ object_number place }
 {
@@ -27,7 +27,7 @@ pub(crate) fn object_number(workload: &Workload, place: usize) -> usize
 }
 
 /// The number of the object at a place among the maps.
-pub(crate) fn map_number(objects: &[ObjectLine], place: usize) -> usize
+pub fn map_number(objects: &[ObjectLine], place: usize) -> usize
     ensures { result ≡ map_number objects.now place }
 {
     let lines = before(objects, place);
@@ -41,7 +41,7 @@ pub(crate) fn map_number(objects: &[ObjectLine], place: usize) -> usize
 }
 
 /// The number of the object at a place among the atomics.
-pub(crate) fn atomic_number(objects: &[ObjectLine], place: usize) -> usize
+pub fn atomic_number(objects: &[ObjectLine], place: usize) -> usize
     ensures { result ≡ atomic_number objects.now place }
 {
     let lines = before(objects, place);
@@ -69,7 +69,7 @@ fn pools(objects: &[ObjectLine]) -> usize
 }
 
 /// The number of part 0 of the pool at a place.
-pub(crate) fn first_part(workload: &Workload, place: usize) -> usize
+pub fn first_part(workload: &Workload, place: usize) -> usize
     ensures part { result ≡ first_part workload.now place }
     ensures few { result < 2 ^ 32 }
 {
@@ -80,7 +80,7 @@ pub(crate) fn first_part(workload: &Workload, place: usize) -> usize
 }
 
 /// The number of Starts.
-pub(crate) fn starts_number(workload: &Workload) -> usize
+pub fn starts_number(workload: &Workload) -> usize
     ensures { result ≡ starts_number workload.now }
 {
     a_workload_has_few_objects();

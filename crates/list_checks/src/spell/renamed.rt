@@ -14,7 +14,7 @@ fn number_of(keys: &Keys, key: &Name) -> u32
 }
 
 /// The call with its key's number in place of the name.
-pub(crate) fn numbered(keys: &Keys, call: &MapCall<Name>) -> MapCall<u32>
+pub fn numbered(keys: &Keys, call: &MapCall<Name>) -> MapCall<u32>
     ensures { result ≡ renamed_call (key_number keys.now) call.now }
 {
     match call {

@@ -1,4 +1,3 @@
-use Rattle.workload.specs.Keys.{keys_in}
 use Rattle.record_text.proofs.OneText.{same_told}
 use Rattle.record_text.proofs.ReadPlans.{reads_plain}
 use Rattle.record_text.proofs.laws.a_text_tells_one_thing.Goals as goal

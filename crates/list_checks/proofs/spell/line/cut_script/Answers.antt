@@ -1,4 +1,4 @@
-use Rattle.std.proofs.Common.{◌≡◌, ℕ, suc, ◌+◌, ◌-◌, ◌<◌, ◌≤◌, List, length, drop, get_or, refl, sym, subst, arith}
+use Rattle.std.proofs.Common.{◌≡◌, ℕ, suc, ◌+◌, ◌-◌, ◌<◌, ◌≤◌, List, length, drop, get_or, refl, sym, ap, ◌∙◌, subst, arith}
 use Rattle.std.proofs.lemmas.Option.{slice_get-get_or, slice_get_read}
 use Rattle.script_calls.specs.declared.call.Call.{Call}
 use Rattle.script_calls.specs.declared.call.Operation.TheVariants as operations
@@ -6,6 +6,7 @@ use Rattle.run_cuts.specs.CallCuts.{call_cut}
 use Rattle.run_cuts.specs.LineCuts.{cut_from}
 use Rattle.run_cuts.specs.OneLine.{settles_by}
 use Rattle.run_cuts.specs.StartsCuts.{closing_cut}
+use Rattle.list_checks.specs.CallMarks.{calls_behind}
 use Rattle.list_checks.specs.SpellLines.{IsCallFound, IsLineTold}
 use Rattle.list_checks.specs.declared.spell.line.Progress.{Progress}
 use Rattle.list_checks.proofs.SpellLines.{SoFar, closes_otherwise, closes_whole, completed, passed, stops}
@@ -22,8 +23,9 @@ loop-index-preserved-then-progress-gt0 c =
     let more : so.passes ≡ suc (so.passes - 1) = omega arith in
     record {
       script = c.loop-index.invariant.script;
-      so = passed (settles_by plan) (closing_cut plan c.args.worker) (call_cut plan c.args.worker) script c.args.items.now c.args.from index so.at so.before so.replies (get_or script index nothing)
+      so = passed (settles_by plan) (closing_cut plan c.args.worker) (call_cut plan c.args.worker) script c.args.items.now c.args.from c.args.calls.items index so.at so.before so.replies so.calls.items (get_or script index nothing)
           (slice_get-get_or script index nothing inside) so.passes (so.passes - 1) more c.loop-index.invariant.so;
+      room = c.loop-index.invariant.room;
     }
 
 pub returns-in-Err : goal.returns-in-Err
@@ -40,11 +42,11 @@ returns-in-Err c =
     let inside : index < length script = omega arith in
     let none : so.passes ≡ 0 = omega arith in
     let there = slice_get_read script (length script) index call refl inside c.index-script-index.is in
-    let here = subst (λ (n : ℕ). SoFar settles closes cut script list c.args.from index n so.at so.before so.replies) none c.loop-index.invariant.so in
+    let here = subst (λ (n : ℕ). SoFar settles closes cut script list c.args.from c.args.calls.items index n so.at so.before so.replies so.calls.items) none c.loop-index.invariant.so in
     let found = subst (λ found. IsCallFound (settles call) list so.at (cut so.before call (drop so.at list)) found) c.in-Err.is c.in_ok-found.ensures in
-    let told = stops settles closes cut script list c.args.from index so.at so.before so.replies call there here c.in-Err.stop found in
-    subst (λ (calls : List Call). IsLineTold settles (cut_from closes cut 0 0 calls (drop c.args.from list)) c.ended.result) c.loop-index.invariant.script
-    (subst (λ line. IsLineTold settles (cut_from closes cut 0 0 script (drop c.args.from list)) line) (sym c.ended.ensures) told)
+    let told = stops settles closes cut script list c.args.from c.args.calls.items index so.at so.before so.replies so.calls.items call there here c.in-Err.stop found in
+    subst (λ (calls : List Call). IsLineTold settles (calls_behind c.args.calls.items) (cut_from closes cut 0 0 calls (drop c.args.from list)) c.ended.result) c.loop-index.invariant.script
+    (subst (λ line. IsLineTold settles (calls_behind c.args.calls.items) (cut_from closes cut 0 0 script (drop c.args.from list)) line) (sym c.ended.ensures) told)
 
 pub loop-index-preserved : goal.loop-index-preserved
 loop-index-preserved c =
@@ -60,13 +62,14 @@ loop-index-preserved c =
     let inside : index < length script = omega arith in
     let none : so.passes ≡ 0 = omega arith in
     let there = slice_get_read script (length script) index call refl inside c.index-script-index.is in
-    let here = subst (λ (n : ℕ). SoFar settles closes cut script list c.args.from index n so.at so.before so.replies) none c.loop-index.invariant.so in
+    let here = subst (λ (n : ℕ). SoFar settles closes cut script list c.args.from c.args.calls.items index n so.at so.before so.replies so.calls.items) none c.loop-index.invariant.so in
     let found = subst (λ found. IsCallFound (settles call) list so.at (cut so.before call (drop so.at list)) found) c.in-Ok.is c.in_ok-found.ensures in
     let passes = (c.a_call_is_cut_as_it_is_spelt.ensures.each plan c.args.worker).passes call in
-    let done = completed settles closes cut script list c.args.from index so.at so.before so.replies call there here passes c.in-Ok.spelt found in
+    let done = completed settles closes cut script list c.args.from c.args.calls.items index so.at so.before so.replies so.calls.items call there here passes c.in-Ok.spelt found in
     record {
       script = c.loop-index.invariant.script;
-      so = subst (λ (next : Progress). SoFar settles closes cut script list c.args.from (index + 1) next.passes next.at next.before next.replies) (sym c.in_ok-progress-in-Ok.ensures) done;
+      so = subst (λ (next : Progress). SoFar settles closes cut script list c.args.from c.args.calls.items (index + 1) next.passes next.at next.before next.replies next.calls.items) (sym c.in_ok-progress-in-Ok.ensures) done;
+      room = ap (λ (next : Progress). next.calls.room) c.in_ok-progress-in-Ok.ensures ∙ c.loop-index.invariant.room;
     }
 
 pub returns-in-Ok-spell_closing : goal.returns-in-Ok-spell_closing
@@ -80,9 +83,9 @@ returns-in-Ok-spell_closing c =
     let index = c.loop-index.index in
     let so = c.loop-index.progress in
     let all : length script ≤ index = omega arith in
-    let told = closes_whole settles closes cut script list c.args.from index so.passes so.at so.before so.replies c.loop-index.invariant.so all c.in-Ok-spell_closing.closed c.in-Ok-spell_closing.ensures in
-    subst (λ (calls : List Call). IsLineTold settles (cut_from closes cut 0 0 calls (drop c.args.from list)) c.whole.result) c.loop-index.invariant.script
-    (subst (λ line. IsLineTold settles (cut_from closes cut 0 0 script (drop c.args.from list)) line) (sym c.whole.ensures) told)
+    let told = closes_whole settles closes cut script list c.args.from c.args.calls.items index so.passes so.at so.before so.replies so.calls.items c.loop-index.invariant.so all c.in-Ok-spell_closing.closed c.in-Ok-spell_closing.ensures in
+    subst (λ (calls : List Call). IsLineTold settles (calls_behind c.args.calls.items) (cut_from closes cut 0 0 calls (drop c.args.from list)) c.whole.result) c.loop-index.invariant.script
+    (subst (λ line. IsLineTold settles (calls_behind c.args.calls.items) (cut_from closes cut 0 0 script (drop c.args.from list)) line) (sym c.whole.ensures) told)
 
 pub returns-in-Err-spell_closing : goal.returns-in-Err-spell_closing
 returns-in-Err-spell_closing c =
@@ -95,6 +98,6 @@ returns-in-Err-spell_closing c =
     let index = c.loop-index.index in
     let so = c.loop-index.progress in
     let all : length script ≤ index = omega arith in
-    let told = closes_otherwise settles closes cut script list c.args.from index so.passes so.at so.before so.replies c.loop-index.invariant.so all c.in-Err-spell_closing.stop c.in-Err-spell_closing.ensures in
-    subst (λ (calls : List Call). IsLineTold settles (cut_from closes cut 0 0 calls (drop c.args.from list)) c.ended-in-Err-spell_closing.result) c.loop-index.invariant.script
-    (subst (λ line. IsLineTold settles (cut_from closes cut 0 0 script (drop c.args.from list)) line) (sym c.ended-in-Err-spell_closing.ensures) told)
+    let told = closes_otherwise settles closes cut script list c.args.from c.args.calls.items index so.passes so.at so.before so.replies so.calls.items c.loop-index.invariant.so all c.in-Err-spell_closing.stop c.in-Err-spell_closing.ensures in
+    subst (λ (calls : List Call). IsLineTold settles (calls_behind c.args.calls.items) (cut_from closes cut 0 0 calls (drop c.args.from list)) c.ended-in-Err-spell_closing.result) c.loop-index.invariant.script
+    (subst (λ line. IsLineTold settles (calls_behind c.args.calls.items) (cut_from closes cut 0 0 script (drop c.args.from list)) line) (sym c.ended-in-Err-spell_closing.ensures) told)

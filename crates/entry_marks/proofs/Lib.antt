@@ -1,0 +1,2 @@
+pub mod FoundMarks
+pub mod MarkLemmas

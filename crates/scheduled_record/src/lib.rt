@@ -1,0 +1,4 @@
+//! The record of a run by schedule, as a function of its trace: what explains the outcome of a run that is done.
+#![tactic(auto)]
+
+pub mod laws;

@@ -1,0 +1,6 @@
+mod GroupTelling
+mod Keeping
+mod LockTelling
+mod Renewed
+mod Rooms
+mod Telling

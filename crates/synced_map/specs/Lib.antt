@@ -1,0 +1,3 @@
+pub mod NoteProps
+pub mod SyncedCalls
+pub mod Telling

@@ -1,0 +1,4 @@
+pub mod Replies
+pub mod Deeds
+pub mod Items
+pub mod Lists
