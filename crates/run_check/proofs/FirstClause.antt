@@ -31,10 +31,10 @@ at_place End = refl
 at_place Stop = refl
 at_place Report = refl
 
-same_place : (c d : Clause) → place_of c ≡ place_of d → c ≡ d
+pub same_place : (c d : Clause) → place_of c ≡ place_of d → c ≡ d
 same_place c d same = sym (at_place c) ∙ ap clause_at same ∙ at_place d
 
-up_to_last : (c : Clause) → place_of c ≤ 8
+pub up_to_last : (c : Clause) → place_of c ≤ 8
 up_to_last Spell = omega arith
 up_to_last Legal = omega arith
 up_to_last Front = omega arith

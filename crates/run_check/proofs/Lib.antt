@@ -20,3 +20,6 @@ pub mod SpeltClaims
 pub mod ToldShared
 pub mod SpellHolds
 pub mod MarkedClaims
+pub mod PlacedClaims
+pub mod PlacedVerdicts
+pub mod PlacedCalls

@@ -119,14 +119,14 @@ made_unmarked : (worker : ℕ) (front : List ℕ) (sketch : Sketch) → unmarked
 made_unmarked worker front (sketches.Shared call reply place) = refl
 made_unmarked worker front (sketches.Entered object number deed) = refl
 
-told_unmarked : (worker : ℕ) (items : List Sketched) → map unmarked_item (map (told_item worker) items) ≡ map (told_item worker) items
+pub told_unmarked : (worker : ℕ) (items : List Sketched) → map unmarked_item (map (told_item worker) items) ≡ map (told_item worker) items
 told_unmarked worker [] = refl
 told_unmarked worker (s ∷ items) =
     ap (λ (m : Made). record { made = m; call = s.index; number = number_of s.sketch } ∷ map unmarked_item (map (told_item worker) items)) (made_unmarked worker s.front s.sketch)
     ∙ ap (λ (xs : List ToldItem). told_item worker s ∷ xs) (told_unmarked worker items)
 
 -- an account of these lines alone
-abbrev spelt_account : Spelling → List Line → Account
+abbrev pub spelt_account : Spelling → List Line → Account
 spelt_account found lines = record { history = []; journals = []; lines = lines; left = record { replies = map (λ (line : SpeltLine). line.replies) found.lines; ends = [] } }
 
 module _ (told : Told) (found : Spelling) (are : AreSpeltTo told.plan told.items told.plan.workers found) where
