@@ -1,121 +1,187 @@
--- A list whose items each keep the front law behind the one before them keeps it.
-use Rattle.std.proofs.Common.{◌≡◌, ◌⊎◌, inl, inr, ℕ, zero, suc, ◌+◌, ◌-◌, ◌<◌, ◌≤◌, List, [], ◌∷◌, map, length, get_or, take, Some, slice_get, slice_index, refl, sym, ap, ◌∙◌, add-one, arith}
-use Rattle.std.proofs.Math.Nat.{eq-or-lt_of_le}
-use Rattle.std.proofs.lemmas.Option.{get_or_from_slice_get, slice_get_within, slice_get-get_or}
-use Rattle.sync_model.specs.Front.{AtLeast}
-use Rattle.sync_model.specs.declared.item.SharedEntry.{SharedEntry}
-use Rattle.run_record.specs.declared.made.Made.{Made}
-use Rattle.run_record.specs.declared.made.Made.TheVariants.{Shared, Entered}
-use Rattle.run_record.specs.Explains.{KeepsFronts}
-use Rattle.run_record.specs.Record.{ObjectEntry, front_of, shared_in}
-use Rattle.run_check.specs.Fronts.{IsBehind, IsInOrder}
+-- What is known of each worker, line by line.
+use Rattle.std.proofs.Common.{◌≡◌, ◌↔◌, ◌⊎◌, inl, inr, ℕ, suc, ◌+◌, ◌<◌, ◌≤◌, Bool, true, false, cond, ◌==◌, nat_lt, List, [], ◌∷◌, map, length, replicate, set, get_or, drop, Option, Some, None, slice_get, slice_index, refl, sym, ap, ◌∙◌, subst, arith, add-one}
+use Rattle.std.proofs.Math.Seq.{drop-cons}
+use Rattle.std.proofs.lemmas.Bool.{eq-eqb, eqb-true, false≢true, lt-ltb, ltb-true}
+use Rattle.std.proofs.lemmas.List.{drop_all, get_or_past, get_or-replicate, length-map, length-replicate, length-set}
+use Rattle.std.proofs.lemmas.Option.{get_or_from_slice_get, same_Some, slice_get_cases, slice_get-map, slice_get_within}
+use Rattle.std.specs.Option.{option_map}
+use Rattle.starts_core.proofs.Places.{get-set_other, get-set_within}
+use Rattle.record_text.specs.declared.item_line.ItemLine.{ItemLine}
+use Rattle.record_text.specs.declared.item_line.Said.{Said}
+use Rattle.record_text.specs.declared.item_line.Said.TheVariants.{Call, Begin, Next, Entered}
+use Rattle.record_text.specs.Told.{items_of}
+use Rattle.run_check.specs.declared.fronts.Known.{Known}
+use Rattle.run_check.specs.Fronts.{AllMade, AllStand, AreKnown, MayStand, SomeFails, Standing, at_start, behind_line, behind_lines, last_of, one_call, standing}
 
--- the next item's calls
-counted_suc : (list : List Made) (i : ℕ) (x : Made) → slice_get list i ≡ Some x → length (shared_in (take (suc i) list)) ≡ length (shared_in (take i list)) + length (shared_in (x ∷ []))
-counted_suc [] i x at = absurd cc
-counted_suc (y ∷ list) zero x at = let same : y ≡ x = cc in ap (λ (z : Made). length (shared_in (z ∷ []))) same ∙ (let none : length (shared_in (x ∷ [])) ≡ 0 + length (shared_in (x ∷ [])) = omega arith in none)
-counted_suc (Shared y ∷ list) (suc i) x at = let rest = counted_suc list i x at in omega (arith, rest)
-counted_suc (Entered object entry ∷ list) (suc i) x at = counted_suc list i x at
+-- how many calls a worker's lines are of; none, where there is no such worker
+abbrev pub calls_by : ℕ → List ItemLine → ℕ → ℕ
+calls_by n items worker = cond (nat_lt worker n) (last_of items worker).calls 0
 
-pub counted : (list : List Made) (i : ℕ) (x : Made) → slice_get list i ≡ Some x → length (shared_in (take (i + 1) list)) ≡ length (shared_in (take i list)) + length (shared_in (x ∷ []))
-counted list i x at = ap (λ (n : ℕ). length (shared_in (take n list))) (add-one i) ∙ counted_suc list i x at
+-- the front law along the lines of the first n workers: each may stand where it does, and the last front of each worker counts calls that were made
+pub record KeepFronts (n : ℕ) (items : List ItemLine) : Type 0 where
+  pub each : (worker : ℕ) → worker < n → AllStand worker at_start (items_of items worker)
+  pub made : (worker other : ℕ) → worker < n → slice_index (last_of items worker).front other ≤ calls_by n items other
 
-pub taken_all : (list : List Made) (n : ℕ) → length list ≤ n → take n list ≡ list
-taken_all [] zero all = refl
-taken_all [] (suc n) all = refl
-taken_all (x ∷ list) zero all = absurd (omega (arith, all))
-taken_all (x ∷ list) (suc n) all = ap (λ l. x ∷ l) (taken_all list n (omega (arith, all)))
+-- ---- one worker
 
-module _ (worker : ℕ) (list : List Made) (totals : List ℕ) where
-  -- the first n items keep the law
-  pub record InOrderTo (n : ℕ) : Type 0 where
-    pub rises : (i j : ℕ) (x y : Made) → i < j → j < n → slice_get list i ≡ Some x → slice_get list j ≡ Some y → AtLeast (front_of y) (front_of x)
-    pub own : (i : ℕ) (x : Made) → i < n → slice_get list i ≡ Some x → slice_index (front_of x) worker ≡ length (shared_in (take i list))
-    pub made : (i : ℕ) (x : Made) → i < n → slice_get list i ≡ Some x → AtLeast totals (front_of x)
+-- what stands so far of a worker, and what its other lines come to behind it, is what all its lines come to
+pub record StandsTo (items : List ItemLine) (i worker : ℕ) (s : Standing) : Type 0 where
+  pub all : AllStand worker at_start (items_of items worker) ↔ AllStand worker s (items_of (drop i items) worker)
+  pub last : last_of items worker ≡ behind_lines s (items_of (drop i items) worker)
+  pub few : s.calls ≤ i
 
-  pub none_in_order : InOrderTo 0
-  none_in_order = record { rises = λ i j x y before below. absurd (omega (arith, below)); own = λ i x below. absurd (omega (arith, below)); made = λ i x below. absurd (omega (arith, below)) }
+-- the line at a place, before those behind it
+pub line_next : (items : List ItemLine) (i : ℕ) (line : ItemLine) → i < length items → line ≡ get_or items i line → drop i items ≡ line ∷ drop (i + 1) items
+line_next items i line below is = drop-cons items i line below ∙ ap (λ (l : ItemLine). l ∷ drop (suc i) items) (sym is) ∙ ap (λ n. line ∷ drop n items) (sym (add-one i))
 
-  pub one_more : (n : ℕ) → InOrderTo n → IsBehind worker list totals n → InOrderTo (n + 1)
-  one_more n so_far next = record {
-    rises = λ i j x y before below at_i at_j. rises_by i j x y before at_i at_j (eq-or-lt_of_le {n = j} {m = n} (omega (arith, below)));
-    own = λ i x below at. own_by i x at (eq-or-lt_of_le {n = i} {m = n} (omega (arith, below)));
-    made = λ i x below at. made_by i x at (eq-or-lt_of_le {n = i} {m = n} (omega (arith, below)));
-  } where
-    own_by : (i : ℕ) (x : Made) → slice_get list i ≡ Some x → (i ≡ n) ⊎ (i < n) → slice_index (front_of x) worker ≡ length (shared_in (take i list))
-    own_by i x at (inl same) = next.own x (ap (slice_get list) (sym same) ∙ at) ∙ ap (λ (k : ℕ). length (shared_in (take k list))) (sym same)
-    own_by i x at (inr below) = so_far.own i x below at
+one_more : (line : ItemLine) (i : ℕ) (s : Standing) → s.calls ≤ i → (behind_line s line).calls ≤ i + 1
+one_more line i s few = by line.said where
+  by : (said : Said) → s.calls + one_call said ≤ i + 1
+  by (Call place reply) = omega (arith, few)
+  by (Begin reach) = omega (arith, few)
+  by (Next reach shown) = omega (arith, few)
+  by (Entered object number event answer) = omega (arith, few)
 
-    made_by : (i : ℕ) (x : Made) → slice_get list i ≡ Some x → (i ≡ n) ⊎ (i < n) → AtLeast totals (front_of x)
-    made_by i x at (inl same) = next.made x (ap (slice_get list) (sym same) ∙ at)
-    made_by i x at (inr below) = so_far.made i x below at
+module _ (items : List ItemLine) (i : ℕ) (line : ItemLine) (next : drop i items ≡ line ∷ drop (i + 1) items) where
+  abbrev left : ℕ → List ItemLine
+  left worker = items_of (drop (i + 1) items) worker
 
-    -- the item before number n
-    last : (y : Made) → slice_get list n ≡ Some y → slice_get list (n - 1) ≡ Some (get_or list (n - 1) y)
-    last y at = let inside = slice_get_within list n y at in slice_get-get_or list (n - 1) y (omega (arith, inside))
+  here : (worker : ℕ) (b : Bool) → (line.worker == worker) ≡ b → items_of (drop i items) worker ≡ cond b (line ∷ left worker) (left worker)
+  here worker b is = ap (λ (ls : List ItemLine). items_of ls worker) next ∙ ap (λ (c : Bool). cond c (line ∷ left worker) (left worker)) is
 
-    rises_by : (i j : ℕ) (x y : Made) → i < j → slice_get list i ≡ Some x → slice_get list j ≡ Some y → (j ≡ n) ⊎ (j < n) → AtLeast (front_of y) (front_of x)
-    rises_by i j x y before at_i at_j (inr below) = so_far.rises i j x y before below at_i at_j
-    rises_by i j x y before at_i at_j (inl same) = by (eq-or-lt_of_le {n = i} {m = n - 1} (omega (arith, before, same))) where
-      at_n : slice_get list n ≡ Some y
-      at_n = ap (slice_get list) (sym same) ∙ at_j
+  pub other_stands : (worker : ℕ) (s : Standing) → (line.worker == worker) ≡ false → StandsTo items i worker s → StandsTo items (i + 1) worker s
+  other_stands worker s apart to =
+      let same = here worker false apart in
+      let few = to.few in
+      record {
+        all = (λ all. subst (AllStand worker s) same (to.all.0 all), λ all. to.all.1 (subst (AllStand worker s) (sym same) all));
+        last = to.last ∙ ap (behind_lines s) same;
+        few = omega (arith, few);
+      }
 
-      by : (i ≡ n - 1) ⊎ (i < n - 1) → AtLeast (front_of y) (front_of x)
-      by (inl e) d = next.rises x y (omega (arith, before, same)) (ap (slice_get list) (sym e) ∙ at_i) at_n d
-      by (inr below) d =
-          let z : Made = get_or list (n - 1) y in
-          let at_z = last y at_n in
-          let one = so_far.rises i (n - 1) x z below (omega (arith, below)) at_i at_z d in
-          let two = next.rises z y (omega (arith, before, same)) at_z at_n d in
-          omega (arith, one, two)
+  module _ (s : Standing) (to : StandsTo items i line.worker s) where
+    own : items_of (drop i items) line.worker ≡ line ∷ left line.worker
+    own = here line.worker true (eq-eqb line.worker line.worker refl)
 
-  pub all_in_order : (n : ℕ) → length list ≤ n → InOrderTo n → IsInOrder worker list totals
-  all_in_order n all so_far = record {
-    rises = λ i j x y before at_i at_j. so_far.rises i j x y before (within j y at_j) at_i at_j;
-    own = λ i x at. so_far.own i x (within i x at) at;
-    made = λ i x at. so_far.made i x (within i x at) at;
-  } where
-    within : (i : ℕ) (x : Made) → slice_get list i ≡ Some x → i < n
-    within i x at = let inside = slice_get_within list i x at in omega (arith, inside, all)
-
-  pub each_behind : IsInOrder worker list totals → (i : ℕ) → IsBehind worker list totals i
-  each_behind law i = record { rises = λ x y before at_i at_j. law.rises (i - 1) i x y (omega (arith, before)) at_i at_j; own = λ x at. law.own i x at; made = λ x at. law.made i x at }
-
--- ---- all lists
-
-count_at : (lists : List (List Made)) (worker : ℕ) → slice_index (map (λ list. length (shared_in list)) lists) worker ≡ length (shared_in (get_or lists worker []))
-count_at [] worker = refl
-count_at (list ∷ lists) zero = refl
-count_at (list ∷ lists) (suc worker) = count_at lists worker
-
-there : (lists : List (List Made)) (worker i : ℕ) (x : Made) → slice_get (get_or lists worker []) i ≡ Some x → slice_get lists worker ≡ Some (get_or lists worker [])
-there [] worker i x at = absurd cc
-there (list ∷ lists) zero i x at = refl
-there (list ∷ lists) (suc worker) i x at = there lists worker i x at
-
-pub whole : (lists : List (List Made)) (totals : List ℕ) (history : List SharedEntry) (journals : List (List ObjectEntry)) → totals ≡ map (λ list. length (shared_in list)) lists
-    → ((worker : ℕ) (list : List Made) → slice_get lists worker ≡ Some list → IsInOrder worker list totals) → KeepsFronts (record { history = history; journals = journals; lists = lists })
-whole lists totals history journals totals_are each = record {
-  rises = λ worker i j x y before at_i at_j. (each worker (get_or lists worker []) (there lists worker i x at_i)).rises i j x y before at_i at_j;
-  own = λ worker i x at. (each worker (get_or lists worker []) (there lists worker i x at)).own i x at;
-  made = λ worker i other x at.
-      let least = (each worker (get_or lists worker []) (there lists worker i x at)).made i x at other in
-      let same = ap (λ (xs : List ℕ). slice_index xs other) totals_are ∙ count_at lists other in
-      omega (arith, least, same);
-}
-
-held : (lists : List (List Made)) (worker : ℕ) (list : List Made) → slice_get lists worker ≡ Some list → get_or lists worker [] ≡ list
-held lists worker list at = get_or_from_slice_get lists worker list [] at
-
-pub parts : (lists : List (List Made)) (totals : List ℕ) (history : List SharedEntry) (journals : List (List ObjectEntry)) → totals ≡ map (λ list. length (shared_in list)) lists
-    → KeepsFronts (record { history = history; journals = journals; lists = lists }) → (worker : ℕ) (list : List Made) → slice_get lists worker ≡ Some list → IsInOrder worker list totals
-parts lists totals history journals totals_are law worker list at =
-    let same = held lists worker list at in
-    record {
-      rises = λ i j x y before at_i at_j. law.rises worker i j x y before (ap (λ (l : List Made). slice_get l i) same ∙ at_i) (ap (λ (l : List Made). slice_get l j) same ∙ at_j);
-      own = λ i x at_i. law.own worker i x (ap (λ (l : List Made). slice_get l i) same ∙ at_i) ∙ ap (λ (l : List Made). length (shared_in (take i l))) same;
-      made = λ i x at_i other.
-          let most = law.made worker i other x (ap (λ (l : List Made). slice_get l i) same ∙ at_i) in
-          let total = ap (λ (xs : List ℕ). slice_index xs other) totals_are ∙ count_at lists other in
-          omega (arith, most, total);
+    pub own_stands : MayStand line.worker s line → StandsTo items (i + 1) line.worker (behind_line s line)
+    own_stands may = record {
+      all = (λ all. (subst (AllStand line.worker s) own (to.all.0 all)).1, λ all. to.all.1 (subst (AllStand line.worker s) (sym own) (may, all)));
+      last = to.last ∙ ap (behind_lines s) own;
+      few = one_more line i s to.few;
     }
+
+    pub none_stands : (MayStand line.worker s line → ⊥) → AllStand line.worker at_start (items_of items line.worker) → ⊥
+    none_stands may_not all = may_not (subst (AllStand line.worker s) own (to.all.0 all)).0
+
+-- ---- all workers
+
+apart : (a b : ℕ) → (a ≡ b → ⊥) → (a == b) ≡ false
+apart a b differ = by (a == b) refl where
+  by : (t : Bool) → (a == b) ≡ t → t ≡ false
+  by true is = absurd (differ (eqb-true a b is))
+  by false is = refl
+
+-- a test that fails
+pub not_below : (a b : ℕ) → b ≤ a → nat_lt a b ≡ false
+not_below a b past = by (nat_lt a b) refl where
+  by : (t : Bool) → nat_lt a b ≡ t → t ≡ false
+  by true is = let less = ltb-true a b is in absurd (omega (arith, less, past))
+  by false is = refl
+
+module _ (n : ℕ) (items : List ItemLine) where
+  -- so it is of each of the first n workers
+  pub record KnownTo (i : ℕ) (known : List Known) : Type 0 where
+    pub count : length known ≡ n
+    pub each : (worker : ℕ) (one : Known) → slice_get known worker ≡ Some one → StandsTo items i worker (standing one)
+
+  pub none_known : (known : List Known) → map standing known ≡ replicate n at_start → KnownTo 0 known
+  none_known known are = record { count = count; each = each } where
+    count : length known ≡ n
+    count = sym (length-map known standing) ∙ ap length are ∙ length-replicate n at_start
+
+    each : (worker : ℕ) (one : Known) → slice_get known worker ≡ Some one → StandsTo items 0 worker (standing one)
+    each worker one at =
+        let within = slice_get_within known worker one at in
+        let read : get_or (map standing known) worker at_start ≡ standing one = get_or_from_slice_get (map standing known) worker (standing one) at_start (slice_get-map standing known worker ∙ ap (λ (o : Option Known). option_map standing o) at) in
+        let start : standing one ≡ at_start = sym read ∙ ap (λ (ss : List Standing). get_or ss worker at_start) are ∙ get_or-replicate n worker at_start at_start (omega (arith, within, count)) in
+        subst (StandsTo items 0 worker) (sym start) (record { all = (λ all. all, λ all. all); last = refl; few = omega arith })
+
+  module _ (i : ℕ) (known : List Known) (to : KnownTo i known) (line : ItemLine) (next : drop i items ≡ line ∷ drop (i + 1) items) where
+    pub passed_over : n ≤ line.worker → KnownTo (i + 1) known
+    passed_over past = record {
+      count = to.count;
+      each = λ worker one at.
+          let within = slice_get_within known worker one at in
+          let count = to.count in
+          other_stands items i line next worker (standing one) (apart line.worker worker (λ same. omega (arith, past, within, count, same))) (to.each worker one at);
+    }
+
+    module _ (one : Known) (at : slice_get known line.worker ≡ Some one) where
+      pub few : one.calls ≤ i
+      few = (to.each line.worker one at).few
+
+      pub fails : (MayStand line.worker (standing one) line → ⊥) → SomeFails n items
+      fails may_not =
+          let within = slice_get_within known line.worker one at in
+          let count = to.count in
+          (line.worker, omega (arith, within, count), none_stands items i line next (standing one) (to.each line.worker one at) may_not)
+
+      pub one_known_more : MayStand line.worker (standing one) line → (behind : Known) → standing behind ≡ behind_line (standing one) line → KnownTo (i + 1) (set known line.worker behind)
+      one_known_more may behind is = record { count = length-set known line.worker behind ∙ to.count; each = λ worker other there. by worker other there (line.worker == worker) refl } where
+        by : (worker : ℕ) (other : Known) → slice_get (set known line.worker behind) worker ≡ Some other → (b : Bool) → (line.worker == worker) ≡ b → StandsTo items (i + 1) worker (standing other)
+        by worker other there true mine =
+            let same : line.worker ≡ worker = eqb-true line.worker worker mine in
+            let that : other ≡ behind = same_Some other behind (sym there ∙ ap (slice_get (set known line.worker behind)) (sym same) ∙ get-set_within known line.worker behind (slice_get_within known line.worker one at)) in
+            let own : StandsTo items (i + 1) line.worker (standing behind) = subst (StandsTo items (i + 1) line.worker) (sym is) (own_stands items i line next (standing one) (to.each line.worker one at) may) in
+            subst (λ (k : Known). StandsTo items (i + 1) worker (standing k)) (sym that) (subst (λ (w : ℕ). StandsTo items (i + 1) w (standing behind)) same own)
+        by worker other there false not_mine =
+            let differ : worker ≡ line.worker → ⊥ = λ same. false≢true (sym not_mine ∙ eq-eqb line.worker worker (sym same)) in
+            other_stands items i line next worker (standing other) not_mine (to.each worker other (sym (get-set_other known line.worker worker behind differ) ∙ there))
+
+  pub all_known : (i : ℕ) (known : List Known) → length items ≤ i → KnownTo i known → AreKnown n items known
+  all_known i known all to = record {
+    count = to.count;
+    each = λ worker one at.
+        let none : items_of (drop i items) worker ≡ [] = ap (λ (ls : List ItemLine). items_of ls worker) (drop_all i items all) in
+        let stands = to.each worker one at in
+        (stands.all.1 (subst (AllStand worker (standing one)) (sym none) tt), sym (stands.last ∙ ap (behind_lines (standing one)) none));
+  }
+
+  -- ---- no call is counted that there isn't
+
+  module _ (known : List Known) (are : AreKnown n items known) where
+    abbrev calls_of : Known → ℕ
+    calls_of one = one.calls
+
+    calls_are : (worker : ℕ) → slice_index (map calls_of known) worker ≡ calls_by n items worker
+    calls_are worker = by (slice_get_cases known worker).1 where
+      by : ((one : Known) × (worker < length known) × (slice_get known worker ≡ Some one) × (get_or known worker one ≡ one)) ⊎ ((length known ≤ worker) × (slice_get known worker ≡ None)) → slice_index (map calls_of known) worker ≡ calls_by n items worker
+      by (inl (one, within, there, read)) =
+          let count = are.count in
+          get_or_from_slice_get (map calls_of known) worker one.calls 0 (slice_get-map calls_of known worker ∙ ap (λ (o : Option Known). option_map calls_of o) there)
+          ∙ ap (λ (s : Standing). s.calls) (are.each worker one there).1
+          ∙ sym (ap (λ (b : Bool). cond b (last_of items worker).calls 0) (lt-ltb worker n (omega (arith, within, count))))
+      by (inr (past, none)) =
+          let count = are.count in
+          let long = length-map known calls_of in
+          get_or_past (map calls_of known) worker 0 (omega (arith, past, long)) ∙ sym (ap (λ (b : Bool). cond b (last_of items worker).calls 0) (not_below worker n (omega (arith, past, count))))
+
+    pub kept : AllMade known → KeepFronts n items
+    kept made = record { each = λ worker below. (at worker below).2.0; made = λ worker other below. let (one, there, stands) = at worker below in by one worker other stands.1 (made worker one there other) } where
+      at : (worker : ℕ) → worker < n → (one : Known) × (slice_get known worker ≡ Some one) × (AllStand worker at_start (items_of items worker) × (standing one ≡ last_of items worker))
+      at worker below = from (slice_get_cases known worker).1 where
+        from : ((one : Known) × (worker < length known) × (slice_get known worker ≡ Some one) × (get_or known worker one ≡ one)) ⊎ ((length known ≤ worker) × (slice_get known worker ≡ None)) → (one : Known) × (slice_get known worker ≡ Some one) × (AllStand worker at_start (items_of items worker) × (standing one ≡ last_of items worker))
+        from (inl (one, within, there, read)) = (one, there, are.each worker one there)
+        from (inr (past, none)) = let count = are.count in absurd (omega (arith, past, count, below))
+
+      by : (one : Known) (worker other : ℕ) → standing one ≡ last_of items worker → slice_index one.front.now other ≤ slice_index (map calls_of known) other → slice_index (last_of items worker).front other ≤ calls_by n items other
+      by one worker other is least = let calls = calls_are other in let front = ap (λ (s : Standing). slice_index s.front other) is in omega (arith, least, calls, front)
+
+    pub are_made : KeepFronts n items → AllMade known
+    are_made keep worker one there other =
+        let within = slice_get_within known worker one there in
+        let count = are.count in
+        let least = keep.made worker other (omega (arith, within, count)) in
+        let calls = calls_are other in
+        let front = ap (λ (s : Standing). slice_index s.front other) (are.each worker one there).1 in
+        omega (arith, least, calls, front)

@@ -1,4 +1,5 @@
 pub mod FrontOrder
+pub mod ToldFronts
 pub mod OnObjects
 pub mod SpeltOn
 pub mod FirstClause
