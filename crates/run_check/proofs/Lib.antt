@@ -20,3 +20,7 @@ pub mod SpeltClaims
 pub mod ToldShared
 pub mod SpellHolds
 pub mod MarkedClaims
+pub mod JournalParts
+pub mod JournalClauses
+pub mod JournalEntries
+pub mod JournalStages
