@@ -1,5 +1,5 @@
 -- The stages of `machine` and `edge`: what holds of each account, by the journals that were found.
-use Rattle.std.proofs.Common.{◌≡◌, ◌↔◌, List, sym, ap, ◌∙◌, subst, arith}
+use Rattle.std.proofs.Common.{◌≡◌, ◌↔◌, List, sym, subst, arith}
 use Rattle.workload.specs.Plan.{Plan}
 use Rattle.run_record.specs.Objects.{object_count}
 use Rattle.run_record.specs.Record.{ObjectEntry}

@@ -1,4 +1,4 @@
-use Rattle.std.proofs.Common.{◌≡◌, ◌≤◌, arith}
+use Rattle.std.proofs.Common.{◌≤◌, arith}
 use Rattle.workload.specs.declared.limits.TheConstants.{MAX_WORKERS}
 use Rattle.run_check.proofs.JournalEntries.{entries_are, fronts_are_small}
 use Rattle.run_check.proofs.journals.entries_are_found_as_they_are_told.Goals as goal

@@ -3,7 +3,6 @@ use Rattle.std.proofs.lemmas.Bool.{false≢true}
 use Rattle.workload.specs.Readable.{IsReadable}
 use Rattle.run_record.specs.Objects.{object_count}
 use Rattle.run_record.specs.Record.{ObjectEntry}
-use Rattle.object_checks.specs.declared.journals.item.JournalItem.{JournalItem}
 use Rattle.object_checks.specs.declared.journals.row.Row.{Row}
 use Rattle.object_checks.specs.JournalItems.{AreJournals, journals_in}
 use Rattle.object_checks.specs.JournalParts.{FollowMachines}
