@@ -24,3 +24,7 @@ pub mod MarkedClaims
 pub mod PlacedClaims
 pub mod PlacedVerdicts
 pub mod PlacedCalls
+pub mod JournalParts
+pub mod JournalClauses
+pub mod JournalEntries
+pub mod JournalStages

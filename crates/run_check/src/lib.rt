@@ -4,6 +4,7 @@
 pub mod contents;
 pub mod ends;
 pub mod fronts;
+pub mod journals;
 mod key_order;
 pub mod laws;
 pub mod report;
