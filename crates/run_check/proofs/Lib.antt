@@ -20,3 +20,8 @@ pub mod SpeltClaims
 pub mod ToldShared
 pub mod SpellHolds
 pub mod MarkedClaims
+pub mod Parts
+pub mod FoundLines
+pub mod HaltsAlike
+pub mod EndStage
+pub mod StopStage
