@@ -25,3 +25,6 @@ pub mod FoundLines
 pub mod HaltsAlike
 pub mod EndStage
 pub mod StopStage
+pub mod KeyedCalls
+pub mod ShownKeys
+pub mod ReportStage

@@ -6,6 +6,8 @@ pub mod ends;
 pub mod fronts;
 mod key_order;
 pub mod laws;
+pub mod outcome;
 pub mod report;
+mod shown_keys;
 pub mod spelling;
 pub mod stops;
