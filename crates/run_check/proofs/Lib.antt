@@ -28,3 +28,4 @@ pub mod StopStage
 pub mod KeyedCalls
 pub mod ShownKeys
 pub mod ReportStage
+pub mod EndedText

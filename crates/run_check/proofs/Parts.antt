@@ -31,7 +31,7 @@ use Rattle.run_check.proofs.Endings.{all_again, endings}
 use Rattle.run_check.proofs.ToldLists.{mapped}
 
 -- what a run left behind, however it ended
-left_behind : (misused : Option Misuse) (left : Report) → (left_by (outcome_by misused left)).replies ≡ left.replies
+pub left_behind : (misused : Option Misuse) (left : Report) → (left_by (outcome_by misused left)).replies ≡ left.replies
 left_behind None left = refl
 left_behind (Some misuse) left = refl
 
@@ -113,3 +113,18 @@ module _ (claim : Claim) (account : Account) (lines : List Line) (left : Report)
   up_to_end before spelt ends clauses.End below = ends
   up_to_end before spelt ends clauses.Stop below = absurd (omega (arith, below))
   up_to_end before spelt ends clauses.Report below = absurd (omega (arith, below))
+
+-- the account with other journals
+abbrev pub with_journals : Account → List (List ObjectEntry) → Account
+with_journals account journals = record { history = account.history; journals = journals; lines = account.lines; left = account.left }
+
+module _ (claim : Claim) (account : Account) (journals : List (List ObjectEntry)) where
+  -- it keeps the clauses before `machine`
+  pub up_to_machine : ((clause : Clause) → place_of clause ≤ place_of clauses.Range → Holds claim account clause) → HasJournals claim (with_journals account journals)
+      → (clause : Clause) → place_of clause ≤ place_of clauses.Machine → Holds claim (with_journals account journals) clause
+  up_to_machine before has clauses.Spell below = keeps_spell claim account (with_journals account journals) refl refl (before clauses.Spell (omega arith))
+  up_to_machine before has clauses.Legal below = keeps_legal claim account (with_journals account journals) refl (before clauses.Legal (omega arith))
+  up_to_machine before has clauses.Front below = keeps_fronts claim account (with_journals account journals) (before clauses.Front (omega arith))
+  up_to_machine before has clauses.Range below = keeps_ranges claim account (with_journals account journals) refl (before clauses.Range (omega arith))
+  up_to_machine before has clauses.Machine below = has
+  up_to_machine before has clause below = absurd (omega (arith, below))

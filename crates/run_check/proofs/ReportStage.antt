@@ -38,7 +38,7 @@ use Rattle.record_clauses.specs.declared.clause.Clause.TheVariants as clauses
 use Rattle.record_clauses.specs.PairOrder.{RepliesApart, ShowKeys}
 use Rattle.record_clauses.specs.Verdicts as claims
 use Rattle.run_check.specs.declared.spelling.Spelling.{Spelling}
-use Rattle.run_check.specs.Found.{IsFoundOf, IsStoppedOf, ends_after}
+use Rattle.run_check.specs.Found.{IsFoundOf, IsStoppedOf, ends_after, found_outcome}
 use Rattle.run_check.specs.Tells.{Tells}
 use Rattle.run_check.proofs.EndStage.{scripts}
 use Rattle.run_check.proofs.FoundLines.{HaveOneOrder, replies_found}
@@ -68,11 +68,11 @@ UpToStop claim account = (clause : Clause) → claims.place_of clause ≤ claims
 
 module _ (laws : Laws) (told : Told) (found : Spelling) (marked : List (List Item)) (history : List SharedEntry) (claim : Claim) (is : IsStoppedOf told found marked history claim) where
   -- what was found that the run left behind
-  abbrev pub left_found : Report
+  abbrev left_found : Report
   left_found = record { replies = map (λ (line : SpeltLine). line.replies) found.lines; ends = ends_after told.plan history told.misused }
 
-  abbrev pub outcome_is : Outcome
-  outcome_is = outcome_by told.misused left_found
+  abbrev outcome_is : Outcome
+  outcome_is = found_outcome told.plan told.misused found.lines history
 
   module _ (account : Account) (holds : UpToStop claim account) where
     spelt : IsSpelt claim account
@@ -175,9 +175,6 @@ module _ (laws : Laws) (told : Told) (found : Spelling) (marked : List (List Ite
 
   pub few_shown : shows_to MAX_KEYS outcome_is ≡ true
   few_shown = shows_few is.stopped.0 is.stopped.1
-
-  pub all_workers : length left_found.replies ≤ told.plan.workers
-  all_workers = let long = length-map found.lines (λ (line : SpeltLine). line.replies) in let count = is.is.spelt.lines in omega (arith, long, count)
 
   pub report_stage : (joined told.report ≡ report_text told.plan outcome_is) ↔ claims.UpTo claim clauses.Report
   report_stage = (

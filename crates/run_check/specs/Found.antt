@@ -1,6 +1,7 @@
 -- What was found of an account, clause by clause.
-use Rattle.std.specs.Prelude.{◌≡◌, ℕ, Bool, true, not, List, [], ◌∷◌, ◌++◌, All, Option, Some, None, slice_get}
+use Rattle.std.specs.Prelude.{◌≡◌, ℕ, Bool, true, not, List, [], ◌∷◌, ◌++◌, map, All, Option, Some, None, slice_get}
 use Rattle.std.specs.List.{list_all}
+use Rattle.script_calls.specs.declared.outcome.Outcome.{Outcome}
 use Rattle.sync_model.specs.declared.item.Item.{Item}
 use Rattle.sync_model.specs.declared.item.SharedEntry.{SharedEntry}
 use Rattle.sync_model.specs.SharedHistory.{contents_after}
@@ -18,7 +19,7 @@ use Rattle.shared_checks.specs.Parts.{LawfulHistory}
 use Rattle.list_checks.specs.declared.spell.line.SpeltLine.{SpeltLine}
 use Rattle.list_checks.specs.SpellLines.{line_end}
 use Rattle.record_text.specs.Told.{Told}
-use Rattle.record_clauses.specs.Account.{Account, Claim, record_of}
+use Rattle.record_clauses.specs.Account.{Account, Claim, outcome_by, record_of}
 use Rattle.record_clauses.specs.declared.clause.Clause.TheVariants.{Stop}
 use Rattle.record_clauses.specs.Lists.{is_halt, without_halts}
 use Rattle.record_clauses.specs.Verdicts as claims
@@ -43,6 +44,10 @@ pub record IsStoppedOf (told : Told) (found : Spelling) (marked : List (List Ite
 abbrev pub ends_after : Plan → List SharedEntry → Option Misuse → List End
 ends_after plan history None = ends_in plan (contents_after (contents_of plan) history)
 ends_after plan history (Some misuse) = []
+
+-- what a run came to that ended so, whose lists spell these lines, with this history of its calls
+abbrev pub found_outcome : Plan → Option Misuse → List SpeltLine → List SharedEntry → Outcome
+found_outcome plan misused lines history = outcome_by misused (record { replies = map (λ (line : SpeltLine). line.replies) lines; ends = ends_after plan history misused })
 
 -- a list whose halts stand behind all else, and may stand there where the list ends so
 abbrev pub HaltsBehind : List Made → LineEnd → Type 0
