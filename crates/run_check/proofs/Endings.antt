@@ -1,16 +1,13 @@
 -- What is so of each found end of a list is so of each line's.
-use Rattle.std.proofs.Common.{◌≡◌, ◌↔◌, ◌⊎◌, inl, inr, ℕ, ◌+◌, ◌<◌, ◌≤◌, List, [], ◌∷◌, map, length, get_or, Option, Some, None, sym, ap, ◌∙◌, subst, arith}
+use Rattle.std.proofs.Common.{◌≡◌, ◌⊎◌, inl, inr, ℕ, ◌+◌, ◌<◌, ◌≤◌, List, [], ◌∷◌, map, length, get_or, sym, subst, arith}
 use Rattle.std.specs.Prelude.{All, slice_index_or}
 use Rattle.std.proofs.Math.Nat.{eq-or-lt_of_le}
 use Rattle.std.proofs.lemmas.List.Elements.{All-cons, All-head, All-nil, All-tail, at_read}
-use Rattle.sync_types.specs.declared.misuse.Misuse.{Misuse}
-use Rattle.run_record.specs.Explains.{IsAtEnd}
-use Rattle.run_record.specs.Lines.{Line, LineEnd}
+use Rattle.run_record.specs.Explains.{HasEnded, IsAtEnd}
+use Rattle.run_record.specs.Lines.{Line, LineEnd, halted, misused, never, stayed, stopped, unfinished, waits, whole}
 use Rattle.list_checks.specs.declared.spell.line.SpeltLine.{SpeltLine}
 use Rattle.list_checks.specs.SpellLines.{line_end}
-use Rattle.record_clauses.specs.Account.{Account, Claim}
-use Rattle.record_clauses.specs.Clauses.{HasEnds}
-use Rattle.run_check.specs.Found.{AreFound, ends_by}
+use Rattle.record_clauses.specs.Account.{Account}
 
 pub head_of : {X : Type 0} (x y : X) (xs ys : List X) → x ∷ xs ≡ y ∷ ys → x ≡ y
 head_of x y xs ys e = cc
@@ -24,20 +21,32 @@ endings lines = map (λ (line : Line). line.ending) lines
 abbrev pub found_endings : List SpeltLine → List LineEnd
 found_endings found = map (λ (line : SpeltLine). line_end line.ending) found
 
+-- the account's lines end as what was found of them
+abbrev pub AreFound : List SpeltLine → Account → Type 0
+AreFound found account = endings account.lines ≡ found_endings found
+
+-- what is so of what each of these is, is so of what each of those is
+pub all_along : {X Y Z : Type 0} (P : Z → Type 0) (f : X → Z) (g : Y → Z) (xs : List X) (ys : List Y) → map f xs ≡ map g ys → All (λ x. P (f x)) xs → All (λ y. P (g y)) ys
+all_along P f g xs [] same all = All-nil (λ y. P (g y))
+all_along P f g [] (y ∷ ys) same all = absurd cc
+all_along P f g (x ∷ xs) (y ∷ ys) same all =
+    All-cons (λ y. P (g y)) y ys (subst P (head_of (f x) (g y) _ _ same) (All-head (λ x. P (f x)) x xs all)) (all_along P f g xs ys (tail_of (f x) (g y) _ _ same) (All-tail (λ x. P (f x)) x xs all))
+
+abbrev end_of : Line → LineEnd
+end_of line = line.ending
+
+abbrev found_end : SpeltLine → LineEnd
+found_end line = line_end line.ending
+
 module _ (P : LineEnd → Type 0) where
   pub all_of_found : (lines : List Line) (found : List SpeltLine) → endings lines ≡ found_endings found → All (λ (line : SpeltLine). P (line_end line.ending)) found → All (λ (line : Line). P line.ending) lines
-  all_of_found [] found same all = All-nil (λ (line : Line). P line.ending)
-  all_of_found (l ∷ lines) [] same all = absurd cc
-  all_of_found (l ∷ lines) (f ∷ found) same all =
-      All-cons (λ (line : Line). P line.ending) l lines (subst P (sym (head_of l.ending (line_end f.ending) _ _ same)) (All-head (λ (line : SpeltLine). P (line_end line.ending)) f found all))
-      (all_of_found lines found (tail_of l.ending (line_end f.ending) _ _ same) (All-tail (λ (line : SpeltLine). P (line_end line.ending)) f found all))
+  all_of_found lines found same all = all_along P found_end end_of found lines (sym same) all
 
   pub found_of_all : (lines : List Line) (found : List SpeltLine) → endings lines ≡ found_endings found → All (λ (line : Line). P line.ending) lines → All (λ (line : SpeltLine). P (line_end line.ending)) found
-  found_of_all lines [] same all = All-nil (λ (line : SpeltLine). P (line_end line.ending))
-  found_of_all [] (f ∷ found) same all = absurd cc
-  found_of_all (l ∷ lines) (f ∷ found) same all =
-      All-cons (λ (line : SpeltLine). P (line_end line.ending)) f found (subst P (head_of l.ending (line_end f.ending) _ _ same) (All-head (λ (line : Line). P line.ending) l lines all))
-      (found_of_all lines found (tail_of l.ending (line_end f.ending) _ _ same) (All-tail (λ (line : Line). P line.ending) l lines all))
+  found_of_all lines found same all = all_along P end_of found_end lines found same all
+
+  pub all_again : (lines others : List Line) → endings lines ≡ endings others → All (λ (line : Line). P line.ending) lines → All (λ (line : Line). P line.ending) others
+  all_again lines others same all = all_along P end_of end_of lines others same all
 
 -- of a list's first items
 module _ {X : Type 0} (P : X → Type 0) (xs : List X) where
@@ -56,14 +65,16 @@ module _ {X : Type 0} (P : X → Type 0) (xs : List X) where
   pub all_done : (n : ℕ) → length xs ≤ n → AllTo n → All P xs
   all_done n past all k d below = all k d (omega (arith, past, below))
 
--- `end`, by what was found
-pub done_at_end : (claim : Claim) (account : Account) (found : List SpeltLine) (misused : Option Misuse) → AreFound found account → claim.misused ≡ misused → account.left.ends ≡ ends_by claim account misused → misused ≡ None
-    → All (λ (line : SpeltLine). IsAtEnd (line_end line.ending)) found ↔ HasEnds claim account claim.misused
-done_at_end claim account found misused ends is left none =
-    let by : claim.misused ≡ None = is ∙ none in (
-      λ all. subst (HasEnds claim account) (sym by) (all_of_found IsAtEnd account.lines found ends all, left ∙ ap (ends_by claim account) none),
-      λ has. found_of_all IsAtEnd account.lines found ends (subst (HasEnds claim account) by has).0,
-    )
+ended_at_end : (ending : LineEnd) → IsAtEnd ending → HasEnded ending
+ended_at_end whole at = tt
+ended_at_end (misused misuse) at = tt
+ended_at_end (halted misuse) at = tt
+ended_at_end unfinished at = at
+ended_at_end (stayed never) at = tt
+ended_at_end (stayed (stopped misuse)) at = tt
+ended_at_end (stayed waits) at = at
 
-pub misused_at_end : (claim : Claim) (account : Account) (misused : Option Misuse) (misuse : Misuse) → claim.misused ≡ misused → account.left.ends ≡ ends_by claim account misused → misused ≡ Some misuse → HasEnds claim account claim.misused
-misused_at_end claim account misused misuse is left some = subst (HasEnds claim account) (sym (is ∙ some)) (left ∙ ap (ends_by claim account) some)
+-- who is at the end has ended
+pub all_ended : (lines : List Line) → All (λ (line : Line). IsAtEnd line.ending) lines → All (λ (line : Line). HasEnded line.ending) lines
+all_ended [] all = All-nil (λ (line : Line). HasEnded line.ending)
+all_ended (l ∷ lines) all = All-cons (λ (line : Line). HasEnded line.ending) l lines (ended_at_end l.ending (All-head (λ (line : Line). IsAtEnd line.ending) l lines all)) (all_ended lines (All-tail (λ (line : Line). IsAtEnd line.ending) l lines all))

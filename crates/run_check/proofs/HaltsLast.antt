@@ -14,10 +14,14 @@ use Rattle.list_checks.specs.declared.spell.line.SpeltLine.{SpeltLine}
 use Rattle.list_checks.specs.SpellLines.{line_end}
 use Rattle.run_record.specs.Record.{ObjectEntry, journal_of, stop}
 use Rattle.record_clauses.specs.Account.{Account, Claim, made_in, record_of}
-use Rattle.record_clauses.specs.Clauses.{IsStoppedBy}
+use Rattle.record_clauses.specs.Clauses.{HasHalts, IsStoppedBy}
 use Rattle.record_clauses.specs.Lists.{before_halts, halts, is_halt, without_halts}
-use Rattle.run_check.proofs.Endings.{all_of_found, endings, found_endings, found_of_all, head_of, tail_of}
-use Rattle.run_check.specs.Found.{AllHaltsBehind, AreFound, HaltsBehind, IsStoppedSo, StopHolds, are_no_halts, begins_with_halt}
+use Rattle.run_check.proofs.Endings.{AreFound, all_of_found, endings, found_endings, found_of_all, head_of, tail_of}
+use Rattle.run_check.specs.Found.{AllHaltsBehind, HaltsBehind, IsStoppedSo, are_no_halts, begins_with_halt}
+
+-- the clause `stop` holds, with some halts behind the account's lines
+abbrev pub StopHolds : Claim → Account → Type 0
+StopHolds claim account = (lines : List Line) × (map before_halts lines ≡ map before_halts account.lines) × HasHalts claim (record account { lines = lines })
 
 both : (x y : Bool) → (x && y) ≡ true → (x ≡ true) × (y ≡ true)
 both true true h = (refl, refl)
@@ -61,7 +65,7 @@ by_halts misuse (Shared x ∷ list) each = absurd (All-head (IsHalt misuse) (Sha
 by_halts misuse (Entered object entry ∷ list) each =
     ap (λ b. cond b (without_halts list) (Entered object entry ∷ without_halts list)) (ap halts (All-head (IsHalt misuse) (Entered object entry) list each)) ∙ by_halts misuse list (All-tail (IsHalt misuse) (Entered object entry) list each)
 
-are_halts : (ending : LineEnd) (list : List Made) → AreHalts ending list → without_halts list ≡ []
+pub are_halts : (ending : LineEnd) (list : List Made) → AreHalts ending list → without_halts list ≡ []
 are_halts (misused misuse) list are = by_halts misuse list are
 are_halts whole list are = ap without_halts are
 are_halts (halted misuse) list are = ap without_halts are
@@ -82,7 +86,7 @@ behind_forth n list ending none are =
     (drop n list, sym (split n list) ∙ ap (λ xs. xs ++ drop n list) (sym front), are)
 
 -- a list that begins with a halt is halts alone, where those stand behind all else
-only_halts : (ys later : List Made) → begins_with_halt ys ≡ true → ys ≡ without_halts ys ++ later → ys ≡ later
+pub only_halts : (ys later : List Made) → begins_with_halt ys ≡ true → ys ≡ without_halts ys ++ later → ys ≡ later
 only_halts [] later begins e = e
 only_halts (y ∷ ys) later begins e = by (without_halts ys) (none_left ys) (e ∙ ap (λ b. cond b (without_halts ys) (y ∷ without_halts ys) ++ later) begins) where
   by : (left : List Made) → are_no_halts left ≡ true → y ∷ ys ≡ left ++ later → y ∷ ys ≡ later
@@ -165,7 +169,7 @@ behind_at (l ∷ new) (o ∷ old) (x ∷ lists) (g ∷ found) (suc worker) list 
     behind_at new old lists found worker list f (tail_of (before_halts l) (before_halts o) _ _ before) (tail_of o.ending (line_end g.ending) _ _ ends) (tail_of (items_of (before_halts o)) (without_halts x) _ _ are) (tail_of (items_of l) x _ _ items)
     (λ w line there. halts_are (suc w) line there) at at_f
 
-ends_before : (lines : List Line) → endings (map before_halts lines) ≡ endings lines
+pub ends_before : (lines : List Line) → endings (map before_halts lines) ≡ endings lines
 ends_before [] = refl
 ends_before (l ∷ lines) = ap (λ es. l.ending ∷ es) (ends_before lines)
 

@@ -28,3 +28,12 @@ pub mod JournalParts
 pub mod JournalClauses
 pub mod JournalEntries
 pub mod JournalStages
+pub mod Parts
+pub mod FoundLines
+pub mod HaltsAlike
+pub mod EndStage
+pub mod StopStage
+pub mod KeyedCalls
+pub mod ShownKeys
+pub mod ReportStage
+pub mod EndedText

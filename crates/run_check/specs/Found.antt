@@ -1,27 +1,53 @@
 -- What was found of an account, clause by clause.
 use Rattle.std.specs.Prelude.{◌≡◌, ℕ, Bool, true, not, List, [], ◌∷◌, ◌++◌, map, All, Option, Some, None, slice_get}
 use Rattle.std.specs.List.{list_all}
+use Rattle.script_calls.specs.declared.outcome.Outcome.{Outcome}
+use Rattle.sync_model.specs.declared.item.Item.{Item}
+use Rattle.sync_model.specs.declared.item.SharedEntry.{SharedEntry}
 use Rattle.sync_model.specs.SharedHistory.{contents_after}
 use Rattle.sync_types.specs.declared.end.End.{End}
 use Rattle.sync_types.specs.declared.misuse.Misuse.{Misuse}
+use Rattle.workload.specs.Plan.{Plan}
+use Rattle.workload.specs.Readable.{IsReadable}
 use Rattle.run_record.specs.declared.made.Made.{Made}
 use Rattle.run_record.specs.Explains.{HasEnded}
-use Rattle.run_record.specs.Lines.{AreHalts, Line, LineEnd}
+use Rattle.run_record.specs.Lines.{AreHalts, LineEnd}
 use Rattle.run_record.specs.Objects.{contents_of, ends_in}
+use Rattle.run_record.specs.Record.{calls_of}
+use Rattle.shared_checks.specs.Calls.{calls_in}
+use Rattle.shared_checks.specs.Parts.{LawfulHistory}
 use Rattle.list_checks.specs.declared.spell.line.SpeltLine.{SpeltLine}
 use Rattle.list_checks.specs.SpellLines.{line_end}
-use Rattle.record_clauses.specs.Account.{Account, Claim}
-use Rattle.record_clauses.specs.Clauses.{HasHalts}
-use Rattle.record_clauses.specs.Lists.{before_halts, is_halt, without_halts}
+use Rattle.record_text.specs.Told.{Told}
+use Rattle.record_clauses.specs.Account.{Account, Claim, outcome_by, record_of}
+use Rattle.record_clauses.specs.declared.clause.Clause.TheVariants.{Stop}
+use Rattle.record_clauses.specs.Lists.{is_halt, without_halts}
+use Rattle.record_clauses.specs.Verdicts as claims
+use Rattle.run_check.specs.declared.spelling.Spelling.{Spelling}
+use Rattle.run_check.specs.Lists.{AreSpeltTo}
+use Rattle.run_check.specs.Tells.{Tells}
 
--- the account's lines end as what was found of them
-abbrev pub AreFound : List SpeltLine → Account → Type 0
-AreFound found account = map (λ (line : Line). line.ending) account.lines ≡ map (λ (line : SpeltLine). line_end line.ending) found
+-- a claim that the text tells, whose workers' lists spell this
+pub record IsFoundOf (told : Told) (found : Spelling) (claim : Claim) : Type 0 where
+  pub readable : IsReadable told.plan
+  pub spelt : AreSpeltTo told.plan told.items told.plan.workers found
+  pub tells : Tells told claim
 
--- what a run that ended so leaves in its maps and atomics
-abbrev pub ends_by : Claim → Account → Option Misuse → List End
-ends_by claim account None = ends_in claim.plan (contents_after (contents_of claim.plan) account.history)
-ends_by claim account (Some misuse) = []
+-- such a claim, of which the clauses up to `stop` hold, with this history of its calls
+pub record IsStoppedOf (told : Told) (found : Spelling) (marked : List (List Item)) (history : List SharedEntry) (claim : Claim) : Type 0 where
+  pub is : IsFoundOf told found claim
+  pub calls : (account : Account) (worker : ℕ) → calls_of (record_of claim account) worker ≡ calls_in marked worker
+  pub legal : LawfulHistory (contents_of told.plan) history (calls_in marked)
+  pub stopped : claims.UpTo claim Stop
+
+-- what a run that ended so leaves in its maps and atomics, where this is their history
+abbrev pub ends_after : Plan → List SharedEntry → Option Misuse → List End
+ends_after plan history None = ends_in plan (contents_after (contents_of plan) history)
+ends_after plan history (Some misuse) = []
+
+-- what a run came to that ended so, whose lists spell these lines, with this history of its calls
+abbrev pub found_outcome : Plan → Option Misuse → List SpeltLine → List SharedEntry → Outcome
+found_outcome plan misused lines history = outcome_by misused (record { replies = map (λ (line : SpeltLine). line.replies) lines; ends = ends_after plan history misused })
 
 -- a list whose halts stand behind all else, and may stand there where the list ends so
 abbrev pub HaltsBehind : List Made → LineEnd → Type 0
@@ -43,7 +69,3 @@ begins_with_halt (item ∷ list) = is_halt item
 abbrev pub IsStoppedSo : List SpeltLine → Option Misuse → Option Misuse → Type 0
 IsStoppedSo found first None = Unit {0}
 IsStoppedSo found first (Some misuse) = All (λ (line : SpeltLine). HasEnded (line_end line.ending)) found × (first ≡ Some misuse)
-
--- the clause `stop` holds, with some halts behind the account's lines
-abbrev pub StopHolds : Claim → Account → Type 0
-StopHolds claim account = (lines : List Line) × (map before_halts lines ≡ map before_halts account.lines) × HasHalts claim (record account { lines = lines })

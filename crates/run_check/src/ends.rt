@@ -2,18 +2,24 @@
 ghost use Rattle.std.specs.Prelude.{◌≡◌, ◌↔◌, [], map, All, IsTrue};
 ghost use Rattle.run_record.specs.Explains.{HasEnded, IsAtEnd};
 ghost use Rattle.list_checks.specs.SpellLines.{line_end};
-ghost use Rattle.record_clauses.specs.Account.{Account, Claim};
-ghost use Rattle.record_clauses.specs.Clauses.{HasEnds};
-ghost use Rattle.run_check.specs.Found.{AreFound, ends_by};
+ghost use Rattle.record_text.specs.Told.{Told};
+ghost use Rattle.record_clauses.specs.Account.{Claim};
+ghost use Rattle.record_clauses.specs.Verdicts as claims;
+ghost use Rattle.run_check.specs.Found.{IsFoundOf};
 
+use crate::spelling::Spelling;
 use list_checks::spell::line::{Ending, SpeltLine};
+use record_clauses::Clause;
+use run_cuts::laws::a_spelling_is_blind;
 use sync_types::Misuse;
 
-/// Whether the clause `end` holds, where the workers' lists end so, and the run left behind what the maps and atomics contain: in a run
-/// that is done each worker has come to the end of its script, or was never started.
+/// Whether behind the clauses up to `edge` the clause `end` holds too, where this was found of the workers' lists: in a run that is done
+/// each worker has come to the end of its script, or was never started.
 pub fn has_ends(misused: Option<Misuse>, lines: &[SpeltLine]) -> bool
-    ensures { (claim : Claim) (account : Account) → AreFound lines.now account → claim.misused ≡ misused → account.left.ends ≡ ends_by claim account misused → (IsTrue result ↔ HasEnds claim account claim.misused) }
+    ensures { (told : Told) (found : Spelling) (claim : Claim) → IsFoundOf told found claim → told.misused ≡ misused → found.lines ≡ lines.now
+        → claims.UpTo claim Clause.Edge → (IsTrue result ↔ claims.UpTo claim Clause.End) }
 {
+    a_spelling_is_blind();
     match misused {
         None => are_at_end(lines),
         Some(_) => true,

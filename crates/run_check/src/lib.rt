@@ -7,6 +7,8 @@ pub mod fronts;
 pub mod journals;
 mod key_order;
 pub mod laws;
+pub mod outcome;
 pub mod report;
+mod shown_keys;
 pub mod spelling;
 pub mod stops;

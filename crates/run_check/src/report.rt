@@ -1,18 +1,78 @@
 //! Whether bytes are the report of an outcome.
-ghost use Rattle.std.specs.Prelude.{◌≡◌, ◌↔◌, ◌≤◌, ◌<◌, true, [], get_or, IfOk, IsTrue, length, vec_capacity};
+ghost use Rattle.std.specs.Prelude.{◌≡◌, ◌↔◌, ◌≤◌, ◌<◌, true, List, [], get_or, IfOk, IsTrue, length, vec_capacity};
 ghost use Rattle.std.specs.List.{list_all};
 ghost use Rattle.script_calls.specs.Outcome.{has_pairs_to, left_by, shows_to};
+ghost use Rattle.sync_model.specs.declared.item.Item.{Item};
 ghost use Rattle.workload.specs.declared.limits.TheConstants.{MAX_KEYS};
+ghost use Rattle.workload.specs.Lines.{lines_of};
 ghost use Rattle.workload_text.specs.declared.line.TheConstants.{LINE_ROOM};
 ghost use Rattle.run_report.specs.ReportText.{calls_text, ends_text, report_text, workers_text};
-ghost use Rattle.run_check.specs.Rest.{IsRest};
+ghost use Rattle.record_text.specs.Reads.{told_by};
+ghost use Rattle.record_text.specs.Told.{joined};
+ghost use Rattle.record_clauses.specs.Account.{Claim};
+ghost use Rattle.record_clauses.specs.Verdicts as claims;
+ghost use Rattle.run_check.specs.Found.{IsStoppedOf};
+ghost use Rattle.run_check.specs.Rest.{IsRest, is_ended};
 
+use crate::outcome::{outcome_found, what_a_run_came_to_is_known};
+use crate::spelling::Spelling;
+use list_checks::spell::line::SpeltLine;
+use record_clauses::Clause;
+use record_text::RecordText;
 use script_calls::laws::a_run_goes_along_by_places;
 use script_calls::{Outcome, Reply};
 use std::alloc::{AllocError, Global};
+use sync_model::SharedEntry;
 use sync_types::{End, Seq};
 use workload::Workload;
 use workload_text::{LINE_ROOM, set_completed_line, set_end_line};
+
+/// Whether behind the clauses up to `stop` the clause `report` holds too, where the text's lists spell these lines, and its calls on maps
+/// and atomics have this history. So all that a run came to is known: the report is compared with that of it.
+pub fn report_holds(
+    alloc: Global,
+    text: &RecordText<'_>,
+    lines: Seq<SpeltLine>,
+    history: &[SharedEntry],
+) -> Result<bool, AllocError>
+    requires { (found : Spelling) × (marked : List (List Item)) × (claim : Claim) × (found.lines ≡ lines) × IsStoppedOf (told_by text.now) found marked history.now claim }
+    ensures { IfOk result (λ holds. (found : Spelling) (marked : List (List Item)) (claim : Claim) → found.lines ≡ lines → IsStoppedOf (told_by text.now) found marked history.now claim
+        → (IsTrue holds ↔ claims.UpTo claim Clause.Report)) }
+{
+    what_a_run_came_to_is_known();
+    let outcome = outcome_found(alloc, &text.workload, text.misused, lines, history)?;
+    are_lines_of_report(alloc, &text.workload, &outcome, text.report)
+}
+
+/// Whether the lines of a text are those of the report of what a run came to: behind the last one there may be no line feed.
+fn are_lines_of_report(
+    alloc: Global,
+    workload: &Workload,
+    outcome: &Outcome,
+    text: &[u8],
+) -> Result<bool, AllocError>
+    requires pairs { shows_to MAX_KEYS outcome.now ≡ true }
+    requires workers { length (left_by outcome.now).replies ≤ workload.now.workers }
+    ensures { IfOk result (λ are. IsTrue are ↔ (joined (lines_of text.now) ≡ report_text workload.now outcome.now)) }
+{
+    if is_ended(text) {
+        return is_report(alloc, workload, outcome, text);
+    }
+    let mut ended = Vec::new(alloc);
+    ended.extend_from_slice(text)?;
+    ended.push(b'\n')?;
+    is_report(alloc, workload, outcome, &ended)
+}
+
+// Whether each line of a text has its line feed.
+fn is_ended(text: &[u8]) -> bool
+    ensures { result ≡ is_ended text.now }
+{
+    match text.last() {
+        None => true,
+        Some(byte) => *byte == b'\n',
+    }
+}
 
 /// Whether bytes are the report of what a run of a workload came to. It makes one line of the report at a time, and compares it. No
 /// reply may show more pairs than a workload has keys.

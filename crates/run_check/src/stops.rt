@@ -1,23 +1,30 @@
 //! The halts of the workers' lists, and the misuse that ended a run.
-ghost use Rattle.std.specs.Prelude.{◌≡◌, ◌↔◌, ◌≤◌, true, map, length, take, drop, IsTrue};
+ghost use Rattle.std.specs.Prelude.{◌≡◌, ◌↔◌, ◌≤◌, true, length, take, drop, IsTrue};
 ghost use Rattle.sync_model.specs.Journal.{halt_of};
-ghost use Rattle.run_record.specs.Lines.{AreHalts, IsHalt, items_of, misused};
+ghost use Rattle.run_record.specs.Lines.{AreHalts, IsHalt, misused};
 ghost use Rattle.run_record.specs.Record.{journal_of, stop};
 ghost use Rattle.list_checks.specs.SpellLines.{line_end};
 ghost use Rattle.object_checks.specs.JournalItems.{entries_in_row};
-ghost use Rattle.record_clauses.specs.Account.{Account, Claim, made_in, record_of};
-ghost use Rattle.record_clauses.specs.Lists.{before_halts, is_halt, without_halts};
-ghost use Rattle.run_check.specs.Found.{AllHaltsBehind, AreFound, HaltsBehind, IsStoppedSo, StopHolds, are_no_halts, begins_with_halt};
+ghost use Rattle.record_text.specs.Told.{Told};
+ghost use Rattle.record_clauses.specs.Account.{Account, Claim, record_of};
+ghost use Rattle.record_clauses.specs.Clauses.{HasJournals};
+ghost use Rattle.record_clauses.specs.Lists.{is_halt};
+ghost use Rattle.record_clauses.specs.Verdicts as claims;
+ghost use Rattle.run_check.specs.Found.{AllHaltsBehind, HaltsBehind, IsFoundOf, IsStoppedSo, are_no_halts, begins_with_halt};
 
 use crate::ends::have_ended;
+use crate::spelling::Spelling;
 use list_checks::spell::line::{Ending, SpeltLine};
 use object_checks::journals::Row;
+use record_clauses::Clause;
+use run_cuts::laws::a_spelling_is_blind;
 use run_record::Made;
 use sync_model::Deed;
 use sync_types::{Misuse, Seq};
 
-/// Whether the clause `stop` holds, where the workers' lists, their halts set aside, end so, and this is the journal of Stop. Halts stand
-/// behind a misuse of their worker alone, and are by it. A run that isn't done ended by the first of Stop, and each worker has ended.
+/// Whether behind the clauses up to `end` the clause `stop` holds too, where this was found of the workers' lists, and this is the journal
+/// of Stop. Halts stand behind a misuse of their worker alone, and are by it. A run that isn't done ended by the first of Stop, and each
+/// worker has ended.
 pub fn stop_holds(
     misused: Option<Misuse>,
     lists: &[Seq<Made>],
@@ -25,9 +32,11 @@ pub fn stop_holds(
     stops: &[Row<'_>],
 ) -> bool
     requires { length lists.now ≡ length lines.now }
-    ensures { (claim : Claim) (account : Account) → map made_in claim.lists ≡ lists.now → claim.misused ≡ misused → AreFound lines.now account → map items_of (map before_halts account.lines) ≡ map without_halts lists.now
-        → journal_of (record_of claim account) stop ≡ entries_in_row stops.now → (IsTrue result ↔ StopHolds claim account) }
+    ensures { (told : Told) (found : Spelling) (claim : Claim) → IsFoundOf told found claim → told.misused ≡ misused → found.all ≡ lists.now → found.lines ≡ lines.now
+        → ((account : Account) → HasJournals claim account → journal_of (record_of claim account) stop ≡ entries_in_row stops.now)
+        → claims.UpTo claim Clause.End → (IsTrue result ↔ claims.UpTo claim Clause.Stop) }
 {
+    a_spelling_is_blind();
     are_behind(lists, lines) && is_stopped(misused, lines, stops)
 }
 
