@@ -37,3 +37,4 @@ pub mod KeyedCalls
 pub mod ShownKeys
 pub mod ReportStage
 pub mod EndedText
+pub mod FoundVerdicts

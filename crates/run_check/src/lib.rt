@@ -12,3 +12,6 @@ pub mod report;
 mod shown_keys;
 pub mod spelling;
 pub mod stops;
+pub mod verdict;
+
+pub use verdict::check;
