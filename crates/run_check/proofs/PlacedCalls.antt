@@ -1,5 +1,5 @@
 -- What is told is on objects that are there; and what `range` asks is asked of the marked calls and their history.
-use Rattle.std.proofs.Common.{◌≡◌, ℕ, ◌≤◌, List, map, slice_get, Option, Some, None, refl, sym, ap, ◌∙◌, subst, arith}
+use Rattle.std.proofs.Common.{◌≡◌, ℕ, ◌≤◌, List, map, sym, ap, subst, arith}
 use Rattle.std.proofs.Math.Path.{fun_ext}
 use Rattle.sync_model.specs.declared.item.Item.{Item}
 use Rattle.sync_model.specs.declared.item.SharedCall.{SharedCall}
@@ -13,7 +13,7 @@ use Rattle.shared_checks.specs.Calls.{calls_in}
 use Rattle.shared_checks.specs.Fronts.{LawfulFronts}
 use Rattle.shared_checks.specs.Parts.{LawfulBegins, LawfulHistory, LawfulRanges}
 use Rattle.shared_checks.specs.Placing.{AreOn, IsOn}
-use Rattle.entry_marks.specs.Marks.{AreMarked, AreSameCalls, HaveNoHistory, unmarked}
+use Rattle.entry_marks.specs.Marks.{AreMarked, HaveNoHistory, unmarked}
 use Rattle.record_text.specs.Told.{Told}
 use Rattle.record_clauses.specs.declared.clause.Clause.{Clause}
 use Rattle.record_clauses.specs.declared.clause.Clause.TheVariants.{Spell, Legal, Front, Range}

@@ -1,5 +1,5 @@
 -- Behind `legal` the clauses of a text are those of the one claim that it tells.
-use Rattle.std.proofs.Common.{◌≡◌, ℕ, ◌+◌, ◌≤◌, refl, sym, ap, ◌∙◌, subst, arith}
+use Rattle.std.proofs.Common.{◌≡◌, ◌+◌, ◌≤◌, subst, arith}
 use Rattle.sync_model.specs.declared.item.Item.{Item}
 use Rattle.sync_model.specs.declared.item.SharedEntry.{SharedEntry}
 use Rattle.std.specs.Prelude.{List}
@@ -7,7 +7,7 @@ use Rattle.record_text.specs.Told.{Told}
 use Rattle.record_clauses.specs.declared.clause.Clause.{Clause}
 use Rattle.record_clauses.specs.declared.clause.Clause.TheVariants.{Legal, Report}
 use Rattle.record_clauses.specs.declared.clause.Verdict.TheVariants.{Yes, No}
-use Rattle.record_clauses.specs.Account.{Account, Claim}
+use Rattle.record_clauses.specs.Account.{Claim}
 use Rattle.record_clauses.specs.Verdicts as claims
 use Rattle.run_check.specs.Placed.{IsPlaced}
 use Rattle.run_check.specs.Tells.{ComesTo, UpTo}
