@@ -18,6 +18,8 @@ pub enum Subcommand {
     Make,
     /// Run the workload of a file by its schedule, and tell the races of the run: `race FILE`.
     Race,
+    /// Tell whether the record of a file explains its run: `check FILE`.
+    Check,
 }
 
 /// The name of the one argument of each subcommand.
@@ -35,6 +37,8 @@ pub fn subcommand_named(word: &str) -> Option<Subcommand>
         Some(Subcommand::Make)
     } else if word.as_bytes() == b"race".as_slice() {
         Some(Subcommand::Race)
+    } else if word.as_bytes() == b"check".as_slice() {
+        Some(Subcommand::Check)
     } else {
         None
     }
@@ -56,8 +60,8 @@ fn adding<'a>(alloc: Global, command: Command<'a>, name: &'a str) -> Result<Comm
     command.subcommand(subcommand)
 }
 
-/// The command line: the command `gosync` with a required subcommand, which is `step`, `run`, `make` or `race`, each with one
-/// required argument that is any text. Nothing else is set.
+/// The command line: the command `gosync` with a required subcommand, which is `step`, `run`, `make`, `race` or `check`,
+/// each with one required argument that is any text. Nothing else is set.
 pub fn command<'a>(alloc: Global) -> Result<Command<'a>, AllocError>
     ensures { IfOk result (λ made. app_of made ≡ gosync_command) }
 {
@@ -65,5 +69,6 @@ pub fn command<'a>(alloc: Global) -> Result<Command<'a>, AllocError>
     let command = adding(alloc, named, "step")?;
     let command = adding(alloc, command, "run")?;
     let command = adding(alloc, command, "make")?;
-    adding(alloc, command, "race")
+    let command = adding(alloc, command, "race")?;
+    adding(alloc, command, "check")
 }

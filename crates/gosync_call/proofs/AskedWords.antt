@@ -1,5 +1,5 @@
 -- What words ask for, and what they don't ask for then.
-use Rattle.std.proofs.Common.{◌≡◌, ◌⊎◌, ◌∙◌, ◌<◌, ◌^◌, ℕ, zero, suc, true, List, [], ◌∷◌, length, get_or, Option, Some, None, inl, inr, refl, sym, ap, subst, arith}
+use Rattle.std.proofs.Common.{◌≡◌, ◌⊎◌, ◌∙◌, ◌<◌, ◌^◌, ℕ, zero, suc, true, false, Bool, List, [], ◌∷◌, length, get_or, Option, Some, None, inl, inr, refl, sym, ap, subst, arith}
 use Rattle.std.specs.Fmt.{decimal}
 use Rattle.std.proofs.lemmas.Fmt.{decimal_digit, decimal_nonempty, first_decimal}
 use Rattle.std.proofs.lemmas.Bool.Decides.{nat_tests}
@@ -8,7 +8,7 @@ use Rattle.command_line.specs.Command.{is_argument, matched}
 use Rattle.command_line.specs.Seed.{seed_of}
 use Rattle.command_line.specs.declared.definition.Subcommand.{Subcommand}
 use Rattle.command_line.specs.declared.definition.Subcommand.TheVariants as subcommands
-use Rattle.gosync_call.specs.Command.{asked, file_of, AreRefused, AskFor, AskToMake}
+use Rattle.gosync_call.specs.Command.{asked, file_in, file_named, file_of, AreRefused, AskFor, AskToCheck, AskToMake}
 use Rattle.gosync_call.specs.declared.words.Mode.{Mode}
 
 -- words that ask for a made workload name no file
@@ -56,6 +56,60 @@ no_seed_refused words seed (inr make) ask = none_is_seed seed (sym make.2 ∙ ap
 pub names_a_file : (words : List (List ℕ)) (mode : Mode) (file : List ℕ) → AskFor words mode file → AreRefused words ⊎ ((seed : ℕ) × AskToMake words seed) → ⊥
 names_a_file words mode file ask (inl refused) = no_file_refused words mode file refused ask
 names_a_file words mode file ask (inr make) = not_both words make.0 mode file make.1 ask
+
+abbrev file_of_words : Option (Mode × List ℕ) → List ℕ
+file_of_words None = []
+file_of_words (Some words) = words.1
+
+named_by : (mode : Mode) (file : List ℕ) (found : Option (Subcommand × List ℕ)) → option_and_then file_of found ≡ Some (mode, file) → file_named found ≡ file
+named_by mode file None is = absurd (none_is_some (mode, file) is)
+named_by mode file (Some (subcommands.Step, text)) is = ap file_of_words is
+named_by mode file (Some (subcommands.Run, text)) is = ap file_of_words is
+named_by mode file (Some (subcommands.Make, text)) is = absurd (none_is_some (mode, file) is)
+named_by mode file (Some (subcommands.Race, text)) is = ap file_of_words is
+named_by mode file (Some (subcommands.Check, text)) is = absurd (none_is_some (mode, file) is)
+
+-- words that ask to run a file name it
+pub names_it : (words : List (List ℕ)) (mode : Mode) (file : List ℕ) → AskFor words mode file → file_in words ≡ file
+names_it words mode file ask = named_by mode file (matched words) ask
+
+-- and so do those that ask to judge its record
+pub names_record : (words : List (List ℕ)) (file : List ℕ) → AskToCheck words file → file_in words ≡ file
+names_record words file ask = ap file_named ask
+
+-- those that ask for a made workload name none
+pub names_none : (words : List (List ℕ)) (seed : ℕ) → AskToMake words seed → file_in words ≡ []
+names_none words seed ask = ap file_named ask.1
+
+-- words that ask to judge a record ask for nothing else
+pub no_run_to_check : (words : List (List ℕ)) (mode : Mode) (file name : List ℕ) → AskFor words mode file → AskToCheck words name → ⊥
+no_run_to_check words mode file name ask check = none_is_some (mode, file) (sym (ap (λ (found : Option (Subcommand × List ℕ)). option_and_then file_of found) check) ∙ ask)
+
+abbrev is_to_check : Option (Subcommand × List ℕ) → Bool
+is_to_check None = false
+is_to_check (Some (subcommands.Step, text)) = false
+is_to_check (Some (subcommands.Run, text)) = false
+is_to_check (Some (subcommands.Make, text)) = false
+is_to_check (Some (subcommands.Race, text)) = false
+is_to_check (Some (subcommands.Check, text)) = true
+
+true_is_false : true ≡ false → ⊥
+true_is_false is = cc
+
+pub no_seed_to_check : (words : List (List ℕ)) (seed : ℕ) (name : List ℕ) → AskToMake words seed → AskToCheck words name → ⊥
+no_seed_to_check words seed name ask check = true_is_false (ap is_to_check (sym check ∙ ask.1))
+
+pub no_refusal_to_check : (words : List (List ℕ)) (name : List ℕ) → AreRefused words → AskToCheck words name → ⊥
+no_refusal_to_check words name (inl none) check = nothing_is_found (subcommands.Check, name) (sym none ∙ check)
+no_refusal_to_check words name (inr make) check = true_is_false (ap is_to_check (sym check ∙ make.1))
+
+pub names_a_record : (words : List (List ℕ)) (file : List ℕ) → AskToCheck words file → AreRefused words ⊎ ((seed : ℕ) × AskToMake words seed) → ⊥
+names_a_record words file check (inl refused) = no_refusal_to_check words file refused check
+names_a_record words file check (inr make) = no_seed_to_check words make.0 file make.1 check
+
+-- and they name one record
+pub same_record : (words : List (List ℕ)) (file name : List ℕ) → AskToCheck words file → AskToCheck words name → file ≡ name
+same_record words file name ask also = ap text_in (sym ask ∙ also)
 
 -- a number stands for itself as an argument
 argument_from : (digits : List ℕ) → 0 < length digits → 45 < get_or digits 0 0 → is_argument digits ≡ true

@@ -9,7 +9,7 @@ use Rattle.command_line.specs.Command.{matched}
 use Rattle.command_line.specs.Seed.{seed_of}
 use Rattle.command_line.specs.declared.definition.Subcommand.{Subcommand}
 use Rattle.command_line.specs.declared.definition.Subcommand.TheVariants as subcommands
-use Rattle.gosync_call.specs.Command.{file_in, file_of, AreRefused, AskFor, AskToMake}
+use Rattle.gosync_call.specs.Command.{file_of, AreRefused, AskFor, AskToCheck, AskToMake}
 use Rattle.gosync_call.specs.ComesTo.{ComesBy, ComesTo}
 use Rattle.gosync_call.specs.Front.{IsFrontOfRun, IsLeftOfAllBytes, IsOfAllBytes}
 use Rattle.gosync_call.specs.Made.{MakesTo}
@@ -26,11 +26,11 @@ use Rattle.gosync_call.specs.declared.status.Unread.{Unread}
 use Rattle.gosync_call.specs.declared.status.Unread.TheVariants as unreads
 use Rattle.gosync_call.specs.declared.words.Mode.{Mode}
 use Rattle.gosync_call.specs.declared.words.Mode.TheVariants as modes
-use Rattle.gosync_call.proofs.Runs.{is_read, told_so}
+use Rattle.gosync_call.proofs.Runs.{file_at, is_read, told_so}
 
 -- words name one file
 pub same_file : (words : Option (Mode × List ℕ)) (mode other : Mode) (file name : List ℕ) → words ≡ Some (mode, file) → words ≡ Some (other, name) → file ≡ name
-same_file words mode other file name asks names = ap file_in (sym asks ∙ names)
+same_file words mode other file name asks names = ap file_at (sym asks ∙ names)
 
 -- what is left of a front that ended
 pub left_of_ended : (Whole : Type 0) (front : Front) (status : Status) → front ≡ fronts.Ended status → (IsOfAllBytes status → Whole) → IsLeftOfAllBytes front → Whole
@@ -110,16 +110,17 @@ module _ (words : List (List ℕ)) where
   seeded text is (Some seed) some = inl (seed, (text, is, some))
 
   abbrev Asking : Type 0
-  Asking = ((mode : Mode) × (file : List ℕ) × AskFor words mode file) ⊎ (((seed : ℕ) × AskToMake words seed) ⊎ AreRefused words)
+  Asking = ((mode : Mode) × (file : List ℕ) × AskFor words mode file) ⊎ (((file : List ℕ) × AskToCheck words file) ⊎ (((seed : ℕ) × AskToMake words seed) ⊎ AreRefused words))
 
   asking_by : (found : Option (Subcommand × List ℕ)) → matched words ≡ found → Asking
-  asking_by None is = inr (inr (inl is))
+  asking_by None is = inr (inr (inr (inl is)))
   asking_by (Some (subcommands.Step, text)) is = inl (modes.Step, text, ap (λ (f : Option (Subcommand × List ℕ)). option_and_then file_of f) is)
   asking_by (Some (subcommands.Run, text)) is = inl (modes.Run, text, ap (λ (f : Option (Subcommand × List ℕ)). option_and_then file_of f) is)
-  asking_by (Some (subcommands.Make, text)) is = inr (seeded text is (seed_of text) refl)
+  asking_by (Some (subcommands.Check, text)) is = inr (inl (text, is))
+  asking_by (Some (subcommands.Make, text)) is = inr (inr (seeded text is (seed_of text) refl))
   asking_by (Some (subcommands.Race, text)) is = inl (modes.Race, text, ap (λ (f : Option (Subcommand × List ℕ)). option_and_then file_of f) is)
 
-  -- words ask to run a file or to make a workload, or are refused
+  -- words ask to run a file, to judge a record or to make a workload, or are refused
   pub asking : Asking
   asking = asking_by (matched words) refl
 
@@ -129,10 +130,11 @@ module _ (words : List (List ℕ)) where
   run_by file modes.Race asks no_other = absurd (no_other (λ is. cc))
 
   -- where no other thing is asked for, a run with threads is
-  pub asks_run : Asking → ((mode : Mode) (file : List ℕ) → AskFor words mode file → mode ≢ modes.Run → ⊥) → ((seed : ℕ) → AskToMake words seed → ⊥) → (AreRefused words → ⊥) → (file : List ℕ) × AskFor words modes.Run file
-  asks_run (inl ask) no_other no_make no_refusal = run_by ask.1 ask.0 ask.2 (no_other ask.0 ask.1 ask.2)
-  asks_run (inr (inl make)) no_other no_make no_refusal = absurd (no_make make.0 make.1)
-  asks_run (inr (inr refused)) no_other no_make no_refusal = absurd (no_refusal refused)
+  pub asks_run : Asking → ((mode : Mode) (file : List ℕ) → AskFor words mode file → mode ≢ modes.Run → ⊥) → ((file : List ℕ) → AskToCheck words file → ⊥) → ((seed : ℕ) → AskToMake words seed → ⊥) → (AreRefused words → ⊥) → (file : List ℕ) × AskFor words modes.Run file
+  asks_run (inl ask) no_other no_check no_make no_refusal = run_by ask.1 ask.0 ask.2 (no_other ask.0 ask.1 ask.2)
+  asks_run (inr (inl check)) no_other no_check no_make no_refusal = absurd (no_check check.0 check.1)
+  asks_run (inr (inr (inl make))) no_other no_check no_make no_refusal = absurd (no_make make.0 make.1)
+  asks_run (inr (inr (inr refused))) no_other no_check no_make no_refusal = absurd (no_refusal refused)
 
 -- by whether a mode runs a file with threads, or on one
 pub by_threads : {X : Type 0} (words : List (List ℕ)) (mode : Mode) (file : List ℕ) → AskFor words mode file → (AskFor words modes.Run file → mode ≡ modes.Run → X) → (mode ≢ modes.Run → X) → X
@@ -150,6 +152,8 @@ module _ (dialect : Dialect) (Ends : Plan → Ending → Type 0) (Stops : Plan �
   pub refuses : (bytes : List ℕ) (Read : Type 0) (status : Status) → ComesBy dialect Ends Stops told old new status → told ≡ Some bytes → ((plan : Plan) → ReadsIn dialect bytes plan → ⊥)
       → (status ≡ statuses.Unread unreads.CannotRead → Read) → (Read → ⊥) → (code_of status ≡ 1) ⊎ IsOutOfMemory status
   refuses bytes Read (statuses.Ended ending) comes is none read no_read = absurd (none comes.0 (subst (λ (b : List ℕ). ReadsIn dialect b comes.0) (told_so bytes comes.1.0 told is comes.1.1) comes.1.2))
+  refuses bytes Read (statuses.Judged verdict) comes is none read no_read = absurd comes
+  refuses bytes Read (statuses.Unread (unreads.NoRecord line reason)) comes is none read no_read = inl refl
   refuses bytes Read (statuses.Unread (unreads.NotAccepted line reason)) comes is none read no_read = inl refl
   refuses bytes Read (statuses.Unread unreads.CannotRead) comes is none read no_read = absurd (no_read (read refl))
   refuses bytes Read (statuses.Unread unreads.Memory) comes is none read no_read = inr refl

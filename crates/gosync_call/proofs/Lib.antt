@@ -3,6 +3,7 @@ pub mod Counts
 pub mod Ended
 pub mod Endings
 pub mod Fronts
+pub mod Judged
 pub mod MessageTexts
 pub mod Raced
 pub mod Reading

@@ -6,6 +6,7 @@ use Rattle.script_calls.specs.declared.outcome.Outcome.TheVariants as outcomes
 use Rattle.script_calls.specs.declared.outcome.Report.{Report}
 use Rattle.sync_types.specs.declared.misuse.Misuse.{Misuse}
 use Rattle.workload.specs.Plan.{Plan}
+use Rattle.record_clauses.specs.declared.clause.Verdict.TheVariants as verdicts
 use Rattle.race_clocks.specs.declared.race.Race.{Race}
 use Rattle.race_report.specs.RaceText.{races_text, report_with_races}
 use Rattle.race_report.specs.Variables.{with_variables}
@@ -29,7 +30,10 @@ is_raced (statuses.Ended endings.Done) is = absurd cc
 is_raced (statuses.Ended (endings.Misused misuse)) is = absurd cc
 is_raced (statuses.Ended endings.Deadlocked) is = absurd cc
 is_raced (statuses.Ended endings.Raced) is = refl
+is_raced (statuses.Judged verdicts.Yes) is = absurd cc
+is_raced (statuses.Judged (verdicts.No clause)) is = absurd cc
 is_raced (statuses.Unread (unreads.NotAccepted line reason)) is = absurd cc
+is_raced (statuses.Unread (unreads.NoRecord line reason)) is = absurd cc
 is_raced (statuses.Unread unreads.CannotRead) is = absurd cc
 is_raced (statuses.Unread unreads.Memory) is = absurd cc
 is_raced (statuses.Failed faults.CannotWrite) is = absurd cc
@@ -37,18 +41,22 @@ is_raced (statuses.Failed faults.CannotStart) is = absurd cc
 is_raced (statuses.Failed faults.Memory) is = absurd cc
 is_raced statuses.Usage is = absurd cc
 
-pub is_done : (status : Status) → code_of status ≡ 0 → status ≡ statuses.Ended endings.Done
-is_done (statuses.Ended endings.Done) is = refl
-is_done (statuses.Ended (endings.Misused misuse)) is = absurd cc
-is_done (statuses.Ended endings.Deadlocked) is = absurd cc
-is_done (statuses.Ended endings.Raced) is = absurd cc
-is_done (statuses.Unread (unreads.NotAccepted line reason)) is = absurd cc
-is_done (statuses.Unread unreads.CannotRead) is = absurd cc
-is_done (statuses.Unread unreads.Memory) is = absurd cc
-is_done (statuses.Failed faults.CannotWrite) is = absurd cc
-is_done (statuses.Failed faults.CannotStart) is = absurd cc
-is_done (statuses.Failed faults.Memory) is = absurd cc
-is_done statuses.Usage is = absurd cc
+-- where it is no verdict
+pub is_done : (X : Status → Type 0) (status : Status) → X status → (X (statuses.Judged verdicts.Yes) → ⊥) → code_of status ≡ 0 → X (statuses.Ended endings.Done)
+is_done X (statuses.Ended endings.Done) x judged is = x
+is_done X (statuses.Ended (endings.Misused misuse)) x judged is = absurd cc
+is_done X (statuses.Ended endings.Deadlocked) x judged is = absurd cc
+is_done X (statuses.Ended endings.Raced) x judged is = absurd cc
+is_done X (statuses.Judged verdicts.Yes) x judged is = absurd (judged x)
+is_done X (statuses.Judged (verdicts.No clause)) x judged is = absurd cc
+is_done X (statuses.Unread (unreads.NotAccepted line reason)) x judged is = absurd cc
+is_done X (statuses.Unread (unreads.NoRecord line reason)) x judged is = absurd cc
+is_done X (statuses.Unread unreads.CannotRead) x judged is = absurd cc
+is_done X (statuses.Unread unreads.Memory) x judged is = absurd cc
+is_done X (statuses.Failed faults.CannotWrite) x judged is = absurd cc
+is_done X (statuses.Failed faults.CannotStart) x judged is = absurd cc
+is_done X (statuses.Failed faults.Memory) x judged is = absurd cc
+is_done X statuses.Usage x judged is = absurd cc
 
 -- no outcome ends so without its races
 no_raced : (outcome : Outcome) → endings.Raced ≡ ending_of outcome → ⊥

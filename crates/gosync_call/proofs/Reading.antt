@@ -11,7 +11,7 @@ use Rattle.workload.specs.Reads.{ReadsIn, IsRefusedIn}
 use Rattle.workload.specs.declared.keyword.Dialect.{Dialect}
 use Rattle.workload.specs.declared.keyword.Dialect.TheVariants.{Plain, Races}
 use Rattle.gosync_call.specs.declared.status.Unread.TheVariants.{NotAccepted}
-use Rattle.gosync_call.specs.Input.{IsInput}
+use Rattle.gosync_call.specs.Input.{IsInput, IsInputTo}
 use Rattle.gosync_call.specs.ComesTo.{IsReadIn, IsUnreadIn}
 
 some_is : {X : Type 0} (x y : X) → Some x ≡ Some y → x ≡ y
@@ -39,26 +39,27 @@ ended_before None after given e none h = tt
 ended_before (Some left) None given e none h = absurd cc
 ended_before (Some left) (Some rest) given e none h = some_is left (given ++ rest) e ∙ ap (λ (l : List ℕ). l ++ rest) none ∙ h
 
--- the file has ended
-pub input_ended : (before after : Option (List ℕ)) (bytes : List ℕ) → before ≡ prepend_known bytes after → IsAtEnd after → length bytes ≤ MAX_INPUT + 1 → IsInput before bytes
-input_ended None after bytes e ended short = tt
-input_ended (Some held) None bytes e ended short = absurd cc
-input_ended (Some held) (Some rest) bytes e ended short =
-    let whole : held ≡ bytes = some_is held (bytes ++ rest) e ∙ ap (λ r. bytes ++ r) ended ∙ append-nil bytes in
-    sym (take_whole (MAX_INPUT + 1) bytes short) ∙ ap (take (MAX_INPUT + 1)) (sym whole)
+module _ (limit : ℕ) where
+  -- the file has ended
+  pub input_ended : (before after : Option (List ℕ)) (bytes : List ℕ) → before ≡ prepend_known bytes after → IsAtEnd after → length bytes ≤ limit + 1 → IsInputTo limit before bytes
+  input_ended None after bytes e ended short = tt
+  input_ended (Some held) None bytes e ended short = absurd cc
+  input_ended (Some held) (Some rest) bytes e ended short =
+      let whole : held ≡ bytes = some_is held (bytes ++ rest) e ∙ ap (λ r. bytes ++ r) ended ∙ append-nil bytes in
+      sym (take_whole (limit + 1) bytes short) ∙ ap (take (limit + 1)) (sym whole)
 
--- as many bytes were taken as are taken at most
-pub input_full : (before after : Option (List ℕ)) (bytes : List ℕ) → before ≡ prepend_known bytes after → length bytes ≡ MAX_INPUT + 1 → IsInput before bytes
-input_full None after bytes e full = tt
-input_full (Some held) None bytes e full = absurd cc
-input_full (Some held) (Some rest) bytes e full =
-    sym (take-append_seam bytes rest) ∙ ap (λ n. take n (bytes ++ rest)) full ∙ ap (take (MAX_INPUT + 1)) (sym (some_is held (bytes ++ rest) e))
+  -- as many bytes were taken as are taken at most
+  pub input_full : (before after : Option (List ℕ)) (bytes : List ℕ) → before ≡ prepend_known bytes after → length bytes ≡ limit + 1 → IsInputTo limit before bytes
+  input_full None after bytes e full = tt
+  input_full (Some held) None bytes e full = absurd cc
+  input_full (Some held) (Some rest) bytes e full =
+      sym (take-append_seam bytes rest) ∙ ap (λ n. take n (bytes ++ rest)) full ∙ ap (take (limit + 1)) (sym (some_is held (bytes ++ rest) e))
 
--- a text that isn't too long was taken whole
-fits_whole : (held bytes : List ℕ) → bytes ≡ take (MAX_INPUT + 1) held → length bytes ≤ MAX_INPUT → bytes ≡ held
-fits_whole held bytes e fits =
-    let short : length held ≤ MAX_INPUT + 1 = omega (arith, fits, ap length e, length-take (MAX_INPUT + 1) held) in
-    e ∙ take_whole (MAX_INPUT + 1) held short
+  -- a text that isn't too long was taken whole
+  pub fits_whole : (held bytes : List ℕ) → bytes ≡ take (limit + 1) held → length bytes ≤ limit → bytes ≡ held
+  fits_whole held bytes e fits =
+      let short : length held ≤ limit + 1 = omega (arith, fits, ap length e, length-take (limit + 1) held) in
+      e ∙ take_whole (limit + 1) held short
 
 -- no text of a dialect is both read and refused
 abbrev pub ReadOrRefused : Dialect → Type 0
@@ -71,13 +72,13 @@ read_or_refused Races plain races = races
 module _ (dialect : Dialect) where
   pub whole_read : (told : Option (List ℕ)) (bytes : List ℕ) (plan : Plan) → IsInput told bytes → ReadsIn dialect bytes plan → is_valid plan ≡ true → IsReadIn dialect told plan
   whole_read None bytes plan h read valid = (bytes, tt, read, valid)
-  whole_read (Some held) bytes plan h read valid = (held, refl, subst (λ (b : List ℕ). ReadsIn dialect b plan) (fits_whole held bytes h read.fits) read, valid)
+  whole_read (Some held) bytes plan h read valid = (held, refl, subst (λ (b : List ℕ). ReadsIn dialect b plan) (fits_whole MAX_INPUT held bytes h read.fits) read, valid)
 
   refused_whole : (held bytes : List ℕ) (line : ℕ) (reason : Reason) → bytes ≡ take (MAX_INPUT + 1) held → IsRefusedIn dialect bytes line reason → IsRefusedIn dialect held line reason
   refused_whole held bytes line reason e (inl long) =
       inl (omega (arith, long.0, ap length e, length-take (MAX_INPUT + 1) held), long.1, long.2)
   refused_whole held bytes line reason e (inr fault) =
-      subst (λ (b : List ℕ). IsRefusedIn dialect b line reason) (fits_whole held bytes e fault.0) (inr fault)
+      subst (λ (b : List ℕ). IsRefusedIn dialect b line reason) (fits_whole MAX_INPUT held bytes e fault.0) (inr fault)
 
   pub whole_refused : (told : Option (List ℕ)) (bytes : List ℕ) (line : ℕ) (reason : Reason) → ReadOrRefused dialect → IsInput told bytes → IsRefusedIn dialect bytes line reason → IsUnreadIn dialect told (NotAccepted line reason)
   whole_refused None bytes line reason never h refused = (bytes, tt, refused, λ plan read. never bytes plan line reason read refused)

@@ -68,6 +68,10 @@ abbrev pub mode_in : Option (Mode × List ℕ) → Mode
 mode_in None = modes.Step
 mode_in (Some words) = words.0
 
+abbrev pub file_at : Option (Mode × List ℕ) → List ℕ
+file_at None = []
+file_at (Some words) = words.1
+
 -- words ask for one mode
 pub same_mode : (words : List (List ℕ)) (mode other : Mode) (file name : List ℕ) → AskFor words mode file → AskFor words other name → other ≡ mode
 same_mode words mode other file name asks also = ap mode_in (sym also ∙ asks)
@@ -90,11 +94,11 @@ pub plan_is : (dialect : Dialect) (bytes : List ℕ) (plan : Plan) (told : Optio
 plan_is dialect bytes plan told one other is reads read = one bytes other plan (subst (λ (b : List ℕ). ReadsIn dialect b other) (told_so bytes read.0 told is read.1) read.2) reads
 
 -- what is said of the status that is left
-pub says_of : (front : Front) (words : Option (Mode × List ℕ)) (mode : Mode) (file : List ℕ) (other status : Status) (old new : Option (List ℕ)) (before now : ℕ)
-    → Some (mode, file) ≡ words → front ≡ fronts.Ended other → front ≡ fronts.Ended status → WritesOut old new before now (message_of file other) → WritesOut old new before now (message_of (file_in words) status)
-says_of front words mode file other status old new before now asks was is says =
+pub says_of : (front : Front) (words : List (List ℕ)) (file : List ℕ) (other status : Status) (old new : Option (List ℕ)) (before now : ℕ)
+    → file_in words ≡ file → front ≡ fronts.Ended other → front ≡ fronts.Ended status → WritesOut old new before now (message_of file other) → WritesOut old new before now (message_of (file_in words) status)
+says_of front words file other status old new before now named was is says =
     subst (λ (s : Status). WritesOut old new before now (message_of (file_in words) s)) (status_is other status (sym was ∙ is))
-    (subst (λ (w : Option (Mode × List ℕ)). WritesOut old new before now (message_of (file_in w) other)) asks says)
+    (subst (λ (f : List ℕ). WritesOut old new before now (message_of f other)) (sym named) says)
 
 module _ (Comes : Plan → Outcome → Type 0) (old new : Option (List ℕ)) where
   -- what is written of an outcome that the run came to
@@ -119,6 +123,8 @@ module _ (dialect : Dialect) (Ends : Plan → Ending → Type 0) (Stops : Plan �
       → (Read → ⊥) → (Write → ⊥) → (Start → ⊥) → Completes (Ends plan) status
   completes bytes plan Read Write Start one (statuses.Ended ending) comes is reads read write start no_read no_write no_start =
       inl (ending, subst (λ (p : Plan). Ends p ending) (plan_is dialect bytes plan told one comes.0 is reads comes.1) comes.2, refl)
+  completes bytes plan Read Write Start one (statuses.Judged verdict) comes is reads read write start no_read no_write no_start = absurd comes
+  completes bytes plan Read Write Start one (statuses.Unread (unreads.NoRecord line reason)) comes is reads read write start no_read no_write no_start = absurd comes.0
   completes bytes plan Read Write Start one (statuses.Unread (unreads.NotAccepted line reason)) comes is reads read write start no_read no_write no_start =
       absurd (comes.0.3 plan (subst (λ (b : List ℕ). ReadsIn dialect b plan) (sym (told_so bytes comes.0.0 told is comes.0.1)) reads))
   completes bytes plan Read Write Start one (statuses.Unread unreads.CannotRead) comes is reads read write start no_read no_write no_start = absurd (no_read (read refl))

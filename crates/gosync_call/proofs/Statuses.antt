@@ -24,6 +24,7 @@ use Rattle.gosync_call.proofs.Counts.{no_rise}
 
 pub of_calls : (status : Status) → ((ending : Ending) × (status ≡ statuses.Ended ending)) ⊎ ((status ≡ statuses.Failed faults.CannotWrite) ⊎ IsUnstarted status)
 of_calls (statuses.Ended ending) = inl (ending, refl)
+of_calls (statuses.Judged verdict) = inr (inr tt)
 of_calls (statuses.Unread why) = inr (inr tt)
 of_calls (statuses.Failed faults.CannotWrite) = inr (inl refl)
 of_calls (statuses.Failed faults.CannotStart) = inr (inr tt)
@@ -32,7 +33,9 @@ of_calls statuses.Usage = inr (inr tt)
 
 pub of_bytes : (status : Status) → IsOfAllBytes status ⊎ ((status ≡ statuses.Unread unreads.CannotRead) ⊎ ((status ≡ statuses.Unread unreads.Memory) ⊎ (status ≡ statuses.Usage)))
 of_bytes (statuses.Ended ending) = inl tt
+of_bytes (statuses.Judged verdict) = inl tt
 of_bytes (statuses.Unread (unreads.NotAccepted line reason)) = inl tt
+of_bytes (statuses.Unread (unreads.NoRecord line reason)) = inl tt
 of_bytes (statuses.Unread unreads.CannotRead) = inr (inl refl)
 of_bytes (statuses.Unread unreads.Memory) = inr (inr (inl refl))
 of_bytes (statuses.Failed fault) = inl tt
@@ -42,6 +45,7 @@ module _ (dialect : Dialect) (Ends : Plan → Ending → Type 0) (Stops : Plan �
     (start : (plan : Plan) → Stops plan faults.CannotStart → new ≡ old) (memory : (plan : Plan) → Stops plan faults.Memory → new ≡ old) where
   pub unwritten : (status : Status) → ComesBy dialect Ends Stops told old new status → IsUnstarted status → new ≡ old
   unwritten (statuses.Ended ending) comes unstarted = absurd unstarted
+  unwritten (statuses.Judged verdict) comes unstarted = absurd comes
   unwritten (statuses.Unread why) comes unstarted = comes.1
   unwritten (statuses.Failed faults.CannotWrite) comes unstarted = absurd unstarted
   unwritten (statuses.Failed faults.CannotStart) comes unstarted = start comes.0 comes.2
@@ -57,6 +61,8 @@ module _ (seed ran ran_now : ℕ) (old new : Option (List ℕ)) where
   pub unmade : (status : Status) → MakesTo seed ran ran_now old new status → IsUnstarted status → new ≡ old
   unmade (statuses.Ended ending) makes unstarted = absurd unstarted
   unmade (statuses.Unread (unreads.NotAccepted line reason)) makes unstarted = absurd makes
+  unmade (statuses.Judged verdict) makes unstarted = absurd makes
+  unmade (statuses.Unread (unreads.NoRecord line reason)) makes unstarted = absurd makes
   unmade (statuses.Unread unreads.CannotRead) makes unstarted = absurd makes
   unmade (statuses.Unread unreads.Memory) makes unstarted = makes
   unmade (statuses.Failed faults.CannotWrite) makes unstarted = absurd unstarted
@@ -71,6 +77,8 @@ module _ (seed ran ran_now : ℕ) (old new : Option (List ℕ)) where
   made_statuses (statuses.Ended endings.Deadlocked) makes = absurd makes
   made_statuses (statuses.Ended endings.Raced) makes = absurd makes
   made_statuses (statuses.Unread (unreads.NotAccepted line reason)) makes = absurd makes
+  made_statuses (statuses.Judged verdict) makes = absurd makes
+  made_statuses (statuses.Unread (unreads.NoRecord line reason)) makes = absurd makes
   made_statuses (statuses.Unread unreads.CannotRead) makes = absurd makes
   made_statuses (statuses.Unread unreads.Memory) makes = inr (inl refl)
   made_statuses (statuses.Failed fault) makes = inr (inr (fault, refl))

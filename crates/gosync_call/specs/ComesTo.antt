@@ -29,6 +29,7 @@ IsReadFromFile told plan = IsReadIn Plain told plan
 -- why no workload is read in this dialect from a file: its text is refused, it can't be read, or memory is out
 abbrev pub IsUnreadIn : Dialect → Option (List ℕ) → Unread → Type 0
 IsUnreadIn dialect told (unreads.NotAccepted line reason) = (bytes : List ℕ) × AreBytesOf told bytes × IsRefusedIn dialect bytes line reason × ((plan : Plan) → ReadsIn dialect bytes plan → ⊥)
+IsUnreadIn dialect told (unreads.NoRecord line reason) = ⊥
 IsUnreadIn dialect told unreads.CannotRead = Unit {0}
 IsUnreadIn dialect told unreads.Memory = Unit {0}
 
@@ -50,6 +51,7 @@ Fails Comes plan old new faults.Memory = new ≡ old
 -- of the plan ended so, and all that is told of it was written; `Stops plan fault` for: this fault came, and left as much of that
 abbrev pub ComesBy : Dialect → (Plan → Ending → Type 0) → (Plan → Fault → Type 0) → Option (List ℕ) → Option (List ℕ) → Option (List ℕ) → Status → Type 0
 ComesBy dialect Ends Stops told old new (statuses.Ended ending) = (plan : Plan) × IsReadIn dialect told plan × Ends plan ending
+ComesBy dialect Ends Stops told old new (statuses.Judged verdict) = ⊥
 ComesBy dialect Ends Stops told old new (statuses.Unread why) = IsUnreadIn dialect told why × (new ≡ old)
 ComesBy dialect Ends Stops told old new (statuses.Failed fault) = (plan : Plan) × IsReadIn dialect told plan × Stops plan fault
 ComesBy dialect Ends Stops told old new statuses.Usage = ⊥

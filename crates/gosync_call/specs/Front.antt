@@ -17,12 +17,14 @@ IsFrontOfRun told front = ((plan : Plan) × (front ≡ fronts.Run plan) × IsRea
 -- a text was refused, not its reading
 abbrev pub IsRefusal : Unread → Type 0
 IsRefusal (unreads.NotAccepted line reason) = Unit {0}
+IsRefusal (unreads.NoRecord line reason) = Unit {0}
 IsRefusal unreads.CannotRead = ⊥
 IsRefusal unreads.Memory = ⊥
 
--- what is told of a file is told of all its bytes: it was run, or its text was refused
+-- what is told of a file is told of all its bytes: it was run, its record was judged, or its text was refused
 abbrev pub IsOfAllBytes : Status → Type 0
 IsOfAllBytes (statuses.Ended ending) = Unit {0}
+IsOfAllBytes (statuses.Judged verdict) = Unit {0}
 IsOfAllBytes (statuses.Unread why) = IsRefusal why
 IsOfAllBytes (statuses.Failed fault) = Unit {0}
 IsOfAllBytes statuses.Usage = ⊥
@@ -33,9 +35,10 @@ IsLeftOfAllBytes (fronts.Ended status) = IsOfAllBytes status
 IsLeftOfAllBytes (fronts.Run plan) = Unit {0}
 IsLeftOfAllBytes (fronts.Make seed) = ⊥
 
--- no worker made a call: no workload is read, or there was a fault before the first start ended
+-- no worker made a call: a record was judged, no workload is read, or there was a fault before the first start ended
 abbrev pub IsUnstarted : Status → Type 0
 IsUnstarted (statuses.Ended ending) = ⊥
+IsUnstarted (statuses.Judged verdict) = Unit {0}
 IsUnstarted (statuses.Unread why) = Unit {0}
 IsUnstarted (statuses.Failed faults.CannotWrite) = ⊥
 IsUnstarted (statuses.Failed faults.CannotStart) = Unit {0}

@@ -8,17 +8,24 @@ use Rattle.workload.specs.declared.limits.TheConstants.{MAX_INPUT}
 abbrev pub AreBytesOf : Option (List ℕ) → List ℕ → Type 0
 AreBytesOf told bytes = IfSome told (λ held. bytes ≡ held)
 
--- where a source tells the bytes of a file, these are they, or the first 8,388,609 of them
+-- where a source tells the bytes of a file, these are they, or as many of them as a text may have and one more
+abbrev pub IsInputTo : (limit : ℕ) → Option (List ℕ) → List ℕ → Type 0
+IsInputTo limit told bytes = IfSome told (λ held. bytes ≡ take (limit + 1) held)
+
+-- a first part of what was left was taken, of at most so many bytes
+abbrev pub TakesTo : (limit : ℕ) → Option (List ℕ) → Option (List ℕ) → List ℕ → Type 0
+TakesTo limit before after taken = Gives before after taken × (length taken ≤ limit + 1)
+
+-- the file was read to its end, or so many of its bytes were taken
+abbrev pub IsWhollyReadTo : (limit : ℕ) → Option (List ℕ) → Option (List ℕ) → Type 0
+IsWhollyReadTo limit told left = (bytes : List ℕ) × IsInputTo limit told bytes × TakesTo limit told left bytes
+
+-- of the text of a workload: its first 8,388,609 bytes at most
 abbrev pub IsInput : Option (List ℕ) → List ℕ → Type 0
-IsInput told bytes = IfSome told (λ held. bytes ≡ take (MAX_INPUT + 1) held)
+IsInput told bytes = IsInputTo MAX_INPUT told bytes
 
--- a first part of what was left was taken, of at most 8,388,609 bytes
-abbrev pub Takes : Option (List ℕ) → Option (List ℕ) → List ℕ → Type 0
-Takes before after taken = Gives before after taken × (length taken ≤ MAX_INPUT + 1)
-
--- the file was read to its end, or its first 8,388,609 bytes were taken
 abbrev pub IsWhollyRead : Option (List ℕ) → Option (List ℕ) → Type 0
-IsWhollyRead told left = (bytes : List ℕ) × IsInput told bytes × Takes told left bytes
+IsWhollyRead told left = IsWhollyReadTo MAX_INPUT told left
 
 -- the file can't be read: the count of its failed opens rose, or that of failed reads
 abbrev pub ReadFailed : ℕ → ℕ → ℕ → ℕ → Type 0

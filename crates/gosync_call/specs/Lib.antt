@@ -1,3 +1,4 @@
+pub mod Checks
 pub mod ComesTo
 pub mod Command
 pub mod Front

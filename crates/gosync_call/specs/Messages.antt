@@ -4,6 +4,8 @@ use Rattle.sync_outside.specs.Bytes.{Appends, AppendsFront}
 use Rattle.sync_outside.specs.Faults.{Rose}
 use Rattle.std.specs.Fmt.{decimal}
 use Rattle.sync_types.specs.Misuse.{text_of}
+use Rattle.record_clauses.specs.declared.clause.Verdict.TheVariants as verdicts
+use Rattle.record_text.specs.Texts as records
 use Rattle.workload.specs.Reason.{reason_text}
 use Rattle.script_calls.specs.declared.outcome.Outcome.{Outcome}
 use Rattle.script_calls.specs.declared.outcome.Outcome.TheVariants as outcomes
@@ -22,7 +24,10 @@ code_of (statuses.Ended endings.Done) = 0
 code_of (statuses.Ended (endings.Misused misuse)) = 2
 code_of (statuses.Ended endings.Deadlocked) = 2
 code_of (statuses.Ended endings.Raced) = 6
+code_of (statuses.Judged verdicts.Yes) = 0
+code_of (statuses.Judged (verdicts.No clause)) = 7
 code_of (statuses.Unread (unreads.NotAccepted line reason)) = 1
+code_of (statuses.Unread (unreads.NoRecord line reason)) = 1
 code_of (statuses.Unread unreads.CannotRead) = 3
 code_of (statuses.Unread unreads.Memory) = 4
 code_of (statuses.Failed faults.CannotWrite) = 3
@@ -51,9 +56,14 @@ ending_line (endings.Misused misuse) = text_of misuse ++ codes "\n"
 ending_line endings.Deadlocked = codes "fatal error: all goroutines are asleep - deadlock!\n"
 ending_line endings.Raced = []
 
--- why no workload is read from this file
+-- where a text has its first fault, and which
+abbrev pub refusal_line : ℕ → List ℕ → List ℕ
+refusal_line line reason = codes "gosync: line " ++ decimal line ++ codes ": " ++ reason ++ codes "\n"
+
+-- why no workload is read from this file, or no record
 abbrev pub unread_line : List ℕ → Unread → List ℕ
-unread_line file (unreads.NotAccepted line reason) = codes "gosync: line " ++ decimal line ++ codes ": " ++ reason_text reason ++ codes "\n"
+unread_line file (unreads.NotAccepted line reason) = refusal_line line (reason_text reason)
+unread_line file (unreads.NoRecord line reason) = refusal_line line (records.reason_text reason)
 unread_line file unreads.CannotRead = codes "gosync: cannot read " ++ file ++ codes "\n"
 unread_line file unreads.Memory = codes "gosync: out of memory\n"
 
@@ -66,6 +76,7 @@ fault_line faults.Memory = codes "gosync: out of memory\n"
 -- the line on the error output, of a run of this file
 abbrev pub message_of : List ℕ → Status → List ℕ
 message_of file (statuses.Ended ending) = ending_line ending
+message_of file (statuses.Judged verdict) = []
 message_of file (statuses.Unread why) = unread_line file why
 message_of file (statuses.Failed fault) = fault_line fault
-message_of file statuses.Usage = codes "usage: gosync run FILE | gosync step FILE | gosync make SEED | gosync race FILE\n"
+message_of file statuses.Usage = codes "usage: gosync run FILE | gosync step FILE | gosync make SEED | gosync race FILE | gosync check FILE | gosync trace FILE\n"

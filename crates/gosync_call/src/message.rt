@@ -1,7 +1,7 @@
 //! The line on the error output.
 ghost use Rattle.std.specs.Prelude.{◌≡◌, ◌≤◌, []};
 ghost use Rattle.std.specs.List.{flat_map};
-ghost use Rattle.gosync_call.specs.Messages.{ending_line, unread_line, fault_line, message_of, WritesOut};
+ghost use Rattle.gosync_call.specs.Messages.{ending_line, refusal_line, unread_line, fault_line, message_of, WritesOut};
 
 use crate::status::{Ending, Fault, Status, Unread};
 use itoa::Buffer;
@@ -38,18 +38,27 @@ fn say_ending<E: Sink>(err: &mut E, ending: Ending)
     }
 }
 
-/// Says why no workload is read from this file.
+/// Says where a text has its first fault, and which.
+fn say_refusal<E: Sink>(err: &mut E, line: u32, reason: &str)
+    ensures says { WritesOut (E.contents err.old) (E.contents err.new) (E.faults err.old) (E.faults err.new) (refusal_line line reason.now) }
+    ensures faults { E.faults err.old ≤ E.faults err.new }
+{
+    let mut digits = Buffer::new();
+    let line = digits.format(line).as_bytes();
+    say_pieces(
+        err,
+        &[b"gosync: line ", line, b": ", reason.as_bytes(), b"\n"],
+    );
+}
+
+/// Says why no workload is read from this file, or no record.
 fn say_unread<E: Sink>(err: &mut E, file: &str, why: Unread)
     ensures says { WritesOut (E.contents err.old) (E.contents err.new) (E.faults err.old) (E.faults err.new) (unread_line file.now why) }
     ensures faults { E.faults err.old ≤ E.faults err.new }
 {
     match why {
-        Unread::NotAccepted { line, reason } => {
-            let mut digits = Buffer::new();
-            let line = digits.format(line).as_bytes();
-            let text = reason.text().as_bytes();
-            say_pieces(err, &[b"gosync: line ", line, b": ", text, b"\n"]);
-        }
+        Unread::NotAccepted { line, reason } => say_refusal(err, line, reason.text()),
+        Unread::NoRecord { line, reason } => say_refusal(err, line, reason.text()),
         Unread::CannotRead => say_pieces(err, &[b"gosync: cannot read ", file.as_bytes(), b"\n"]),
         Unread::Memory => say_text(err, b"gosync: out of memory\n"),
     }
@@ -75,11 +84,12 @@ pub fn say<E: Sink>(err: &mut E, file: &str, status: Status)
 {
     match status {
         Status::Ended(ending) => say_ending(err, ending),
+        Status::Judged(_) => {}
         Status::Unread(why) => say_unread(err, file, why),
         Status::Failed(fault) => say_fault(err, fault),
         Status::Usage => say_text(
             err,
-            b"usage: gosync run FILE | gosync step FILE | gosync make SEED | gosync race FILE\n",
+            b"usage: gosync run FILE | gosync step FILE | gosync make SEED | gosync race FILE | gosync check FILE | gosync trace FILE\n",
         ),
     }
 }

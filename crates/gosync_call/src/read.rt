@@ -17,7 +17,7 @@ use workload::keyword::Dialect;
 use workload::laws::{
     plain_texts_are_race_texts_without_variables, race_texts_are_read_or_refused, read_or_refused,
 };
-use workload::{ParseFault, Workload};
+use workload::{MAX_INPUT, ParseFault, Workload};
 use workload_text::{parse, parse_race};
 
 /// Each place and number in a workload is in range.
@@ -56,7 +56,7 @@ pub fn read_workload<S: Sources>(
     read_or_refused();
     race_texts_are_read_or_refused();
     plain_texts_are_race_texts_without_variables();
-    let bytes = match read_input(alloc, file, src) {
+    let bytes = match read_input(alloc, MAX_INPUT, file, src) {
         Ok(bytes) => bytes,
         Err(InputFault::Failed) => return Err(Unread::CannotRead),
         Err(InputFault::Memory) => return Err(Unread::Memory),

@@ -2,6 +2,8 @@
 ghost use Rattle.std.specs.Prelude.{◌≡◌};
 ghost use Rattle.gosync_call.specs.Messages.{code_of};
 
+use record_clauses::Verdict;
+use record_text::CheckReason;
 use sync_types::Misuse;
 use workload::{Reason, Workload};
 
@@ -18,11 +20,13 @@ pub enum Ending {
     Raced,
 }
 
-/// Why no workload is read from a file.
+/// Why no workload is read from a file, or no record.
 #[derive(Clone, Copy, Debug, PartialEq, Eq)]
 pub enum Unread {
     /// The text isn't read: the line of its first fault, or 0 for the text as a whole, and the fault.
     NotAccepted { line: u32, reason: Reason },
+    /// The text isn't that of a record: the line of its first fault, or 0 for the text as a whole, and the fault.
+    NoRecord { line: u32, reason: CheckReason },
     /// The file can't be opened, or a read of it failed.
     CannotRead,
     /// Memory is out.
@@ -45,28 +49,31 @@ pub enum Fault {
 pub enum Status {
     /// A run ended, and its report is written.
     Ended(Ending),
-    /// No workload is read, and nothing is written.
+    /// The record of a run was judged, and the verdict is written.
+    Judged(Verdict),
+    /// No workload is read, or no record, and nothing is written.
     Unread(Unread),
-    /// A workload is read, and a fault came before its report was written to the end.
+    /// A workload is read, or a record, and a fault came before what is told of it was written to the end.
     Failed(Fault),
     /// The words of the command aren't taken.
     Usage,
 }
 
 impl Status {
-    /// The program's exit status, 0 to 6.
+    /// The program's exit status, 0 to 7.
     pub fn code(self) -> u8
         ensures { result ≡ code_of self }
     {
         match self {
-            Status::Ended(Ending::Done) => 0,
+            Status::Ended(Ending::Done) | Status::Judged(Verdict::Yes) => 0,
             Status::Ended(Ending::Misused(_) | Ending::Deadlocked) => 2,
-            Status::Unread(Unread::NotAccepted { .. }) => 1,
+            Status::Unread(Unread::NotAccepted { .. } | Unread::NoRecord { .. }) => 1,
             Status::Unread(Unread::CannotRead)
             | Status::Failed(Fault::CannotWrite | Fault::CannotStart) => 3,
             Status::Unread(Unread::Memory) | Status::Failed(Fault::Memory) => 4,
             Status::Usage => 5,
             Status::Ended(Ending::Raced) => 6,
+            Status::Judged(Verdict::No(_)) => 7,
         }
     }
 }

@@ -38,6 +38,8 @@ pub enum Request<'a> {
     File(Mode, &'a str),
     /// To make the workload of this seed, and run it with a thread for each worker.
     Make(u64),
+    /// To judge the record of this file.
+    Check(&'a str),
 }
 
 /// What the words ask for. They are refused where the command doesn't take them, or their SEED is no number of 64 bits.
@@ -54,6 +56,7 @@ pub fn asked<'a>(alloc: Global, words: &'a [String]) -> Result<Request<'a>, Word
             None => Err(WordsFault::Refused),
         },
         Ok((Subcommand::Race, file)) => Ok(Request::File(Mode::Race, file)),
+        Ok((Subcommand::Check, file)) => Ok(Request::Check(file)),
         Err(fault) => Err(fault),
     }
 }

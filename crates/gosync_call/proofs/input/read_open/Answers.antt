@@ -7,7 +7,7 @@ pub returns-then-count-eq0-clause-bytes : goal.returns-then-count-eq0-clause-byt
 returns-then-count-eq0-clause-bytes g c =
     let some : 0 < length (take c.min-room.result c.loop-chunk.chunk) = search (rules, length-take) in
     let none = ap (λ (n : ℕ). take n c.read.new.buf) c.if-count-eq0.true in
-    input_ended _ _ _ c.loop-chunk.invariant.gives (ended_before _ _ _ c.in_ok-count.ensures.gives none (c.in_ok-count.ensures.ends c.if-count-eq0.true some)) (omega (arith, c.loop-chunk.invariant.within, c.loop-chunk.bytes.ok))
+    input_ended c.args.limit _ _ _ c.loop-chunk.invariant.gives (ended_before _ _ _ c.in_ok-count.ensures.gives none (c.in_ok-count.ensures.ends c.if-count-eq0.true some)) (omega (arith, c.loop-chunk.invariant.within, c.loop-chunk.bytes.ok))
 
 -- what was read before memory was out
 pub returns-in_err-extend_from_slice-clause-err : goal.returns-in_err-extend_from_slice-clause-err
@@ -24,4 +24,4 @@ returns-in_err-extend_from_slice-clause-err g c =
 
 pub returns-clause-bytes : goal.returns-clause-bytes
 returns-clause-bytes g c =
-    input_full _ _ _ c.loop-chunk.invariant.gives (omega (arith, c.loop-chunk.invariant.within, c.loop-chunk-test.false, c.len.ensures, c.loop-chunk.bytes.ok))
+    input_full c.args.limit _ _ _ c.loop-chunk.invariant.gives (omega (arith, c.loop-chunk.invariant.within, c.loop-chunk-test.false, c.len.ensures, c.loop-chunk.bytes.ok))

@@ -11,12 +11,13 @@ use Rattle.workload.specs.Plan.{Plan}
 use Rattle.workload.specs.Reads.{ReadsIn}
 use Rattle.gosync_call.specs.declared.words.Mode.{Mode}
 use Rattle.gosync_call.specs.declared.words.Mode.TheVariants as modes
-use Rattle.gosync_call.specs.Command.{asked, file_in}
+use Rattle.gosync_call.specs.Command.{file_in}
 use Rattle.gosync_call.specs.Headline.{RunsTo, RunsInJobs}
 use Rattle.gosync_call.specs.Input.{ReadFailed}
 use Rattle.sync_outside.specs.Faults.{Rose}
-use Rattle.gosync_call.proofs.AskedWords.{no_file, not_both}
+use Rattle.gosync_call.proofs.AskedWords.{names_none, names_record, no_run_to_check, no_seed_to_check, not_both}
 use Rattle.gosync_call.proofs.Fronts.{asking, asks_run, by_threads, ended_make, ended_makes, ended_no_failed, ended_no_unread, err_of, failed_no_unread, front_comes, make_taken, refuses_by, run_is_read, run_no_ended, run_taken, run_unasked, run_unmade, same_fault}
+use Rattle.gosync_call.proofs.Judged.{completes_check, front_judges, refuses_check}
 use Rattle.gosync_call.proofs.Runs.{completes_races, completes_report, ended_run, ends_by_record, failed_run, fails_by_record, is_read, mode_comes, same_mode, says_run}
 use Rattle.gosync_call.proofs.program.gosync.Goals as goal
 
@@ -43,7 +44,7 @@ returns-in-Ok-clause-headline g c file asks =
     let mid = g.O.Sink.contents c.front.new.out in
     let new = g.O.Sink.contents c.run_by_threads.new.out in
     ended_run RunsTo told (g.O.Sink.contents c.args.out.now) mid new c.in-Run.workload c.in-Ok.ending c.say_run.result c.say_run.ensures.status (is_read told c.in-Run.workload (c.in-Run.ensures.run file asks))
-    (c.in-Run.ensures.unwritten (λ mode other also. same_mode (map string_bytes c.args.words.now) modes.Run mode file other asks also)).0
+    (c.in-Run.ensures.unwritten (λ mode other also. same_mode (map string_bytes c.args.words.now) modes.Run mode file other asks also) (λ name also. no_run_to_check (map string_bytes c.args.words.now) modes.Run file name asks also)).0
     (ends_by_record c.in-Run.workload mid new (g.P.Spawner.ran c.args.spawner.now) (g.P.Spawner.ran c.run_by_threads.new.spawner) c.in-Ok.ending c.in-Ok.ensures.ran)
 
 pub returns-in-Ok-clause-jobs : goal.returns-in-Ok-clause-jobs
@@ -51,11 +52,11 @@ returns-in-Ok-clause-jobs g c file asks =
     let told = g.S.Sources.contents c.args.src.now file in
     ended_run (RunsInJobs (g.P.Spawner.ran c.args.spawner.now) (g.P.Spawner.ran c.run_by_threads.new.spawner)) told (g.O.Sink.contents c.args.out.now) (g.O.Sink.contents c.front.new.out) (g.O.Sink.contents c.run_by_threads.new.out)
     c.in-Run.workload c.in-Ok.ending c.say_run.result c.say_run.ensures.status (is_read told c.in-Run.workload (c.in-Run.ensures.run file asks))
-    (c.in-Run.ensures.unwritten (λ mode other also. same_mode (map string_bytes c.args.words.now) modes.Run mode file other asks also)).0 c.in-Ok.ensures.ran
+    (c.in-Run.ensures.unwritten (λ mode other also. same_mode (map string_bytes c.args.words.now) modes.Run mode file other asks also) (λ name also. no_run_to_check (map string_bytes c.args.words.now) modes.Run file name asks also)).0 c.in-Ok.ensures.ran
 
 pub returns-in-Ok-clause-says : goal.returns-in-Ok-clause-says
 returns-in-Ok-clause-says g c =
-    says_run (file_in (asked (map string_bytes c.args.words.now))) c.say_run.result (statuses.Ended c.in-Ok.ending)
+    says_run (file_in (map string_bytes c.args.words.now)) c.say_run.result (statuses.Ended c.in-Ok.ending)
     (g.E.Sink.contents c.args.err.now) (g.E.Sink.contents c.front.new.err) (g.E.Sink.contents c.say_run.new.err) (g.E.Sink.faults c.args.err.now) (g.E.Sink.faults c.front.new.err) (g.E.Sink.faults c.say_run.new.err)
     c.say_run.ensures.status (c.in-Run.ensures.silent c.in-Run.workload refl) refl c.say_run.ensures.says
 
@@ -65,7 +66,7 @@ returns-in-Run-clause-headline g c file asks =
     let mid = g.O.Sink.contents c.front.new.out in
     let new = g.O.Sink.contents c.run_by_threads.new.out in
     failed_run RunsTo told (g.O.Sink.contents c.args.out.now) mid new c.in-Run.workload c.in-Err.fault c.say_run-in-Err.result c.say_run-in-Err.ensures.status (is_read told c.in-Run.workload (c.in-Run.ensures.run file asks))
-    (c.in-Run.ensures.unwritten (λ mode other also. same_mode (map string_bytes c.args.words.now) modes.Run mode file other asks also)).0
+    (c.in-Run.ensures.unwritten (λ mode other also. same_mode (map string_bytes c.args.words.now) modes.Run mode file other asks also) (λ name also. no_run_to_check (map string_bytes c.args.words.now) modes.Run file name asks also)).0
     (fails_by_record c.in-Run.workload mid new (g.P.Spawner.ran c.args.spawner.now) (g.P.Spawner.ran c.run_by_threads.new.spawner) c.in-Err.fault c.in-Err.ensures.ran)
 
 pub returns-in-Run-clause-jobs : goal.returns-in-Run-clause-jobs
@@ -73,18 +74,18 @@ returns-in-Run-clause-jobs g c file asks =
     let told = g.S.Sources.contents c.args.src.now file in
     failed_run (RunsInJobs (g.P.Spawner.ran c.args.spawner.now) (g.P.Spawner.ran c.run_by_threads.new.spawner)) told (g.O.Sink.contents c.args.out.now) (g.O.Sink.contents c.front.new.out) (g.O.Sink.contents c.run_by_threads.new.out)
     c.in-Run.workload c.in-Err.fault c.say_run-in-Err.result c.say_run-in-Err.ensures.status (is_read told c.in-Run.workload (c.in-Run.ensures.run file asks))
-    (c.in-Run.ensures.unwritten (λ mode other also. same_mode (map string_bytes c.args.words.now) modes.Run mode file other asks also)).0 c.in-Err.ensures.ran
+    (c.in-Run.ensures.unwritten (λ mode other also. same_mode (map string_bytes c.args.words.now) modes.Run mode file other asks also) (λ name also. no_run_to_check (map string_bytes c.args.words.now) modes.Run file name asks also)).0 c.in-Err.ensures.ran
 
 pub returns-in-Run-clause-says : goal.returns-in-Run-clause-says
 returns-in-Run-clause-says g c =
-    says_run (file_in (asked (map string_bytes c.args.words.now))) c.say_run-in-Err.result (statuses.Failed c.in-Err.fault)
+    says_run (file_in (map string_bytes c.args.words.now)) c.say_run-in-Err.result (statuses.Failed c.in-Err.fault)
     (g.E.Sink.contents c.args.err.now) (g.E.Sink.contents c.front.new.err) (g.E.Sink.contents c.say_run-in-Err.new.err) (g.E.Sink.faults c.args.err.now) (g.E.Sink.faults c.front.new.err) (g.E.Sink.faults c.say_run-in-Err.new.err)
     c.say_run-in-Err.ensures.status (c.in-Run.ensures.silent c.in-Run.workload refl) refl c.say_run-in-Err.ensures.says
 
 pub returns-in-Ended-clause-make : goal.returns-in-Ended-clause-make
 returns-in-Ended-clause-make g c seed asks =
     ended_make c.in-Ended.status seed (g.P.Spawner.ran c.args.spawner.now) (g.P.Spawner.ran c.args.spawner.now) (g.O.Sink.contents c.args.out.now) (g.O.Sink.contents c.front.new.out) (c.in-Ended.ensures.make seed asks)
-    (c.in-Ended.ensures.unwritten (λ mode file also. absurd (not_both (map string_bytes c.args.words.now) seed mode file asks also))).0
+    (c.in-Ended.ensures.unwritten (λ mode file also. absurd (not_both (map string_bytes c.args.words.now) seed mode file asks also)) (λ name also. no_seed_to_check (map string_bytes c.args.words.now) seed name asks also)).0
 
 pub returns-in-Ended-clause-makes : goal.returns-in-Ended-clause-makes
 returns-in-Ended-clause-makes g c seed asks no_write no_start = ended_makes c.in-Ended.status seed (c.in-Ended.ensures.make seed asks)
@@ -101,7 +102,7 @@ returns-in-Ended-clause-runs g c file bytes plan asks is reads no_read no_write 
     (ReadFailed (g.S.Sources.open_faults c.args.src.now file) (g.S.Sources.open_faults c.front.new.src file) (g.S.Sources.read_faults c.args.src.now) (g.S.Sources.read_faults c.front.new.src))
     (Rose (g.O.Sink.faults c.args.out.now) (g.O.Sink.faults c.front.new.out)) ⊥
     RunsTo c.one_reading.ensures c.in-Ended.status
-    (front_comes RunsTo told old new c.in-Ended.status (c.in-Ended.ensures.run file asks) (c.in-Ended.ensures.unwritten (λ mode other also. same_mode (map string_bytes c.args.words.now) modes.Run mode file other asks also)).0)
+    (front_comes RunsTo told old new c.in-Ended.status (c.in-Ended.ensures.run file asks) (c.in-Ended.ensures.unwritten (λ mode other also. same_mode (map string_bytes c.args.words.now) modes.Run mode file other asks also) (λ name also. no_run_to_check (map string_bytes c.args.words.now) modes.Run file name asks also)).0)
     is reads
     (λ e. c.in-Ended.ensures.cannot_read modes.Run file asks (ap (λ (s : Status). fronts.Ended s) e))
     (λ e. c.in-Ended.ensures.cannot_write (ap (λ (s : Status). fronts.Ended s) e))
@@ -117,7 +118,7 @@ returns-in-Ended-clause-refused g c mode file bytes asks is none no_read =
     let Read = ReadFailed (g.S.Sources.open_faults c.args.src.now file) (g.S.Sources.open_faults c.front.new.src file) (g.S.Sources.read_faults c.args.src.now) (g.S.Sources.read_faults c.front.new.src) in
     by_threads words mode file asks
     (λ run is_run. refuses_by modes.Run told old new bytes Read c.in-Ended.status
-    (front_comes RunsTo told old new c.in-Ended.status (c.in-Ended.ensures.run file run) (c.in-Ended.ensures.unwritten (λ other name also. same_mode words modes.Run other file name run also)).0) is
+    (front_comes RunsTo told old new c.in-Ended.status (c.in-Ended.ensures.run file run) (c.in-Ended.ensures.unwritten (λ other name also. same_mode words modes.Run other file name run also) (λ name also. no_run_to_check words modes.Run file name run also)).0) is
     (subst (λ (m : Mode). (p : Plan) → ReadsIn (dialect_of m) bytes p → ⊥) is_run none)
     (λ e. c.in-Ended.ensures.cannot_read modes.Run file run (ap (λ (s : Status). fronts.Ended s) e)) no_read)
     (λ other. refuses_by mode told old new bytes Read c.in-Ended.status (mode_comes mode told old new c.in-Ended.status (c.in-Ended.ensures.one_thread mode file asks other)) is none
@@ -136,7 +137,7 @@ returns-in-Ok-clause-runs g c file bytes plan asks is reads no_read no_write no_
     let mid = g.O.Sink.contents c.front.new.out in
     let new = g.O.Sink.contents c.run_by_threads.new.out in
     let comes = ended_run RunsTo told old mid new c.in-Run.workload c.in-Ok.ending c.say_run.result c.say_run.ensures.status (is_read told c.in-Run.workload (c.in-Run.ensures.run file asks))
-    (c.in-Run.ensures.unwritten (λ mode other also. same_mode (map string_bytes c.args.words.now) modes.Run mode file other asks also)).0
+    (c.in-Run.ensures.unwritten (λ mode other also. same_mode (map string_bytes c.args.words.now) modes.Run mode file other asks also) (λ name also. no_run_to_check (map string_bytes c.args.words.now) modes.Run file name asks also)).0
     (ends_by_record c.in-Run.workload mid new (g.P.Spawner.ran c.args.spawner.now) (g.P.Spawner.ran c.run_by_threads.new.spawner) c.in-Ok.ending c.in-Ok.ensures.ran) in
     completes_report old new bytes plan told ⊥ ⊥ ⊥ RunsTo c.one_reading.ensures c.say_run.result comes is reads
     (λ e. ended_no_unread c.in-Ok.ending unreads.CannotRead (sym c.say_run.ensures.status ∙ e))
@@ -170,7 +171,7 @@ returns-in-Run-clause-runs g c file bytes plan asks is reads no_read no_write no
     let old = g.O.Sink.contents c.args.out.now in
     let mid = g.O.Sink.contents c.front.new.out in
     let new = g.O.Sink.contents c.run_by_threads.new.out in
-    let silent = c.in-Run.ensures.unwritten (λ mode other also. same_mode (map string_bytes c.args.words.now) modes.Run mode file other asks also) in
+    let silent = c.in-Run.ensures.unwritten (λ mode other also. same_mode (map string_bytes c.args.words.now) modes.Run mode file other asks also) (λ name also. no_run_to_check (map string_bytes c.args.words.now) modes.Run file name asks also) in
     let status = sym c.say_run-in-Err.ensures.status in
     let comes = failed_run RunsTo told old mid new c.in-Run.workload c.in-Err.fault c.say_run-in-Err.result c.say_run-in-Err.ensures.status (is_read told c.in-Run.workload (c.in-Run.ensures.run file asks)) silent.0
     (fails_by_record c.in-Run.workload mid new (g.P.Spawner.ran c.args.spawner.now) (g.P.Spawner.ran c.run_by_threads.new.spawner) c.in-Err.fault c.in-Err.ensures.ran) in
@@ -192,6 +193,7 @@ returns-in-Run-clause-cannot_start g c is =
       c.in-Err.ensures.cannot_start (ap err_of fault),
       inl (asks_run words (asking words)
           (λ mode file asks other. let ended = c.in-Run.ensures.one_thread mode file asks other in run_no_ended plan ended.0 ended.1)
+          (λ file check. let ended = c.in-Run.ensures.check file check in run_no_ended plan ended.0 ended.1)
           (λ seed make. run_unmade plan seed (c.in-Run.ensures.make seed make))
           (λ refused. run_taken plan (c.in-Run.ensures.refused refused))),
     )
@@ -220,10 +222,10 @@ returns-clause-jobs g c file asks = absurd (not_both (map string_bytes c.args.wo
 pub returns-clause-says : goal.returns-clause-says
 returns-clause-says g c =
     let words = map string_bytes c.args.words.now in
-    says_run (file_in (asked words)) c.make.result c.make.result
+    says_run (file_in words) c.make.result c.make.result
     (g.E.Sink.contents c.args.err.now) (g.E.Sink.contents c.front.new.err) (g.E.Sink.contents c.make.new.err) (g.E.Sink.faults c.args.err.now) (g.E.Sink.faults c.front.new.err) (g.E.Sink.faults c.make.new.err)
     refl (c.in-Make.ensures.silent_making c.in-Make.seed refl)
-    (ap (λ (named : Option (Mode × List ℕ)). message_of (file_in named) c.make.result) (sym (no_file words c.in-Make.seed (c.in-Make.ensures.made c.in-Make.seed refl))))
+    (ap (λ (named : List ℕ). message_of named c.make.result) (sym (names_none words c.in-Make.seed (c.in-Make.ensures.made c.in-Make.seed refl))))
     c.make.ensures.says
 
 pub returns-clause-cannot_start : goal.returns-clause-cannot_start
@@ -253,3 +255,40 @@ returns-in-Ended-clause-races g c file bytes plan asks is reads no_read no_write
     (λ e. c.in-Ended.ensures.cannot_write (ap (λ (s : Status). fronts.Ended s) e))
     (λ e. c.in-Ended.ensures.started (ap (λ (s : Status). fronts.Ended s) e))
     no_read no_write (λ e. e)
+
+pub returns-in-Ended-clause-checks : goal.returns-in-Ended-clause-checks
+returns-in-Ended-clause-checks g c file bytes text verdict asks is tells comes no_read no_write =
+    let told = g.S.Sources.contents c.args.src.now file in
+    let old = g.O.Sink.contents c.args.out.now in
+    let new = g.O.Sink.contents c.front.new.out in
+    completes_check told old new bytes
+    (ReadFailed (g.S.Sources.open_faults c.args.src.now file) (g.S.Sources.open_faults c.front.new.src file) (g.S.Sources.read_faults c.args.src.now) (g.S.Sources.read_faults c.front.new.src))
+    (Rose (g.O.Sink.faults c.args.out.now) (g.O.Sink.faults c.front.new.out))
+    text verdict c.a_text_comes_to_one_verdict.ensures.one c.in-Ended.status (front_judges told old new c.in-Ended.status (c.in-Ended.ensures.check file asks)) is tells comes
+    (λ e. c.in-Ended.ensures.check_cannot_read file asks (ap (λ (s : Status). fronts.Ended s) e))
+    (λ e. c.in-Ended.ensures.cannot_write (ap (λ (s : Status). fronts.Ended s) e))
+    no_read no_write
+
+pub returns-in-Ended-clause-check_refused : goal.returns-in-Ended-clause-check_refused
+returns-in-Ended-clause-check_refused g c file bytes asks is none no_read =
+    let told = g.S.Sources.contents c.args.src.now file in
+    let old = g.O.Sink.contents c.args.out.now in
+    let new = g.O.Sink.contents c.front.new.out in
+    refuses_check told old new bytes
+    (ReadFailed (g.S.Sources.open_faults c.args.src.now file) (g.S.Sources.open_faults c.front.new.src file) (g.S.Sources.read_faults c.args.src.now) (g.S.Sources.read_faults c.front.new.src))
+    (Rose (g.O.Sink.faults c.args.out.now) (g.O.Sink.faults c.front.new.out))
+    c.in-Ended.status (front_judges told old new c.in-Ended.status (c.in-Ended.ensures.check file asks)) is none
+    (λ e. c.in-Ended.ensures.check_cannot_read file asks (ap (λ (s : Status). fronts.Ended s) e)) no_read
+
+pub returns-in-Ok-clause-check_whole : goal.returns-in-Ok-clause-check_whole
+returns-in-Ok-clause-check_whole g c file check all =
+    let ended = c.in-Run.ensures.check file check in
+    absurd (run_no_ended c.in-Run.workload ended.0 ended.1)
+
+pub returns-in-Run-clause-check_whole : goal.returns-in-Run-clause-check_whole
+returns-in-Run-clause-check_whole g c file check all =
+    let ended = c.in-Run.ensures.check file check in
+    absurd (run_no_ended c.in-Run.workload ended.0 ended.1)
+
+pub returns-clause-check_whole : goal.returns-clause-check_whole
+returns-clause-check_whole g c file check all = absurd (no_seed_to_check (map string_bytes c.args.words.now) c.in-Make.seed file (c.in-Make.ensures.made c.in-Make.seed refl) check)

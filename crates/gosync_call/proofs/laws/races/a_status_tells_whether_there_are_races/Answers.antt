@@ -14,7 +14,7 @@ returns-clause-raced c told old new status comes is =
 
 pub returns-clause-none : goal.returns-clause-none
 returns-clause-none c told old new status comes is =
-    let ended = subst (λ (s : Status). RacesTo told old new s) (is_done status is) comes in
+    let ended = is_done (λ (s : Status). RacesTo told old new s) status comes (λ judged. absurd judged) is in
     let done = done_left ended.0 old new ended.2 in
     (ended.0, done.0, ended.1, done.1, done.2)
 

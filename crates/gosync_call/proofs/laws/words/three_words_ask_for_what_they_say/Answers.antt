@@ -25,3 +25,6 @@ returns-clause-make c program seed small = (
   c.a_subcommand_with_its_argument_is_taken.ensures program (codes "make") (decimal seed) subcommands.Make refl (decimal_is_argument seed small),
   (c.a_seed_is_its_decimal_text.ensures (decimal seed) seed).1 (small, refl),
 )
+
+pub returns-clause-check : goal.returns-clause-check
+returns-clause-check c program file plain = c.a_subcommand_with_its_argument_is_taken.ensures program (codes "check") file subcommands.Check refl plain
