@@ -10,4 +10,6 @@ mod machines;
 #[cfg(test)]
 mod placed;
 #[cfg(test)]
+mod shared;
+#[cfg(test)]
 mod texts;
