@@ -1,4 +1,5 @@
-//! Tests of the parts of a checker: hand-made lists of each kind of object, right and wrong. They are written as the texts of records.
+//! Tests of the parts of a checker: hand-made lists of each kind of object, and calls on maps and atomics, right and wrong. They are
+//! written as the texts of records.
 #![tactic(auto)]
 
 #[cfg(test)]
@@ -9,5 +10,7 @@ mod lists;
 mod machines;
 #[cfg(test)]
 mod placed;
+#[cfg(test)]
+mod shared;
 #[cfg(test)]
 mod texts;

@@ -59,6 +59,8 @@ const RANGE: &[u8] = b"workers 1\nmap t\nworker 0\nload t k\nrange t\n";
 
 const TEST: &[u8] = b"workers 1\nint64 a\nworker 0\nifeq a 1 1\nadd a 5\nload a\n";
 
+const TWO_BEHIND: &[u8] = b"workers 1\nint64 a\nworker 0\nifeq a 1 2\nadd a 5\nadd a 6\nload a\n";
+
 const WAITFOR: &[u8] = b"workers 1\nmutex m\nint64 a\ncond c m\nworker 0\nwaitfor c a 1 1\n";
 
 const LOCKS: [Row; 20] = [
@@ -293,7 +295,7 @@ const WAITS: [Row; 21] = [
     ),
 ];
 
-const OTHERS: [Row; 19] = [
+const OTHERS: [Row; 20] = [
     (
         GO,
         1,
@@ -376,6 +378,7 @@ const OTHERS: [Row; 19] = [
         b"call 0 0 0 0 1\ncall 0 1 0 1 6\ncall 0 2 1 2 6\n",
         Found::Line(Ending::Whole, 3),
     ),
+    (TWO_BEHIND, 0, b"call 0 0 0 0 0\ncall 0 3 0 1 0\n", WHOLE_2),
     (WAITFOR, 0, b"call 0 0 0 0 1\n", WHOLE_1),
     (
         WAITFOR,

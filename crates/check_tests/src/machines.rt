@@ -28,7 +28,7 @@ type Row = (&'static [u8], Found);
 const WORKLOAD: &[u8] =
     b"workers 2\nmutex m\nrwmutex w\ncond c m\nwaitgroup g 1\nint64 a\nonce o a 3\noncefunc f 7\noncevalue v 9\npool p\ndormant 1\nworker 0\nput p 5\nput p 6\n";
 
-const LOCKS: [Row; 26] = [
+const LOCKS: [Row; 29] = [
     (b"", Found::Lawful),
     (
         b"event 0 - m 0 0,0 arrive@0 acquired\nevent 0 - m 1 0,0 unlock free\n",
@@ -48,6 +48,13 @@ const LOCKS: [Row; 26] = [
     ),
     (
         b"event 0 - m 0 0,0 arrive@0 acquired\nevent 1 - m 1 0,0 try true\n",
+        Found::NoRun,
+    ),
+    // Nobody is woken before it arrives.
+    (b"event 0 - m 0 0,0 woken@0 acquired\n", Found::NoRun),
+    (b"event 0 - m 0 0,0 woken@0 still\n", Found::Lawful),
+    (
+        b"event 1 - m 0 0,0 woken@1 acquired\nevent 1 - m 1 0,0 arrive@0 acquired\n",
         Found::NoRun,
     ),
     (b"event 0 - m 0 0,0 unlock m1\n", Found::Lawful),

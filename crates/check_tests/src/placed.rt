@@ -79,7 +79,7 @@ fn on_atomic(
     ))
 }
 
-// Of the calls on maps the tests make two.
+// Of the calls on maps the tests make three.
 fn numbered(workload: &Workload, call: &MapCall<Name>) -> Option<MapCall<u32>> {
     let keys = workload.keys();
     match call {
@@ -90,13 +90,16 @@ fn numbered(workload: &Workload, call: &MapCall<Name>) -> Option<MapCall<u32>> {
             key: keys.number(key.as_bytes())?,
             value: *value,
         }),
+        MapCall::Delete { key } => Some(MapCall::Delete {
+            key: keys.number(key.as_bytes())?,
+        }),
         _ => None,
     }
 }
 
 fn map_reply(call: &MapCall<u32>, reply: PlacedReply) -> Option<MapReply> {
     match (call, reply) {
-        (MapCall::Store { .. }, PlacedReply::Done) => Some(MapReply::Done),
+        (MapCall::Store { .. } | MapCall::Delete { .. }, PlacedReply::Done) => Some(MapReply::Done),
         (MapCall::Load { .. }, PlacedReply::Absent) => Some(MapReply::Found(None)),
         (MapCall::Load { .. }, PlacedReply::Valued { value, .. }) => {
             Some(MapReply::Found(Some(value)))

@@ -282,12 +282,51 @@ fn with_report(alloc: Global, bytes: u32) -> Result<Vec<u8>, AllocError> {
     Ok(text)
 }
 
+// A text with an item line of 386 bytes and so many.
+fn with_front(alloc: Global, digits: u32) -> Result<Vec<u8>, AllocError> {
+    let mut text = Vec::from_slice(alloc, b"workers 32\nrecord\ncall 0 - 0 ")?;
+    for _ in 0..digits {
+        text.push(b'1')?;
+    }
+    for _ in 0..31 {
+        text.extend_from_slice(b",11111111111")?;
+    }
+    text.extend_from_slice(b" ok\noutcome done\n")?;
+    Ok(text)
+}
+
 #[test]
 fn the_limit_of_a_line(rt: HostRuntime) -> Result<(), Fail> {
+    let most = with_front(rt.alloc(), 14)?;
+    assert!(rt; refusal(rt.alloc(), &most) == (0, BAD));
+    let more = with_front(rt.alloc(), 15)?;
+    assert!(rt; refusal(rt.alloc(), &more) == (3, BAD));
     let most = with_report(rt.alloc(), 400)?;
     assert!(rt; refusal(rt.alloc(), &most) == (0, BAD));
     let more = with_report(rt.alloc(), 401)?;
     assert!(rt; refusal(rt.alloc(), &more) == (FIRST + 1, BAD));
+    Ok(())
+}
+
+// A workload's text that is cut off behind so many bytes, a line feed, and a record without items.
+fn with_comments(alloc: Global, bytes: usize) -> Result<Vec<u8>, AllocError> {
+    let mut text = Vec::from_slice(alloc, b"workers 1\n")?;
+    let mut line = [b'#'; 128];
+    line[127] = b'\n';
+    for _ in 0..65_536 {
+        text.extend_from_slice(&line)?;
+    }
+    text.truncate(bytes);
+    text.extend_from_slice(b"\nrecord\noutcome done\n")?;
+    Ok(text)
+}
+
+#[test]
+fn the_limit_of_what_stands_before_a_record(rt: HostRuntime) -> Result<(), Fail> {
+    let most = with_comments(rt.alloc(), 8_388_607)?;
+    assert!(rt; refusal(rt.alloc(), &most) == (0, BAD));
+    let more = with_comments(rt.alloc(), 8_388_608)?;
+    assert!(rt; refusal(rt.alloc(), &more) == (0, CheckReason::Workload(Reason::InputTooLong)));
     Ok(())
 }
 
