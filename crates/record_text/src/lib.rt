@@ -12,14 +12,18 @@ pub mod front;
 pub mod item_line;
 pub mod item_reading;
 pub mod item_words;
+pub mod item_writing;
 pub mod laws;
 pub mod limits;
 pub mod line_reading;
+pub mod line_writing;
 pub mod number;
+pub mod number_writing;
 pub mod pair;
 pub mod reading;
 pub mod text;
 pub mod word;
+pub mod written;
 
 pub use answer::{AnswerRow, AnswerWord};
 pub use event::{EventWord, JournalKind};
