@@ -52,23 +52,15 @@ onto_joined byte lines (first, more, is) = ap (λ ls. joined (onto_first byte ls
 differs : (byte : ℕ) → eqb byte 10 ≡ false → byte ≢ 10
 differs byte is same = false≢true (sym is ∙ ap (λ b. eqb b 10) same)
 
--- a line with its line feed
-some_line : (line : List ℕ) → IsSome (lines_of (line ++ 10 ∷ []))
-some_line [] = ([], [], refl)
-some_line (byte ∷ line) = by (eqb byte 10) refl where
-  by : (b : Bool) → eqb byte 10 ≡ b → IsSome (lines_of (byte ∷ (line ++ 10 ∷ [])))
-  by true is = ([], lines_of (line ++ 10 ∷ []), ten byte (line ++ 10 ∷ []) (eqb-true byte 10 is))
-  by false is = subst IsSome (sym (other byte (line ++ 10 ∷ []) (differs byte is))) (onto_some byte (lines_of (line ++ 10 ∷ [])) (some_line line))
+-- a byte more in front
+byte_some : (byte : ℕ) (text : List ℕ) → IsSome (lines_of text) → IsSome (lines_of (byte ∷ text))
+byte_some byte text some = by (eqb byte 10) refl where
+  by : (b : Bool) → eqb byte 10 ≡ b → IsSome (lines_of (byte ∷ text))
+  by true is = ([], lines_of text, ten byte text (eqb-true byte 10 is))
+  by false is = subst IsSome (sym (other byte text (differs byte is))) (onto_some byte (lines_of text) some)
 
-line_ended : (line : List ℕ) → IsEnded (line ++ 10 ∷ [])
-line_ended [] = record { apart = λ rest. refl; joins = refl }
-line_ended (byte ∷ line) = by (eqb byte 10) refl where
-  abbrev text : List ℕ
-  text = line ++ 10 ∷ []
-
-  abbrev is_ended : IsEnded text
-  is_ended = line_ended line
-
+byte_ended : (byte : ℕ) (text : List ℕ) → IsSome (lines_of text) → IsEnded text → IsEnded (byte ∷ text)
+byte_ended byte text some is_ended = by (eqb byte 10) refl where
   by : (b : Bool) → eqb byte 10 ≡ b → IsEnded (byte ∷ text)
   by true is =
       let feed = eqb-true byte 10 is in
@@ -78,11 +70,19 @@ line_ended (byte ∷ line) = by (eqb byte 10) refl where
       }
   by false is =
       let plain = differs byte is in
-      let some = some_line line in
       record {
         apart = λ rest. other byte (text ++ rest) plain ∙ ap (onto_first byte) (is_ended.apart rest) ∙ onto_apart byte (lines_of text) (lines_of rest) some ∙ ap (λ (ls : List (List ℕ)). ls ++ lines_of rest) (sym (other byte text plain));
         joins = ap joined (other byte text plain) ∙ onto_joined byte (lines_of text) some ∙ ap (λ (bs : List ℕ). byte ∷ bs) is_ended.joins;
       }
+
+-- a line with its line feed
+some_line : (line : List ℕ) → IsSome (lines_of (line ++ 10 ∷ []))
+some_line [] = ([], [], refl)
+some_line (byte ∷ line) = byte_some byte (line ++ 10 ∷ []) (some_line line)
+
+line_ended : (line : List ℕ) → IsEnded (line ++ 10 ∷ [])
+line_ended [] = record { apart = λ rest. refl; joins = refl }
+line_ended (byte ∷ line) = byte_ended byte (line ++ 10 ∷ []) (some_line line) (line_ended line)
 
 joined_both : (lines more : List (List ℕ)) → joined (lines ++ more) ≡ joined lines ++ joined more
 joined_both [] more = refl

@@ -1,5 +1,5 @@
 //! Laws of the text of a record.
-ghost use Rattle.std.specs.Prelude.{◌≡◌, ℕ, ◌+◌, ◌<◌, ◌≤◌, true, ◌∷◌, List, Option, Some, codes, length, map, slice_get, get_or, []};
+ghost use Rattle.std.specs.Prelude.{◌≡◌, ℕ, ◌+◌, ◌<◌, ◌≤◌, true, false, ◌∷◌, List, Option, Some, codes, length, map, slice_get, get_or, []};
 ghost use Rattle.std.specs.List.{list_all};
 ghost use Rattle.sync_types.specs.declared.misuse.Misuse.{Misuse};
 ghost use Rattle.workload.specs.Dialect.{has_variables};
