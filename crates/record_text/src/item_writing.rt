@@ -14,7 +14,7 @@ use crate::answer::AnswerWord;
 use crate::directory::Directory;
 use crate::event::EventWord;
 use crate::item_line::{ItemLine, PlacedReply, Said};
-use crate::limits::LINE_ROOM;
+use crate::limits::RECORD_LINE_ROOM;
 use crate::number_writing::{push_front, push_number, push_number_word, push_whole};
 use crate::word::{misuse_word, truth_word};
 use workload::Workload;
@@ -214,7 +214,7 @@ pub fn set_item_line(
 )
     requires directory { directory.now ≡ named_in workload.now }
     requires few { length item.now.front ≤ MAX_WORKERS }
-    requires room { LINE_ROOM ≤ vec_capacity line.old }
+    requires room { RECORD_LINE_ROOM ≤ vec_capacity line.old }
     ensures line { line.new.items ≡ item_text workload.now item.now }
     ensures end { HasRoom line.new 1 }
     ensures room { vec_capacity line.old ≤ vec_capacity line.new }

@@ -30,7 +30,8 @@ use script_calls::Outcome;
 use sync_model::laws::shared::each_entry_is_a_call;
 use sync_types::laws::maps::{calls_leave_other_keys, only_a_clear_has_no_key};
 use workload::laws::{
-    canonical_reads, keys_are_numbered_by_first_appearance, one_reading, one_refusal, read_or_refused,
+    canonical_reads, keys_are_numbered_by_first_appearance, one_reading, one_refusal,
+    read_or_refused,
 };
 use workload::{ObjectKind, ObjectLine};
 
