@@ -1,4 +1,5 @@
-//! Tests of the parts of a checker: hand-made lists of each kind of object, right and wrong. They are written as the texts of records.
+//! Tests of the parts of a checker: hand-made lists of each kind of object, right and wrong. They are written as the texts of records,
+//! and back.
 #![tactic(auto)]
 
 #[cfg(test)]
@@ -11,3 +12,5 @@ mod machines;
 mod placed;
 #[cfg(test)]
 mod texts;
+#[cfg(test)]
+mod written;

@@ -1,6 +1,5 @@
 -- The text of a record, as it is written, tells what was written.
-use Rattle.std.proofs.Common.{◌≡◌, ◌≢◌, ℕ, ◌≤◌, Bool, true, false, ◌&&◌, not, eqb, List, [], ◌∷◌, ◌++◌, map, length, codes, Option, Some, None, refl, sym, ap, ◌∙◌, subst, arith, nat_eq, append_assoc}
-use Rattle.std.specs.Prelude.{nat_lt}
+use Rattle.std.proofs.Common.{◌≡◌, ◌≢◌, ℕ, ◌≤◌, Bool, true, false, not, eqb, List, [], ◌∷◌, ◌++◌, map, length, Option, Some, None, refl, sym, ap, ◌∙◌, subst, arith, append_assoc}
 use Rattle.std.specs.List.{AllByRecursion, join_with_byte, list_all, onto_first}
 use Rattle.std.proofs.lemmas.Bool.{eqb-true, false≢true, ltb-true, ne_eqb}
 use Rattle.std.proofs.lemmas.List.{length-map}
@@ -21,7 +20,7 @@ use Rattle.workload.specs.Reads.{Continues, IsRead, Reads, ReadsOn}
 use Rattle.workload.specs.Words.{first_spelled, spelled}
 use Rattle.record_text.specs.declared.item_line.ItemLine.{ItemLine}
 use Rattle.record_text.specs.declared.limits.TheConstants.{MAX_ITEMS, MAX_RECORD}
-use Rattle.record_text.specs.ItemLines.{is_item, item_text, item_words, said_word}
+use Rattle.record_text.specs.ItemLines.{is_item, item_text, item_words}
 use Rattle.record_text.specs.Told.{IsTold, are_before, is_record_line, is_short_line, joined, outcome_line, record_line}
 use Rattle.record_text.specs.WrittenLines.{record_lines, record_text}
 use Rattle.record_text.proofs.Decimals.{both, pair}
