@@ -1,5 +1,5 @@
 //! Tests of the parts of a checker: hand-made lists of each kind of object, and calls on maps and atomics, right and wrong. They are
-//! written as the texts of records.
+//! written as the texts of records, and back.
 #![tactic(auto)]
 
 #[cfg(test)]
@@ -14,3 +14,5 @@ mod placed;
 mod shared;
 #[cfg(test)]
 mod texts;
+#[cfg(test)]
+mod written;

@@ -1,17 +1,17 @@
 -- The bytes of an item's line are cut into its words again.
-use Rattle.std.proofs.Common.{◌≡◌, ℕ, zero, suc, ◌^◌, ◌<◌, ◌≤◌, Bool, true, false, ◌&&◌, not, cond, eqb, nat_le, List, [], ◌∷◌, ◌++◌, map, length, get_or, slice_get, codes, Option, Some, None, refl, sym, ap, ◌∙◌, subst, arith}
-use Rattle.std.specs.Prelude.{nat_lt}
+use Rattle.std.proofs.Common.{◌≡◌, ℕ, zero, suc, ◌^◌, ◌<◌, ◌≤◌, Bool, true, false, ◌&&◌, cond, eqb, nat_le, List, [], ◌∷◌, ◌++◌, map, length, get_or, slice_get, codes, Option, Some, None, refl, sym, ap, ◌∙◌, subst, arith}
+use Rattle.std.specs.Prelude.{nat_lt, ◌||◌}
 use Rattle.std.specs.List.{AllByRecursion, flat_map, join_with_byte, list_all, list_any, onto_first, slice_split}
 use Rattle.std.specs.Option.{option_map_or, option_to_list}
 use Rattle.std.specs.Str.{all_ascii_digits, bytes_eq}
 use Rattle.std.specs.Fmt.{decimal}
-use Rattle.std.proofs.lemmas.Bool.{false≢true, leb-true, ltb-true, ne_eqb}
+use Rattle.std.proofs.lemmas.Bool.{eqb-true, leb-true, lt-ltb, ltb-true, ne_eqb}
 use Rattle.std.proofs.lemmas.List.Folds.{list_all-append}
 use Rattle.std.proofs.lemmas.List.Splits.{join_with_byte-slice_split, slice_split-cons_no, slice_split-cons_yes}
 use Rattle.script_calls.specs.declared.call.Call.{Call}
 use Rattle.script_calls.specs.declared.call.Operation.{Operation}
 use Rattle.script_calls.specs.declared.call.Operation.TheVariants as operations
-use Rattle.sync_types.specs.Name.{is_name, is_name_byte}
+use Rattle.sync_types.specs.Name.{is_letter, is_name, is_name_byte}
 use Rattle.sync_types.specs.SequentialMap.{map_key}
 use Rattle.workload.specs.declared.object.ObjectLine.{ObjectLine}
 use Rattle.workload.specs.Draft.{all_keys, is_call, keys_of, operation_keys, is_operation, is_value}
@@ -48,11 +48,11 @@ use Rattle.sync_types.specs.declared.misuse.Misuse.TheVariants.{UnlockOfUnlocked
 
 -- ---- words without a space
 
-abbrev is_solid : ℕ → Bool
-is_solid byte = not (eqb byte 32)
+abbrev pub is_solid : ℕ → Bool
+is_solid byte = nat_lt 32 byte
 
--- no byte of the word is a space
-abbrev Solid : List ℕ → Type 0
+-- each byte of the word is greater than a space
+abbrev pub Solid : List ℕ → Type 0
 Solid word = list_all is_solid word ≡ true
 
 space : ℕ → Bool
@@ -60,7 +60,7 @@ space byte = eqb byte 32
 
 no_space : (byte : ℕ) → is_solid byte ≡ true → space byte ≡ false
 unfolding space
-no_space byte h = elim (eqb byte 32) as (λ b. not b ≡ true → b ≡ false) [ true ↦ λ t. absurd (false≢true t) | false ↦ λ f. refl ] h
+no_space byte h = ne_eqb byte 32 (λ same. absurd (let greater = ltb-true 32 byte h in omega (arith, greater, same)))
 
 split_word : (word rest : List ℕ) → Solid word → slice_split space (word ++ 32 ∷ rest) ≡ word ∷ slice_split space rest
 unfolding space
@@ -81,11 +81,11 @@ unfolding space
 split_joined word [] h = split_last word h.0
 split_joined word (next ∷ words) h = split_word word (join_with_byte 32 (next ∷ words)) h.0 ∙ ap (λ (ws : List (List ℕ)). word ∷ ws) (split_joined next words h.1)
 
-solid_both : (xs ys : List ℕ) → Solid xs → Solid ys → Solid (xs ++ ys)
+pub solid_both : (xs ys : List ℕ) → Solid xs → Solid ys → Solid (xs ++ ys)
 solid_both xs ys h k = list_all-append is_solid xs ys ∙ pair (list_all is_solid xs) (list_all is_solid ys) h k
 
 solid_digit : (byte : ℕ) → (nat_le 48 byte && nat_le byte 57) ≡ true → is_solid byte ≡ true
-solid_digit byte h = ap not (ne_eqb byte 32 (λ same. absurd (let low = leb-true 48 byte (both (nat_le 48 byte) (nat_le byte 57) h).0 in omega (arith, low, same))))
+solid_digit byte h = lt-ltb 32 byte (let low = leb-true 48 byte (both (nat_le 48 byte) (nat_le byte 57) h).0 in omega (arith, low))
 
 solid_digits : (word : List ℕ) → all_ascii_digits word ≡ true → Solid word
 solid_digits [] h = refl
@@ -100,11 +100,19 @@ whole_solid : (w : Whole) → is_whole w ≡ true → Solid (whole_word w)
 whole_solid (Natural n) fits = number_solid n (small n fits)
 whole_solid (Below n) fits = number_solid n (let high = leb-true n (2 ^ 63) (both (nat_lt 0 n) (nat_le n (2 ^ 63)) fits).1 in omega (arith, high))
 
+-- a letter, a digit or `_`
+solid_name_byte : (byte : ℕ) → is_name_byte byte ≡ true → is_solid byte ≡ true
+solid_name_byte byte h = by (is_letter byte) (nat_le 48 byte && nat_le byte 57) refl refl where
+  by : (letter digit : Bool) → is_letter byte ≡ letter → (nat_le 48 byte && nat_le byte 57) ≡ digit → is_solid byte ≡ true
+  by true digit is also = lt-ltb 32 byte (let low = leb-true 97 byte (both (nat_le 97 byte) (nat_le byte 122) is).0 in omega (arith, low))
+  by false true is also = solid_digit byte also
+  by false false is also = lt-ltb 32 byte (let line = eqb-true byte 95 (sym (ap (λ b. (b || (nat_le 48 byte && nat_le byte 57)) || eqb byte 95) is ∙ ap (λ b. b || eqb byte 95) also) ∙ h) in omega (arith, line))
+
 name_solid : (name : List ℕ) → list_all is_name_byte name ≡ true → Solid name
 name_solid [] h = refl
 name_solid (byte ∷ name) h =
     let parts = both (is_name_byte byte) (list_all is_name_byte name) h in
-    pair (is_solid byte) (list_all is_solid name) (ap not (ne_eqb byte 32 (λ same. false≢true (subst (λ (b : ℕ). is_name_byte b ≡ true) same parts.0)))) (name_solid name parts.1)
+    pair (is_solid byte) (list_all is_solid name) (solid_name_byte byte parts.0) (name_solid name parts.1)
 
 -- ---- the words of a line
 
@@ -208,47 +216,51 @@ module _ (P : List ℕ → Type 0) where
   each_with_names names [] each rest = each
   each_with_names names (name ∷ more) each rest = each_with_names (with_name names name) more (each_with names name each rest.0) rest.1
 
--- a key of a call is a name
-operation_solid : (operation : Operation) → is_operation operation ≡ true → AllByRecursion Solid (operation_keys operation)
-operation_solid (operations.Map call) h = by (map_key call) (both (list_all is_name (option_to_list (map_key call))) (list_all is_value (map_values call)) h).0 where
-  by : (key : Option (List ℕ)) → list_all is_name (option_to_list key) ≡ true → AllByRecursion Solid (option_to_list key)
-  by None h = tt
-  by (Some name) h = (name_solid name (name_bytes name (both (is_name name) true h).0), tt)
-operation_solid operations.Range h = tt
-operation_solid (operations.Atomic call) h = tt
-operation_solid (operations.Mutex call) h = tt
-operation_solid (operations.RwMutex call) h = tt
-operation_solid (operations.Cond call) h = tt
-operation_solid (operations.WaitGroup call) h = tt
-operation_solid operations.Once h = tt
-operation_solid operations.OnceFunc h = tt
-operation_solid operations.OnceValue h = tt
-operation_solid (operations.Pool call) h = tt
-operation_solid (operations.Var call) h = tt
-operation_solid (operations.Composed call) h = tt
+module _ (P : List ℕ → Type 0) (named : (name : List ℕ) → is_name name ≡ true → P name) where
+  -- a key of a call is a name
+  operation_each : (operation : Operation) → is_operation operation ≡ true → AllByRecursion P (operation_keys operation)
+  operation_each (operations.Map call) h = by (map_key call) (both (list_all is_name (option_to_list (map_key call))) (list_all is_value (map_values call)) h).0 where
+    by : (key : Option (List ℕ)) → list_all is_name (option_to_list key) ≡ true → AllByRecursion P (option_to_list key)
+    by None h = tt
+    by (Some name) h = (named name (both (is_name name) true h).0, tt)
+  operation_each operations.Range h = tt
+  operation_each (operations.Atomic call) h = tt
+  operation_each (operations.Mutex call) h = tt
+  operation_each (operations.RwMutex call) h = tt
+  operation_each (operations.Cond call) h = tt
+  operation_each (operations.WaitGroup call) h = tt
+  operation_each operations.Once h = tt
+  operation_each operations.OnceFunc h = tt
+  operation_each operations.OnceValue h = tt
+  operation_each (operations.Pool call) h = tt
+  operation_each (operations.Var call) h = tt
+  operation_each (operations.Composed call) h = tt
 
-script_solid : (script : List Call) → list_all is_call script ≡ true → AllByRecursion Solid (flat_map keys_of script)
-script_solid [] h = tt
-script_solid (call ∷ script) h =
-    let parts = both (is_call call) (list_all is_call script) h in
-    each_both Solid (keys_of call) (flat_map keys_of script) (operation_solid call.operation parts.0) (script_solid script parts.1)
+  script_each : (script : List Call) → list_all is_call script ≡ true → AllByRecursion P (flat_map keys_of script)
+  script_each [] h = tt
+  script_each (call ∷ script) h =
+      let parts = both (is_call call) (list_all is_call script) h in
+      each_both P (keys_of call) (flat_map keys_of script) (operation_each call.operation parts.0) (script_each script parts.1)
 
-keys_solid : (scripts : List (List Call)) → list_all (list_all is_call) scripts ≡ true → AllByRecursion Solid (all_keys scripts)
-keys_solid [] h = tt
-keys_solid (script ∷ scripts) h =
-    let parts = both (list_all is_call script) (list_all (list_all is_call) scripts) h in
-    each_both Solid (flat_map keys_of script) (all_keys scripts) (script_solid script parts.0) (keys_solid scripts parts.1)
+  scripts_each : (scripts : List (List Call)) → list_all (list_all is_call) scripts ≡ true → AllByRecursion P (all_keys scripts)
+  scripts_each [] h = tt
+  scripts_each (script ∷ scripts) h =
+      let parts = both (list_all is_call script) (list_all (list_all is_call) scripts) h in
+      each_both P (flat_map keys_of script) (all_keys scripts) (script_each script parts.0) (scripts_each scripts parts.1)
 
-name_of_key : (keys : List (List ℕ)) (key : ℕ) → AllByRecursion Solid keys → Solid (key_name keys key)
-name_of_key [] key each = refl
-name_of_key (name ∷ keys) zero each = each.0
-name_of_key (name ∷ keys) (suc key) each = name_of_key keys key each.1
+  pub keys_each : (scripts : List (List Call)) → list_all (list_all is_call) scripts ≡ true → AllByRecursion P (keys_in scripts)
+  keys_each scripts h = each_with_names P [] (all_keys scripts) tt (scripts_each scripts h)
+
+pub name_of_key : (P : List ℕ → Type 0) (keys : List (List ℕ)) (key : ℕ) → P [] → AllByRecursion P keys → P (key_name keys key)
+name_of_key P [] key nothing each = nothing
+name_of_key P (name ∷ keys) zero nothing each = each.0
+name_of_key P (name ∷ keys) (suc key) nothing each = name_of_key P keys key nothing each.1
 
 shown_solid : (keys : List (List ℕ)) (shown : Option (ℕ × ℕ)) → AllByRecursion Solid keys → is_shown keys shown ≡ true → Solid (shown_word keys shown)
 shown_solid keys None each fits = refl
 shown_solid keys (Some p) each fits =
     let parts = both (nat_lt p.0 (length keys)) (has_64_bits p.1) fits in
-    solid_both (key_name keys p.0 ++ codes "=") (decimal p.1) (solid_both (key_name keys p.0) (codes "=") (name_of_key keys p.0 each) refl) (number_solid p.1 (small p.1 parts.1))
+    solid_both (key_name keys p.0 ++ codes "=") (decimal p.1) (solid_both (key_name keys p.0) (codes "=") (name_of_key Solid keys p.0 refl each) refl) (number_solid p.1 (small p.1 parts.1))
 
 -- ---- objects
 
@@ -289,7 +301,7 @@ pub readable_solid : (plan : Plan) → IsReadable plan → AreSolid plan
 readable_solid plan readable = record {
   few = readable.few_workers;
   short = λ worker. short_script plan.scripts worker readable.call_room;
-  keys = each_with_names Solid [] (all_keys plan.scripts) tt (keys_solid plan.scripts readable.calls);
+  keys = keys_each Solid (λ name is. name_solid name (name_bytes name is)) plan.scripts readable.calls;
   objects = objects_solid plan readable.few_workers readable.objects;
 }
 
@@ -313,7 +325,7 @@ said_solid plan front (said.Entered object number event answer) solid is fits =
       (number_solid number (small number fit.number_fits), (is, (event_solid plan.workers solid.few event fit.event_fits, (answer_solid plan.workers solid.few answer fit.answer_fits, tt)))),
     )
 
-item_solid : (plan : Plan) (item : ItemLine) → AreSolid plan → is_item plan item ≡ true → AllByRecursion Solid (item_words plan item)
+pub item_solid : (plan : Plan) (item : ItemLine) → AreSolid plan → is_item plan item ≡ true → AllByRecursion Solid (item_words plan item)
 item_solid plan item solid fits =
     let parts = both (is_place plan item.worker item.index) (is_front plan.workers item.front && is_said plan item.said) fits in
     let at = both (nat_lt item.worker plan.workers) (is_index (length (get_or plan.scripts item.worker [])) item.index) parts.0 in

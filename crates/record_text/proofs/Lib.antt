@@ -29,3 +29,6 @@ pub mod KeptLists
 pub mod KeptRecords
 pub mod KeysShown
 pub mod LawfulLines
+pub mod WrittenTexts
+pub mod WholeTexts
+pub mod ShortLines

@@ -1,25 +1,26 @@
 -- A line behind the line `record`.
-use Rattle.std.proofs.Common.{◌≡◌, ℕ, ◌≤◌, true, false, List, length, codes, Option, Some, None, refl, sym, ◌∙◌}
+use Rattle.std.proofs.Common.{◌≡◌, ℕ, ◌≤◌, true, false, List, ◌++◌, drop, length, codes, Option, Some, None, refl, sym, ap, ◌∙◌}
 use Rattle.sync_types.specs.declared.misuse.Misuse.{Misuse}
-use Rattle.sync_types.specs.declared.misuse.Misuse.TheVariants.{UnlockOfUnlockedMutex, RUnlockOfUnlockedRwMutex, UnlockOfUnlockedRwMutex, NegativeWaitGroupCounter, WaitGroupReused}
 use Rattle.std.proofs.lemmas.Bool.{false≢true, leb-true, le-leb}
 use Rattle.workload.specs.Plan.{Plan}
 use Rattle.record_text.specs.declared.item_line.ItemLine.{ItemLine}
 use Rattle.record_text.specs.declared.limits.TheConstants.{MAX_ITEMS, MAX_RECORD_LINE}
+use Rattle.record_text.specs.EventWords.{misuse_word}
 use Rattle.record_text.specs.ItemLines.{IsItemLine, is_item, item_words, spaced}
 use Rattle.record_text.specs.Reading.{IsNone}
 use Rattle.record_text.specs.RecordLines.{IsNoRecordLine}
 use Rattle.record_text.specs.Refused.{IsNoOutcome}
 use Rattle.record_text.specs.Told.{is_short_line, outcome_line}
 
-pub no_outcome_line : (line : List ℕ) → (codes "outcome done" ≡ line → ⊥) → (codes "outcome misused M1" ≡ line → ⊥) → (codes "outcome misused M2" ≡ line → ⊥) → (codes "outcome misused M3" ≡ line → ⊥) → (codes "outcome misused M4" ≡ line → ⊥) → (codes "outcome misused M5" ≡ line → ⊥)
-    → IsNone (λ (misused : Option Misuse). true) outcome_line line
-no_outcome_line line done a b c d e None fits is = done is
-no_outcome_line line done a b c d e (Some UnlockOfUnlockedMutex) fits is = a is
-no_outcome_line line done a b c d e (Some RUnlockOfUnlockedRwMutex) fits is = b is
-no_outcome_line line done a b c d e (Some UnlockOfUnlockedRwMutex) fits is = c is
-no_outcome_line line done a b c d e (Some NegativeWaitGroupCounter) fits is = d is
-no_outcome_line line done a b c d e (Some WaitGroupReused) fits is = e is
+-- a line of neither beginning is none
+pub no_beginning : (line : List ℕ) → (codes "outcome done" ≡ line → ⊥) → ((word : List ℕ) → line ≡ codes "outcome misused " ++ word → ⊥) → IsNone (λ (misused : Option Misuse). true) outcome_line line
+no_beginning line done none None fits is = done is
+no_beginning line done none (Some misuse) fits is = none (misuse_word misuse) (sym is)
+
+-- nor is one whose last word names no misuse
+pub no_misuse : (line word : List ℕ) → (codes "outcome done" ≡ line → ⊥) → line ≡ codes "outcome misused " ++ word → IsNone (λ (misuse : Misuse). true) misuse_word word → IsNone (λ (misused : Option Misuse). true) outcome_line line
+no_misuse line word done cut none None fits is = done is
+no_misuse line word done cut none (Some misuse) fits is = none misuse refl (ap (drop 16) (is ∙ cut))
 
 no_outcome : (text : List ℕ) → IsNone (λ misused. true) outcome_line text → IsNoOutcome text
 no_outcome text none misused is = none misused refl is

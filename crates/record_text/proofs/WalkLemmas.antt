@@ -10,10 +10,10 @@ use Rattle.record_text.proofs.Decimals.{both, pair}
 use Rattle.record_text.specs.RecordLines.{IsFound}
 use Rattle.record_text.specs.Told.{are_before, is_record_line, joined, record_line}
 
-ten : (byte : ℕ) (bytes : List ℕ) → byte ≡ 10 → lines_of (byte ∷ bytes) ≡ [] ∷ lines_of bytes
+pub ten : (byte : ℕ) (bytes : List ℕ) → byte ≡ 10 → lines_of (byte ∷ bytes) ≡ [] ∷ lines_of bytes
 ten byte bytes e = ap (λ b. lines_of (b ∷ bytes)) e
 
-other : (byte : ℕ) (bytes : List ℕ) → byte ≢ 10 → lines_of (byte ∷ bytes) ≡ onto_first byte (lines_of bytes)
+pub other : (byte : ℕ) (bytes : List ℕ) → byte ≢ 10 → lines_of (byte ∷ bytes) ≡ onto_first byte (lines_of bytes)
 other byte bytes e =
     elim (nat_eq byte 10) as (λ b. nat_eq byte 10 ≡ b → cond b ([] ∷ lines_of bytes) (onto_first byte (lines_of bytes)) ≡ onto_first byte (lines_of bytes)) [
       | true ↦ λ t. absurd (e (eqb-true byte 10 t))

@@ -16,7 +16,7 @@ use Rattle.record_text.specs.declared.item_line.Said.TheVariants.{Call, Begin, N
 use Rattle.record_text.specs.declared.limits.TheConstants.{MAX_RECORD_LINE}
 use Rattle.record_text.specs.AnswerWords.{answer_word, has_answer, is_answer, truth_word}
 use Rattle.record_text.specs.EventWords.{event_word, is_event}
-use Rattle.record_text.specs.Journals.{named_in, number_named}
+use Rattle.record_text.specs.Journals.{named_in, number_named, word_at}
 use Rattle.record_text.specs.Numbers.{front_word, has_64_bits, is_front, is_whole, whole_word}
 
 -- ---- its parts
@@ -52,7 +52,7 @@ is_shown keys shown = option_map_or (λ pair. nat_lt pair.0 (length keys) && has
 
 -- the word of the object with a number
 abbrev pub object_word : Plan → ℕ → List ℕ
-object_word plan object = option_map_or (λ named. named.word) (slice_get (named_in plan) object) []
+object_word plan object = word_at (named_in plan) object
 
 -- whether the object with a number is the one that its word names: there is such an object, and none before it has the word
 abbrev pub is_named : Plan → ℕ → Bool

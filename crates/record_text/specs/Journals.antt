@@ -1,7 +1,7 @@
 -- The objects of a record by number, with the words that name them.
-use Rattle.std.specs.Prelude.{ℕ, List, [], ◌∷◌, ◌++◌, map, codes, Option}
+use Rattle.std.specs.Prelude.{ℕ, List, [], ◌∷◌, ◌++◌, map, codes, Option, slice_get}
 use Rattle.std.specs.List.{flat_map, position_from, range_with_len}
-use Rattle.std.specs.Option.{option_map}
+use Rattle.std.specs.Option.{option_map, option_map_or}
 use Rattle.std.specs.Str.{bytes_eq}
 use Rattle.std.specs.Fmt.{decimal}
 use Rattle.workload.specs.declared.object.ObjectKind.{ObjectKind}
@@ -54,3 +54,7 @@ number_named names word = position_from (λ named. bytes_eq word named.word) 0 n
 -- what the journal of an object may have, if there is the object
 abbrev pub kind_in : Option Named → Option JournalKind
 kind_in named = option_map (λ n. n.kind) named
+
+-- the word of the object with a number; nothing, where there is none
+abbrev pub word_at : List Named → ℕ → List ℕ
+word_at names number = option_map_or (λ named. named.word) (slice_get names number) []

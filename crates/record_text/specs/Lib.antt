@@ -14,3 +14,4 @@ pub mod RecordLines
 pub mod Reads
 pub mod Texts
 pub mod LawfulItems
+pub mod WrittenLines

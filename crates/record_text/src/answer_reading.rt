@@ -1,5 +1,5 @@
 //! The answer that a word is, and whether an event may have it.
-ghost use Rattle.std.specs.Prelude.{◌≡◌, true, MatchOption};
+ghost use Rattle.std.specs.Prelude.{◌≡◌, ◌≤◌, true, length, MatchOption};
 ghost use Rattle.workload.specs.KeywordWords.{first_named};
 ghost use Rattle.record_text.specs.AnswerWords.{answer_name, answer_operand, answer_word, cond_row, has_answer, is_answer, is_in, mutex_row, once_row, pool_part_row, row_of, rw_mutex_row, starts_row, wait_group_row};
 ghost use Rattle.record_text.specs.Names.{plain_answer, plain_answers};
@@ -8,7 +8,7 @@ ghost use Rattle.record_text.specs.Reading.{IsRead};
 use crate::answer::{AnswerRow, AnswerWord};
 use crate::event::{EventWord, JournalKind};
 use crate::number::{read_number, read_worker};
-use crate::word::{read_misuse, split_name};
+use crate::word::{read_misuse, split_name, truth_word};
 use sync_types::Misuse;
 
 /// One answer of each name.
@@ -39,16 +39,16 @@ const ANSWERS: [AnswerWord; 22] = [
 
 impl AnswerWord {
     /// What the answer's word begins with.
-    fn name(self) -> &'static [u8]
-        ensures { result.now ≡ answer_name self }
+    pub fn name(self) -> &'static [u8]
+        ensures name { result.now ≡ answer_name self }
+        ensures short { length result.now ≤ 8 }
     {
         match self {
             AnswerWord::Acquired => b"acquired",
             AnswerWord::Queued => b"queued",
             AnswerWord::Requeued => b"requeued",
             AnswerWord::Still => b"still",
-            AnswerWord::Tried(true) => b"true",
-            AnswerWord::Tried(false) => b"false",
+            AnswerWord::Tried(taken) => truth_word(taken),
             AnswerWord::Free => b"free",
             AnswerWord::Woke { .. } => b"woke=",
             AnswerWord::Handed { .. } => b"handed=",

@@ -1,7 +1,7 @@
 //! The objects of a record by the words that name them.
 ghost use Rattle.std.specs.Prelude.{◌≡◌, List, [], ◌∷◌, ◌++◌, map, codes, slice_get, IfOk, MatchOption, Some, None};
 ghost use Rattle.std.specs.List.{flat_map};
-ghost use Rattle.record_text.specs.Journals.{kind_in, kind_of, named_in, named_object, named_part, named_parts, number_named, part_count};
+ghost use Rattle.record_text.specs.Journals.{kind_in, kind_of, named_in, named_object, named_part, named_parts, number_named, part_count, word_at};
 
 use crate::event::JournalKind;
 use itoa::Buffer;
@@ -188,6 +188,16 @@ impl Directory {
         match self.names.as_slice().get(number) {
             None => None,
             Some(named) => Some(named.kind),
+        }
+    }
+
+    /// The word of the object with a number; nothing, where there is none.
+    pub fn word(&self, number: usize) -> &[u8]
+        ensures { result.now ≡ word_at self.now number }
+    {
+        match self.names.as_slice().get(number) {
+            None => &[],
+            Some(named) => named.word.as_slice(),
         }
     }
 

@@ -1,5 +1,5 @@
 //! The event that a word is.
-ghost use Rattle.std.specs.Prelude.{◌≡◌, true, MatchOption};
+ghost use Rattle.std.specs.Prelude.{◌≡◌, ◌≤◌, true, length, MatchOption};
 ghost use Rattle.workload.specs.KeywordWords.{first_named};
 ghost use Rattle.record_text.specs.EventWords.{event_name, event_operand, event_word, is_event};
 ghost use Rattle.record_text.specs.Names.{plain_event, plain_events};
@@ -45,8 +45,9 @@ const EVENTS: [EventWord; 26] = [
 
 impl EventWord {
     /// What the event's word begins with.
-    fn name(self) -> &'static [u8]
-        ensures { result.now ≡ event_name self }
+    pub fn name(self) -> &'static [u8]
+        ensures name { result.now ≡ event_name self }
+        ensures short { length result.now ≤ 11 }
     {
         match self {
             EventWord::Arrive { .. } => b"arrive@",

@@ -9,6 +9,7 @@ ghost use Rattle.record_text.specs.Cuts.{parts_in};
 use crate::cut::cut_word;
 use crate::item_line::PlacedReply;
 use crate::number::{read_below, read_number, read_whole};
+use crate::word::truth_word;
 
 /// The place in a script of so many calls that a word is, or none for `-`.
 pub fn read_index(word: &[u8], calls: usize) -> Option<Option<usize>>
@@ -24,11 +25,13 @@ pub fn read_index(word: &[u8], calls: usize) -> Option<Option<usize>>
 pub fn read_truth(word: &[u8]) -> Option<bool>
     ensures { IsRead (λ truth. true) truth_word word.now result }
 {
-    match word {
-        b"true" => Some(true),
-        b"false" => Some(false),
-        _ => None,
+    if word == truth_word(true) {
+        return Some(true);
     }
+    if word == truth_word(false) {
+        return Some(false);
+    }
+    None
 }
 
 /// The reply of one word.

@@ -1,7 +1,9 @@
 //! Laws of the text of a record.
-ghost use Rattle.std.specs.Prelude.{◌≡◌, ℕ, ◌+◌, ◌<◌, ◌≤◌, true, ◌∷◌, List, Option, Some, codes, length, map, slice_get, get_or, []};
+ghost use Rattle.std.specs.Prelude.{◌≡◌, ℕ, ◌+◌, ◌<◌, ◌≤◌, true, false, ◌∷◌, List, Option, Some, codes, length, map, slice_get, get_or, []};
 ghost use Rattle.std.specs.List.{list_all};
 ghost use Rattle.sync_types.specs.declared.misuse.Misuse.{Misuse};
+ghost use Rattle.workload.specs.Dialect.{has_variables};
+ghost use Rattle.workload.specs.Lines.{lines_of};
 ghost use Rattle.workload.specs.Plan.{Plan};
 ghost use Rattle.workload.specs.Readable.{IsReadable};
 ghost use Rattle.workload.specs.Reads.{Reads};
@@ -15,6 +17,7 @@ ghost use Rattle.record_text.specs.Numbers.{is_front};
 ghost use Rattle.record_text.specs.Refused.{IsRecordRefused};
 ghost use Rattle.record_text.specs.Told.{Told, AreItemLines, IsTold, is_short_line, outcome_line};
 ghost use Rattle.record_text.specs.Written.{front_in, item_line};
+ghost use Rattle.record_text.specs.WrittenLines.{has_small_counts, record_text};
 
 use crate::directory::Named;
 use crate::event::JournalKind;
@@ -27,7 +30,8 @@ use script_calls::Outcome;
 use sync_model::laws::shared::each_entry_is_a_call;
 use sync_types::laws::maps::{calls_leave_other_keys, only_a_clear_has_no_key};
 use workload::laws::{
-    keys_are_numbered_by_first_appearance, one_reading, one_refusal, read_or_refused,
+    canonical_reads, keys_are_numbered_by_first_appearance, one_reading, one_refusal,
+    read_or_refused,
 };
 use workload::{ObjectKind, ObjectLine};
 
@@ -89,6 +93,24 @@ pub fn an_item_is_read_back_from_its_line()
     ensures lines { (plan : Plan) (items : List ItemLine) → IsReadable plan → list_all (is_item plan) items ≡ true → list_all is_short_line (map (item_text plan) items) ≡ true
         → AreItemLines plan (map (item_text plan) items) items }
 {}
+
+/// The line of an item in range has at most 400 bytes, where what it counts is below 10,000,000: its place in the history or in a
+/// journal, and the numbers of its front. So only who counts further has to look at the lines' lengths.
+pub fn a_line_of_small_counts_is_short()
+    ensures { (plan : Plan) (item : ItemLine) → IsReadable plan → is_item plan item ≡ true → has_small_counts item ≡ true → length (item_text plan item) ≤ MAX_RECORD_LINE }
+{}
+
+/// What is written is read back: the text of a record tells the workload, the items, the misuse and the lines of the report that it was
+/// written from. The items are in range, no more than 40,000, and their lines and those of the report have at most 400 bytes each;
+/// the text has at most 16,777,216; and the workload has no plain variable, for plain texts have none.
+pub fn a_written_text_tells_what_was_written()
+    ensures { (plan : Plan) (items : List ItemLine) (misused : Option Misuse) (report : List ℕ) → IsReadable plan → has_variables plan ≡ false
+        → list_all (is_item plan) items ≡ true → list_all is_short_line (map (item_text plan) items) ≡ true → length items ≤ MAX_ITEMS
+        → list_all is_short_line (lines_of report) ≡ true → length (record_text plan items misused report) ≤ MAX_RECORD
+        → IsTold (record_text plan items misused report) (record { plan = plan; items = items; misused = misused; report = lines_of report }) }
+{
+    canonical_reads();
+}
 
 /// Each item of a record that explains a run has a line. It is in range, where its numbers have 64 bits, its front has a number for each
 /// worker, and the call that it belongs to is one of its worker's script, or none. So what is lawful can be written down

@@ -1,5 +1,5 @@
 //! A line behind the line `record`.
-ghost use Rattle.std.specs.Prelude.{◌≡◌, true, IfOk, MatchOption};
+ghost use Rattle.std.specs.Prelude.{◌≡◌, ℕ, true, List, ◌++◌, IfOk, MatchOption};
 ghost use Rattle.record_text.specs.Journals.{named_in};
 ghost use Rattle.record_text.specs.Reading.{IsRead};
 ghost use Rattle.record_text.specs.RecordLines.{IsRecordLine, IsNoRecordLine};
@@ -9,6 +9,7 @@ use crate::directory::Directory;
 use crate::item_line::ItemLine;
 use crate::item_reading::read_item;
 use crate::limits::{MAX_ITEMS, MAX_RECORD_LINE};
+use crate::word::read_misuse;
 use std::alloc::{AllocError, Global};
 use sync_types::Misuse;
 use workload::Workload;
@@ -22,30 +23,23 @@ pub enum RecordLine {
     Outcome(Option<Misuse>),
 }
 
+/// What stands behind a beginning of a line.
+fn behind<'a>(line: &'a [u8], beginning: &[u8]) -> Option<&'a [u8]>
+    ensures { MatchOption result ((word : List ℕ) → line.now ≡ beginning.now ++ word → ⊥) (λ word. line.now ≡ beginning.now ++ word.now) }
+{
+    line.strip_prefix(beginning)
+}
+
 /// The outcome that a line says.
-#[tactic(auto, using(crate::proofs::LineLemmas::no_outcome_line))]
+#[tactic(auto, using(crate::proofs::LineLemmas::no_beginning, crate::proofs::LineLemmas::no_misuse))]
 pub fn read_outcome(line: &[u8]) -> Option<Option<Misuse>>
     ensures { IsRead (λ misused. true) outcome_line line.now result }
 {
     if line == b"outcome done".as_slice() {
         return Some(None);
     }
-    if line == b"outcome misused M1".as_slice() {
-        return Some(Some(Misuse::UnlockOfUnlockedMutex));
-    }
-    if line == b"outcome misused M2".as_slice() {
-        return Some(Some(Misuse::RUnlockOfUnlockedRwMutex));
-    }
-    if line == b"outcome misused M3".as_slice() {
-        return Some(Some(Misuse::UnlockOfUnlockedRwMutex));
-    }
-    if line == b"outcome misused M4".as_slice() {
-        return Some(Some(Misuse::NegativeWaitGroupCounter));
-    }
-    if line == b"outcome misused M5".as_slice() {
-        return Some(Some(Misuse::WaitGroupReused));
-    }
-    None
+    let word = behind(line, b"outcome misused ")?;
+    Some(Some(read_misuse(word)?))
 }
 
 /// Whether a line has at most 400 bytes.
