@@ -40,15 +40,12 @@ use Rattle.run_record.specs.declared.entered.ObjectReply.{ObjectReply}
 use Rattle.run_record.specs.declared.made.Made.{Made}
 use Rattle.run_record.specs.declared.made.Made.TheVariants.{Shared, Entered}
 use Rattle.run_record.specs.Record.{calls_of, shared_in}
-use Rattle.record_text.specs.declared.answer.AnswerWord.{AnswerWord}
-use Rattle.record_text.specs.declared.event.EventWord.{EventWord}
 use Rattle.record_text.specs.declared.item_line.ItemLine.{ItemLine}
 use Rattle.record_text.specs.declared.item_line.PlacedReply.{PlacedReply}
 use Rattle.record_text.specs.declared.item_line.Said.{Said}
 use Rattle.record_text.specs.declared.item_line.Said.TheVariants as said
 use Rattle.record_text.specs.Told.{Told, items_of}
 use Rattle.told_items.specs.declared.along.Along.{Along}
-use Rattle.told_items.specs.declared.deeds.Speaker.{Speaker}
 use Rattle.told_items.specs.declared.placing.Asked.{Asked}
 use Rattle.told_items.specs.declared.sketch.Sketch.{Sketch}
 use Rattle.told_items.specs.declared.sketch.Sketch.TheVariants as sketches

@@ -1,8 +1,6 @@
 -- The stage `report`: where the clauses up to `stop` hold, the outcome is the one that was found, and so is the report.
-use Rattle.std.proofs.Common.{◌≡◌, ◌↔◌, ℕ, ◌<◌, ◌≤◌, ◌+◌, true, List, [], map, length, get_or, Option, Some, None, slice_get, refl, sym, ap, ◌∙◌, subst, arith}
+use Rattle.std.proofs.Common.{◌≡◌, ◌↔◌, ℕ, ◌<◌, ◌≤◌, true, List, [], map, length, get_or, Option, Some, None, slice_get, sym, ap, ◌∙◌, subst, arith}
 use Rattle.std.specs.Option.{option_map}
-use Rattle.std.specs.Prelude.{All}
-use Rattle.std.proofs.lemmas.List.{length-map}
 use Rattle.std.proofs.lemmas.Option.{get_or_from_slice_get, same_Some, slice_get-map}
 use Rattle.script_calls.specs.declared.call.Reply.{Reply}
 use Rattle.script_calls.specs.declared.outcome.Outcome.{Outcome}
@@ -21,14 +19,14 @@ use Rattle.workload.specs.Keys.{keys_in}
 use Rattle.workload.specs.Plan.{Plan}
 use Rattle.workload.specs.Readable.{IsReadable}
 use Rattle.run_record.specs.declared.made.Made.{Made}
-use Rattle.run_record.specs.Explains.{AreLines, Explains, HasEnded, IsRecordOf, Agrees}
-use Rattle.run_record.specs.Lines.{IsLineOf, Line, SpeltCall, items_of, replies_of}
-use Rattle.run_record.specs.Objects.{contents_of, ends_in}
+use Rattle.run_record.specs.Explains.{AreLines, Explains, IsRecordOf, Agrees}
+use Rattle.run_record.specs.Lines.{IsLineOf, Line, items_of}
+use Rattle.run_record.specs.Objects.{contents_of}
 use Rattle.run_record.specs.Record.{Record, calls_of, shared_in}
 use Rattle.run_report.specs.ReportText.{report_text}
 use Rattle.shared_checks.specs.Calls.{calls_in}
 use Rattle.shared_checks.specs.Parts.{LawfulHistory, LawfulRanges}
-use Rattle.shared_checks.specs.Placing.{AreOn, IsOn}
+use Rattle.shared_checks.specs.Placing.{IsOn}
 use Rattle.list_checks.specs.declared.spell.line.SpeltLine.{SpeltLine}
 use Rattle.record_text.specs.Told.{Told, joined}
 use Rattle.record_clauses.specs.Account.{Account, Claim, outcome_by, outcome_of, record_of}
@@ -38,7 +36,7 @@ use Rattle.record_clauses.specs.declared.clause.Clause.TheVariants as clauses
 use Rattle.record_clauses.specs.PairOrder.{RepliesApart, ShowKeys}
 use Rattle.record_clauses.specs.Verdicts as claims
 use Rattle.run_check.specs.declared.spelling.Spelling.{Spelling}
-use Rattle.run_check.specs.Found.{IsFoundOf, IsStoppedOf, ends_after, found_outcome}
+use Rattle.run_check.specs.Found.{IsStoppedOf, ends_after, found_outcome}
 use Rattle.run_check.specs.Tells.{Tells}
 use Rattle.run_check.proofs.EndStage.{scripts}
 use Rattle.run_check.proofs.FoundLines.{HaveOneOrder, replies_found}

@@ -83,10 +83,7 @@ pub fn outcome_found(
 }
 
 // The replies of the completed calls, list by list.
-fn replies_of(
-    alloc: Global,
-    lines: Seq<SpeltLine>,
-) -> Result<Seq<Seq<Reply<u32>>>, AllocError>
+fn replies_of(alloc: Global, lines: Seq<SpeltLine>) -> Result<Seq<Seq<Reply<u32>>>, AllocError>
     ensures { IfOk result (λ replies. replies ≡ map (λ line. line.replies) lines) }
 {
     let mut replies = Seq::new(alloc);

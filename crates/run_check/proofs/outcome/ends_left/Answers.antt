@@ -1,5 +1,4 @@
 use Rattle.std.proofs.Common.{◌≡◌, length, sym, ap, ◌∙◌, subst}
-use Rattle.sync_model.specs.declared.item.SharedEntry.{SharedEntry}
 use Rattle.sync_model.specs.EndsOfHistory.{HasKeysBelow}
 use Rattle.sync_model.specs.SharedHistory.{Contents, contents_after}
 use Rattle.workload.specs.Keys.{keys_in}

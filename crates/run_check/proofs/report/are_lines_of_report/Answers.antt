@@ -1,4 +1,4 @@
-use Rattle.std.proofs.Common.{◌≡◌, ◌↔◌, ℕ, Bool, true, false, IsTrue, cond, List, [], ◌∷◌, ◌++◌, IfOk, sym, ap, ◌∙◌, subst}
+use Rattle.std.proofs.Common.{◌≡◌, ◌↔◌, ℕ, Bool, IsTrue, cond, List, [], ◌∷◌, ◌++◌, IfOk, sym, ap, ◌∙◌, subst}
 use Rattle.workload.specs.Lines.{lines_of}
 use Rattle.run_report.specs.ReportText.{report_text}
 use Rattle.record_text.specs.Told.{joined}

@@ -1,8 +1,6 @@
-use Rattle.std.proofs.Common.{◌≡◌, ◌↔◌, ℕ, ◌≤◌, Bool, true, IsTrue, List, length, Option, sym, ap, ◌∙◌, subst, arith}
-use Rattle.std.specs.Prelude.{map}
-use Rattle.std.proofs.lemmas.List.{length-map}
+use Rattle.std.proofs.Common.{◌≡◌, ◌↔◌, Bool, IsTrue, List, sym, ap, ◌∙◌}
 use Rattle.std.proofs.lemmas.Result.{IfOk-weaker}
-use Rattle.script_calls.specs.Outcome.{left_by, shows_to}
+use Rattle.script_calls.specs.Outcome.{shows_to}
 use Rattle.script_calls.specs.declared.outcome.Outcome.{Outcome}
 use Rattle.sync_model.specs.declared.item.Item.{Item}
 use Rattle.workload.specs.declared.limits.TheConstants.{MAX_KEYS}
@@ -16,7 +14,6 @@ use Rattle.record_clauses.specs.Account.{Claim}
 use Rattle.record_clauses.specs.Verdicts as claims
 use Rattle.run_check.specs.declared.spelling.Spelling.{Spelling}
 use Rattle.run_check.specs.Found.{IsStoppedOf, found_outcome}
-use Rattle.run_check.proofs.Parts.{left_behind}
 use Rattle.run_check.proofs.report.report_holds.Goals as goal
 
 pub outcome_found-requires-clause-on : goal.outcome_found-requires-clause-on
