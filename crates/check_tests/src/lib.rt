@@ -1,4 +1,5 @@
-//! Tests of the parts of a checker: hand-made lists of each kind of object, right and wrong. They are written as the texts of records.
+//! Tests of a checker and of its parts: hand-made lists of each kind of object, right and wrong, and a text for each verdict. They are written as
+//! the texts of records.
 #![tactic(auto)]
 
 #[cfg(test)]
@@ -11,3 +12,5 @@ mod machines;
 mod placed;
 #[cfg(test)]
 mod texts;
+#[cfg(test)]
+mod verdicts;
