@@ -1,37 +1,31 @@
 -- What the lines of an account are, by what was found of the text's lists: those that have ended end, and reply, as was found.
-use Rattle.std.proofs.Common.{◌≡◌, ◌⊎◌, inl, inr, ℕ, ◌<◌, ◌≤◌, List, [], ◌∷◌, map, length, get_or, Option, Some, None, slice_get, refl, sym, ap, ◌∙◌, subst, arith}
+use Rattle.std.proofs.Common.{◌≡◌, ℕ, ◌<◌, List, [], ◌∷◌, map, length, Some, slice_get, refl, sym, ap, ◌∙◌, subst, arith}
 use Rattle.std.specs.List.{flat_map}
-use Rattle.std.specs.Option.{option_map}
 use Rattle.std.specs.Prelude.{All}
 use Rattle.std.proofs.lemmas.List.{length-map}
-use Rattle.std.proofs.lemmas.Option.{same_Some, slice_get_cases, slice_get-map, get_or_from_slice_get, slice_get_within}
+use Rattle.std.proofs.lemmas.Option.{same_Some, get_or_from_slice_get, slice_get_within}
 use Rattle.script_calls.specs.declared.call.Call.{Call}
 use Rattle.script_calls.specs.declared.call.Reply.{Reply}
-use Rattle.script_calls.specs.Runs.{RunsAlong}
 use Rattle.workload.specs.Keys.{keys_in}
 use Rattle.workload.specs.Plan.{Plan}
-use Rattle.run_record.specs.declared.made.Made.{Made}
 use Rattle.run_record.specs.Explains.{HasEnded}
-use Rattle.run_record.specs.Lines.{IsLineOf, Line, SpeltCall, calls_made, items_of, replies_of}
-use Rattle.run_cuts.specs.Blind.{AreAlike}
+use Rattle.run_record.specs.Lines.{Line, SpeltCall, calls_made, replies_of}
 use Rattle.run_cuts.specs.OneLine.{SettlesEach, settles_by}
 use Rattle.list_checks.specs.declared.spell.line.SpeltLine.{SpeltLine}
 use Rattle.list_checks.specs.SpellLines.{IsLineHere, line_end}
 use Rattle.record_text.specs.Told.{Told}
-use Rattle.told_items.specs.Items.{Sketched, worker_told}
+use Rattle.told_items.specs.Items.{Sketched}
 use Rattle.told_items.specs.Lists.{spelt_in}
-use Rattle.record_clauses.specs.Account.{Account, Claim, ToldItem, made_in}
+use Rattle.record_clauses.specs.Account.{Account, Claim}
 use Rattle.record_clauses.specs.Clauses.{IsSpelt}
-use Rattle.record_clauses.specs.Lists.{before_halts, without_halts}
+use Rattle.record_clauses.specs.Lists.{before_halts}
 use Rattle.record_clauses.specs.PairOrder.{RepliesApart}
 use Rattle.run_check.specs.declared.spelling.SpeltList.{SpeltList}
 use Rattle.run_check.specs.declared.spelling.Spelling.{Spelling}
-use Rattle.run_check.specs.Items.{told_item, unmarked_item}
 use Rattle.run_check.specs.Lists.{AreSpeltTo, IsSpeltList, list_at}
 use Rattle.run_check.specs.Tells.{Tells}
-use Rattle.run_check.proofs.SpellNothing.{IsBlind}
+use Rattle.run_check.proofs.SpellNothing.{AsTold, IsBlind, line_told}
 use Rattle.run_check.proofs.SpeltClaims.{all_same}
-use Rattle.run_check.proofs.ToldLists.{alike, mapped, paired}
 
 abbrev pub HaveOneOrder : Type 0
 HaveOneOrder = (plan : Plan) (told one other : List SpeltCall) → RepliesApart (keys_in plan.scripts) other → SettlesEach (settles_by plan) told one → SettlesEach (settles_by plan) told other
@@ -71,41 +65,28 @@ module _ (blind : IsBlind) (told : Told) (found : Spelling) (are : AreSpeltTo to
     ending : HasEnded line.ending → line.ending ≡ line_end found_line.ending
     replies : HaveOneOrder → HasEnded line.ending → RepliesApart (keys_in told.plan.scripts) line.spelt → replies_of line ≡ found_line.replies
 
+  by_told : (worker : ℕ) (line : Line) → AsTold blind told claim tells account spelt worker line → (one : SpeltList) × list_at found worker one × IsSpeltList told.plan told.items worker one → ToldLine worker line
+  by_told worker line as_told (one, there, is) =
+      let one_list : as_told.items ≡ is.list = same_Some as_told.items is.list (sym as_told.said ∙ is.told) in
+      let here : IsLineHere told.plan worker (flat_map spelt_in is.list) as_told.like = subst (λ (items : List Sketched). IsLineHere told.plan worker (flat_map spelt_in items) as_told.like) one_list as_told.here in
+      by_like one there is as_told.like here as_told.ending as_told.made
+    where
+      by_like : (one : SpeltList) → list_at found worker one → (is : IsSpeltList told.plan told.items worker one) → (like : Line) → IsLineHere told.plan worker (flat_map spelt_in is.list) like → like.ending ≡ line.ending → calls_made like ≡ calls_made line
+          → ToldLine worker line
+      by_like one there is like here ends calls = record {
+        found_line = one.line;
+        at = there.0;
+        ending = λ ended. sym ends ∙ sym (ap (λ (l : Line). l.ending) (is.spelling.only like here (subst HasEnded (sym ends) ended)).0) ∙ is.spelling.ending;
+        replies = λ order ended apart.
+            let (same, (all, first, second)) = is.spelling.only like here (subst HasEnded (sym ends) ended) in
+            let theirs = order told.plan all is.spelling.line.spelt like.spelt (apart_alike (keys_in told.plan.scripts) line.spelt like.spelt (sym calls) apart) first second in
+            replies_alike line.spelt like.spelt (sym calls) ∙ sym theirs ∙ is.spelling.replies;
+      }
+
   told_line : (worker : ℕ) (line : Line) → worker < told.plan.workers → slice_get account.lines worker ≡ Some line → ToldLine worker line
-  told_line worker line below at = by_list (slice_get_cases claim.lists worker).1 (are.each worker below) where
-    by_like : (one : SpeltList) → list_at found worker one → (is : IsSpeltList told.plan told.items worker one) → (like : Line) → IsLineHere told.plan worker (flat_map spelt_in is.list) like → like.ending ≡ line.ending → calls_made like ≡ calls_made line
-        → ToldLine worker line
-    by_like one there is like here ends calls = record {
-      found_line = one.line;
-      at = there.0;
-      ending = λ ended. sym ends ∙ sym (ap (λ (l : Line). l.ending) (is.spelling.only like here (subst HasEnded (sym ends) ended)).0) ∙ is.spelling.ending;
-      replies = λ order ended apart.
-          let (same, (all, first, second)) = is.spelling.only like here (subst HasEnded (sym ends) ended) in
-          let theirs = order told.plan all is.spelling.line.spelt like.spelt (apart_alike (keys_in told.plan.scripts) line.spelt like.spelt (sym calls) apart) first second in
-          replies_alike line.spelt like.spelt (sym calls) ∙ sym theirs ∙ is.spelling.replies;
-    }
-
-    by_items : (list : List ToldItem) → slice_get claim.lists worker ≡ Some list → (one : SpeltList) × list_at found worker one × IsSpeltList told.plan told.items worker one → ToldLine worker line
-    by_items list there (one, at_one, is) =
-        let (items, said, same) = mapped (λ (ss : List Sketched). map (told_item worker) ss) (worker_told told.plan told.items worker) (map unmarked_item list) (tells.lists worker list there) in
-        let one_list : items ≡ is.list = same_Some items is.list (sym said ∙ is.told) in
-        let mine : map (told_item worker) is.list ≡ map unmarked_item list = ap (λ (ss : List Sketched). map (told_item worker) ss) (sym one_list) ∙ same in
-        let at_made : slice_get (map made_in claim.lists) worker ≡ Some (made_in list) = slice_get-map made_in claim.lists worker ∙ ap (λ (o : Option (List ToldItem)). option_map made_in o) there in
-        let at_bare : slice_get (map before_halts account.lines) worker ≡ Some (before_halts line) = slice_get-map before_halts account.lines worker ∙ ap (λ (o : Option Line). option_map before_halts o) at in
-        let (bare, at_line, are_items) = paired items_of without_halts (map before_halts account.lines) (map made_in claim.lists) spelt.lines.lists worker (made_in list) at_made in
-        let same_line : bare ≡ before_halts line = same_Some bare (before_halts line) (sym at_line ∙ at_bare) in
-        let items_are : items_of (before_halts line) ≡ without_halts (made_in list) = ap items_of (sym same_line) ∙ are_items in
-        let here : AreAlike (items_of (before_halts line)) (flat_map spelt_in is.list) = subst (λ (ms : List Made). AreAlike ms (flat_map spelt_in is.list)) (sym items_are) (alike worker list is.list mine) in
-        let like = blind told.plan worker (before_halts line) (flat_map spelt_in is.list) here (subst (λ (p : Plan). IsLineOf p worker (before_halts line)) tells.plan (spelt.lines.each worker (before_halts line) at_bare)) in
-        let runs : RunsAlong (get_or told.plan.scripts worker []) (calls_made line) line.rest = subst (λ (p : Plan). RunsAlong (get_or p.scripts worker []) (calls_made line) line.rest) tells.plan (spelt.lines.runs worker (before_halts line) at_bare) in
-        let runs_like : RunsAlong (get_or told.plan.scripts worker []) (calls_made like.like) like.like.rest =
-        subst (λ (made : List (Call × Reply ℕ)). RunsAlong (get_or told.plan.scripts worker []) made like.like.rest) (sym like.calls) (subst (λ (rest : List Call). RunsAlong (get_or told.plan.scripts worker []) (calls_made line) rest) (sym like.rest) runs) in
-        by_like one at_one is like.like (runs_like, like.items_are, like.is) like.ending like.calls
-
-    by_list : ((list : List ToldItem) × (worker < length claim.lists) × (slice_get claim.lists worker ≡ Some list) × (get_or claim.lists worker list ≡ list)) ⊎ ((length claim.lists ≤ worker) × (slice_get claim.lists worker ≡ None))
-        → (one : SpeltList) × list_at found worker one × IsSpeltList told.plan told.items worker one → ToldLine worker line
-    by_list (inl (list, within, there, read)) one = by_items list there one
-    by_list (inr (past, none)) one = let count = tells.workers in absurd (omega (arith, past, count, below))
+  told_line worker line below at =
+      let (other, there, as_told) = line_told blind told claim tells account spelt worker below in
+      by_told worker line (subst (λ (l : Line). AsTold blind told claim tells account spelt worker l) (same_Some other line (sym there ∙ at)) as_told) (are.each worker below)
 
   module _ (scripts : length claim.plan.scripts ≡ claim.plan.workers) (ended : All (λ (line : Line). HasEnded line.ending) account.lines) where
     count : length account.lines ≡ told.plan.workers
