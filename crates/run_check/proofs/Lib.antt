@@ -1,5 +1,9 @@
 pub mod FrontOrder
 pub mod ToldFronts
+pub mod ToldEntries
+pub mod ToldReplies
+pub mod ToldBack
+pub mod ToldText
 pub mod OnObjects
 pub mod SpeltOn
 pub mod FirstClause

@@ -1,0 +1,18 @@
+//! That nothing is lost where items are written as lines and read again. Each law is the contract of a function that does nothing.
+ghost use Rattle.std.specs.Prelude.{◌≡◌, ℕ, List, length};
+ghost use Rattle.record_text.specs.Told.{joined};
+ghost use Rattle.record_clauses.specs.Account.{Claim};
+ghost use Rattle.record_clauses.specs.Verdicts as claims;
+ghost use Rattle.run_check.specs.Completeness.{AreWritten, told_by};
+ghost use Rattle.run_check.specs.Tells.{ComesTo, Tells};
+
+use record_clauses::Verdict;
+use record_text::ItemLine;
+
+/// A text whose lines are those in which the items of a claim are written tells the claim, where each line is read as its item. So it comes
+/// to Yes where all clauses hold of the claim.
+pub fn a_claim_is_told_where_each_line_is_read_as_its_item()
+    ensures tells { (claim : Claim) (lists : List (List ItemLine)) (report : List (List ℕ)) → AreWritten claim lists → length claim.lists ≡ claim.plan.workers → claim.report ≡ joined report → Tells (told_by claim lists report) claim }
+    ensures yes { (claim : Claim) (lists : List (List ItemLine)) (report : List (List ℕ)) → AreWritten claim lists → length claim.lists ≡ claim.plan.workers → claim.report ≡ joined report
+        → claims.ComesTo claim Verdict.Yes → ComesTo (told_by claim lists report) Verdict.Yes }
+{}
