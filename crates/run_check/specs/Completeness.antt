@@ -2,6 +2,9 @@
 use Rattle.std.specs.Prelude.{◌≡◌, ℕ, List, [], ◌∷◌, map, length, Some, slice_get}
 use Rattle.std.specs.List.{flat_map}
 use Rattle.workload.specs.Plan.{Plan}
+use Rattle.run_record.specs.declared.made.Made.{Made}
+use Rattle.run_record.specs.declared.made.Made.TheVariants.{Shared, Entered}
+use Rattle.run_record.specs.Record.{ObjectEntry, Record}
 use Rattle.record_text.specs.declared.item_line.ItemLine.{ItemLine}
 use Rattle.record_text.specs.Told.{Told}
 use Rattle.told_items.specs.declared.along.Along.{Along}
@@ -35,3 +38,15 @@ pub record AreWritten (claim : Claim) (lists : List (List ItemLine)) : Type 0 wh
   pub count : length lists ≡ length claim.lists
   pub written : (worker : ℕ) (list : List ToldItem) (lines : List ItemLine) → slice_get claim.lists worker ≡ Some list → slice_get lists worker ≡ Some lines → map (line_of worker) list ≡ map Some lines
   pub read : (worker : ℕ) (list : List ToldItem) (lines : List ItemLine) → slice_get claim.lists worker ≡ Some list → slice_get lists worker ≡ Some lines → AllSay claim.plan (kept_by (all_lines lists) claim.plan.workers) worker along_start list lines
+
+-- an entry of a journal without what its line leaves out: what its worker had seen of the journal, and its number among all events
+abbrev pub plain_entry : ObjectEntry → ObjectEntry
+plain_entry entry = record { caller = entry.caller; deed = entry.deed; front = entry.front; knew = 0; time = 0 }
+
+abbrev pub plain_made : Made → Made
+plain_made (Shared x) = Shared x
+plain_made (Entered object entry) = Entered object (plain_entry entry)
+
+-- a record of such entries
+abbrev pub plain_record : Record → Record
+plain_record r = record { history = r.history; journals = map (map plain_entry) r.journals; lists = map (map plain_made) r.lists }
