@@ -4,6 +4,7 @@ pub mod ToldEntries
 pub mod ToldReplies
 pub mod ToldBack
 pub mod ToldText
+pub mod ToldCalls
 pub mod ToldPlain
 pub mod OnObjects
 pub mod SpeltOn

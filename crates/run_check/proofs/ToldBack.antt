@@ -1,9 +1,7 @@
 -- A list is read back from the lines in which its items are written.
-use Rattle.std.proofs.Common.{◌≡◌, ◌⊎◌, inl, inr, ℕ, zero, suc, ◌+◌, ◌<◌, Bool, true, false, cond, ◌==◌, List, [], ◌∷◌, ◌++◌, map, length, Option, Some, None, slice_get, refl, sym, ap, ◌∙◌, subst, arith}
-use Rattle.std.specs.Option.{option_map, option_map_or}
-use Rattle.std.proofs.lemmas.Bool.{eq-eqb, eqb-true, false≢true}
+use Rattle.std.proofs.Common.{◌≡◌, ℕ, Bool, true, cond, List, [], ◌∷◌, map, Option, Some, None, refl, sym, ap, ◌∙◌, subst}
+use Rattle.std.specs.Option.{option_map}
 use Rattle.std.proofs.lemmas.Option.{none-some, same_Some}
-use Rattle.sync_model.specs.declared.item.Item.{Item}
 use Rattle.sync_model.specs.declared.item.SharedCall.{SharedCall}
 use Rattle.sync_model.specs.declared.item.SharedCall.TheVariants as calls
 use Rattle.sync_model.specs.declared.item.SharedReply.{SharedReply}
@@ -30,13 +28,13 @@ use Rattle.told_items.specs.declared.placing.Asked.{Asked}
 use Rattle.told_items.specs.declared.deeds.Speaker.{Speaker}
 use Rattle.told_items.specs.declared.sketch.Sketch.{Sketch}
 use Rattle.told_items.specs.declared.sketch.Sketch.TheVariants as sketches
-use Rattle.told_items.specs.Deeds.{deed_told, event_told}
-use Rattle.told_items.specs.Items.{Kept, Sketched, along_behind, along_start, asked_by, begun, entered, list_told, made_of, may_be_of, number_of, ranged_by, replied, script_call, sketch_told, sketched_before, speaker_of}
+use Rattle.told_items.specs.Deeds.{event_told}
+use Rattle.told_items.specs.Items.{Kept, Sketched, along_behind, asked_by, begun, entered, list_told, may_be_of, ranged_by, replied, script_call, sketch_told, sketched_before, speaker_of}
 use Rattle.told_items.specs.Replies.{reply_told}
 use Rattle.entry_marks.specs.Marks.{unmarked}
-use Rattle.record_clauses.specs.Account.{ToldItem, made_in}
+use Rattle.record_clauses.specs.Account.{ToldItem}
 use Rattle.run_check.specs.Completeness.{AllSay, Says}
-use Rattle.run_check.specs.Items.{line_of, told_item, unmarked_item, unmarked_made}
+use Rattle.run_check.specs.Items.{line_of, told_item, unmarked_item}
 use Rattle.run_check.proofs.ToldEntries.{DeedIs, deed_back, event_back, no_halt}
 use Rattle.run_check.proofs.ToldLists.{mapped}
 use Rattle.run_check.proofs.ToldReplies.{SharedReplyIs, reply_back}
@@ -53,7 +51,7 @@ module _ (plan : Plan) (kept : Kept) (worker : ℕ) where
         ap (λ (y : ToldItem). y ∷ map (told_item worker) items) same ∙ ap (λ (ys : List ToldItem). unmarked_item x ∷ ys) alike,
       )
 
--- ---- when a line is read as its item
+  -- ---- when a line is read as its item
 
   -- the call of the script makes the call on a map or an atomic, and its reply is one of such
   abbrev pub CallIs : Along → Option ℕ → SharedCall → SharedReply → Type 0
@@ -127,10 +125,10 @@ module _ (plan : Plan) (kept : Kept) (worker : ℕ) where
     sketches.Entered object number entry.deed,
     entered_back along index object number entry.deed s is halt says,
     ap (λ (e : ObjectEntry). record { made = Entered object e; call = index; number = number }) (
-      ap (λ (w : ℕ). record { caller = w; deed = entry.deed; front = entry.front; knew = 0; time = 0 }) (sym caller)
-      ∙ ap (λ (k : ℕ). record { caller = entry.caller; deed = entry.deed; front = entry.front; knew = k; time = 0 }) (sym knew)
-      ∙ ap (λ (t : ℕ). record { caller = entry.caller; deed = entry.deed; front = entry.front; knew = entry.knew; time = t }) (sym time)
-    ),
+        ap (λ (w : ℕ). record { caller = w; deed = entry.deed; front = entry.front; knew = 0; time = 0 }) (sym caller)
+        ∙ ap (λ (k : ℕ). record { caller = entry.caller; deed = entry.deed; front = entry.front; knew = k; time = 0 }) (sym knew)
+        ∙ ap (λ (t : ℕ). record { caller = entry.caller; deed = entry.deed; front = entry.front; knew = entry.knew; time = t }) (sym time)
+        ),
   )
 
   -- so the line in which it is written is read as the item

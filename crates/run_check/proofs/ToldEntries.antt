@@ -35,17 +35,10 @@ use Rattle.pool_core.specs.declared.pool_event.PoolEvent.{PoolEvent}
 use Rattle.pool_core.specs.declared.pool_event.PoolEvent.TheVariants as pool_events
 use Rattle.pool_core.specs.declared.pool_event.PoolReply.{PoolReply}
 use Rattle.pool_core.specs.declared.pool_event.PoolReply.TheVariants as pool_replies
-use Rattle.starts_core.specs.declared.protocol.StartsStage.{StartsStage}
-use Rattle.starts_core.specs.declared.protocol.StartsStage.TheVariants as starts_stages
 use Rattle.starts_core.specs.declared.starts.StartEvent.{StartEvent}
 use Rattle.starts_core.specs.declared.starts.StartEvent.TheVariants as start_events
 use Rattle.starts_core.specs.declared.starts.StartReply.{StartReply}
 use Rattle.starts_core.specs.declared.starts.StartReply.TheVariants as start_replies
-use Rattle.starts_core.specs.StartsStages.{starts_event, starts_meaning}
-use Rattle.protocols.specs.declared.cond.CondStage.{CondStage}
-use Rattle.protocols.specs.declared.cond.CondStage.TheVariants as cond_stages
-use Rattle.protocols.specs.declared.wait_group.GroupStage.{GroupStage}
-use Rattle.protocols.specs.declared.wait_group.GroupStage.TheVariants as group_stages
 use Rattle.protocols.specs.declared.mutex.MutexStage.{MutexStage}
 use Rattle.protocols.specs.declared.mutex.MutexStage.TheVariants as mutex_stages
 use Rattle.protocols.specs.declared.once.OnceStage.{OnceStage}
@@ -54,8 +47,6 @@ use Rattle.protocols.specs.declared.pool.PoolStage.{PoolStage}
 use Rattle.protocols.specs.declared.pool.PoolStage.TheVariants as pool_stages
 use Rattle.protocols.specs.declared.rw_mutex.RwMutexStage.{RwMutexStage}
 use Rattle.protocols.specs.declared.rw_mutex.RwMutexStage.TheVariants as rw_stages
-use Rattle.protocols.specs.CondStages.{cond_event, cond_meaning}
-use Rattle.protocols.specs.GroupStages.{group_event, group_meaning}
 use Rattle.protocols.specs.MutexStages.{mutex_event, mutex_meaning}
 use Rattle.protocols.specs.OnceStages.{once_event, once_meaning}
 use Rattle.protocols.specs.PoolStages.{pool_event, pool_meaning}
@@ -68,7 +59,6 @@ use Rattle.record_text.specs.declared.answer.AnswerWord.{AnswerWord}
 use Rattle.record_text.specs.declared.answer.AnswerWord.TheVariants as words
 use Rattle.record_text.specs.declared.event.EventWord.{EventWord}
 use Rattle.record_text.specs.declared.event.EventWord.TheVariants as events
-use Rattle.record_text.specs.declared.item_line.Said.{Said}
 use Rattle.record_text.specs.declared.item_line.Said.TheVariants as said
 use Rattle.record_text.specs.Written as written
 use Rattle.record_text.proofs.EachDeed.{IsMeantBy, IsStep}

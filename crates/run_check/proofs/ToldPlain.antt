@@ -1,14 +1,12 @@
 -- What a worker had seen of a journal, and an entry's number among all events, decide nothing.
-use Rattle.std.proofs.Common.{◌≡◌, ◌⊎◌, inl, inr, ℕ, zero, suc, ◌+◌, ◌<◌, ◌≤◌, Bool, true, false, cond, ◌==◌, List, [], ◌∷◌, ◌++◌, map, length, get_or, take, Option, Some, None, slice_get, slice_index, refl, sym, ap, ◌∙◌, subst, arith}
+use Rattle.std.proofs.Common.{◌≡◌, ◌⊎◌, inl, inr, ℕ, ◌+◌, ◌<◌, ◌≤◌, Bool, true, false, cond, ◌==◌, List, [], ◌∷◌, map, length, get_or, take, Option, Some, None, slice_get, slice_index, refl, sym, ap, ◌∙◌, subst, arith}
 use Rattle.std.specs.Prelude.{All}
-use Rattle.std.specs.Option.{option_map}
 use Rattle.std.proofs.Math.ListN.{get_or-map}
 use Rattle.std.proofs.lemmas.List.{length-map, take-map}
 use Rattle.std.proofs.lemmas.List.Elements.{All-map}
-use Rattle.std.proofs.lemmas.Option.{get_or_from_slice_get, none-some, same_Some, slice_get_cases, slice_get_within, slice_get-map}
+use Rattle.std.proofs.lemmas.Option.{same_Some, slice_get_cases, slice_get_within, slice_get-map}
 use Rattle.sync_types.specs.declared.misuse.Misuse.{Misuse}
 use Rattle.sync_model.specs.declared.item.Item.{Item}
-use Rattle.sync_model.specs.declared.journal.Deed.{Deed}
 use Rattle.sync_model.specs.declared.journal.Deed.TheVariants.{Halt}
 use Rattle.sync_model.specs.declared.journal.Entry.{Entry}
 use Rattle.sync_model.specs.Front.{AtLeast}
@@ -18,7 +16,6 @@ use Rattle.script_calls.specs.declared.call.Call.{Call}
 use Rattle.script_calls.specs.declared.call.Reply.{Reply}
 use Rattle.script_calls.specs.declared.outcome.Outcome.{Outcome}
 use Rattle.script_calls.specs.declared.outcome.Outcome.TheVariants.{Done, Misused, Deadlocked}
-use Rattle.script_calls.specs.Outcome.{left_by}
 use Rattle.script_calls.specs.Runs.{RunsAlong}
 use Rattle.workload.specs.declared.object.ObjectKind.{ObjectKind}
 use Rattle.workload.specs.declared.object.ObjectKind.TheVariants as kinds
@@ -37,7 +34,7 @@ use Rattle.run_record.specs.PoolKind.{IsPartJournal}
 use Rattle.run_record.specs.StartsKind.{IsStartsJournal}
 use Rattle.workload.specs.Puts.{puts_at}
 use Rattle.run_record.specs.Record.{ObjectEntry, Record, calls_of, entries_in, front_of, journal_of, list_of, object_number, shared_in, stop}
-use Rattle.run_cuts.specs.Blind.{AreAlike, HasLineLike, bare}
+use Rattle.run_cuts.specs.Blind.{bare}
 use Rattle.run_check.specs.Completeness.{plain_entry, plain_made, plain_record}
 use Rattle.run_check.proofs.SpellNothing.{IsBlind}
 use Rattle.run_check.proofs.SpeltClaims.{all_same, gather}

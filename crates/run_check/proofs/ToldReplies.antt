@@ -1,8 +1,8 @@
 -- What a call on a map or an atomic replied is read back from the word in which it is written.
-use Rattle.std.proofs.Common.{◌≡◌, ℕ, ◌^◌, ◌<◌, ℤ, Bool, true, false, nat_lt, cond, Option, Some, None, refl, sym, ap, ◌∙◌, subst}
+use Rattle.std.proofs.Common.{◌≡◌, ℕ, ◌^◌, ◌<◌, Bool, true, false, nat_lt, cond, Option, Some, None, refl, sym, ap, ◌∙◌}
 use Rattle.std.specs.Option.{option_map}
 use Rattle.std.proofs.lemmas.Bool.{lt-ltb}
-use Rattle.std.proofs.lemmas.Option.{none-some, same_Some}
+use Rattle.std.proofs.lemmas.Option.{same_Some}
 use Rattle.sync_types.specs.declared.atomic_object.AtomicCall.{AtomicCall}
 use Rattle.sync_types.specs.declared.atomic_object.AtomicKind.{AtomicKind}
 use Rattle.sync_types.specs.declared.atomic_object.AtomicKind.TheVariants as types
@@ -18,13 +18,11 @@ use Rattle.sync_model.specs.declared.item.SharedCall.TheVariants as calls
 use Rattle.sync_model.specs.declared.item.SharedReply.{SharedReply}
 use Rattle.sync_model.specs.declared.item.SharedReply.TheVariants as answers
 use Rattle.record_text.specs.declared.item_line.PlacedReply.{PlacedReply}
-use Rattle.record_text.specs.declared.item_line.PlacedReply.TheVariants as replies
-use Rattle.record_text.specs.declared.item_line.Said.{Said}
 use Rattle.record_text.specs.declared.item_line.Said.TheVariants as said
 use Rattle.record_text.specs.declared.item_line.Whole.{Whole}
-use Rattle.record_text.specs.declared.item_line.Whole.TheVariants.{Natural, Below}
+use Rattle.record_text.specs.declared.item_line.Whole.TheVariants.{Natural}
 use Rattle.record_text.specs.Written.{atomic_reply, map_reply, number_reply, shared_said, whole_of}
-use Rattle.told_items.specs.Replies.{any_number_told, atomic_reply_told, compares, int32_told, int64_told, map_reply_told, number_told, or_else, reply_told, settles}
+use Rattle.told_items.specs.Replies.{any_number_told, atomic_reply_told, compares, int32_told, int64_told, map_reply_told, or_else, reply_told, settles}
 
 -- the number is one of an atomic of this type; a truth is no answer to a comparison
 abbrev pub NumberIs : AtomicKind → Bool → Number → Type 0

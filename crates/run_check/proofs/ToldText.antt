@@ -1,18 +1,18 @@
 -- A text with the lines of all workers, one worker's behind those of another.
-use Rattle.std.proofs.Common.{◌≡◌, ◌⊎◌, inl, inr, ℕ, zero, suc, ◌+◌, ◌<◌, ◌≤◌, Bool, true, false, cond, ◌==◌, List, [], ◌∷◌, ◌++◌, map, length, get_or, Option, Some, None, slice_get, refl, sym, ap, ◌∙◌, subst, arith}
+use Rattle.std.proofs.Common.{◌≡◌, ◌⊎◌, inl, inr, ℕ, zero, suc, ◌+◌, ◌<◌, ◌≤◌, Bool, cond, ◌==◌, List, [], ◌∷◌, ◌++◌, map, length, get_or, Some, None, slice_get, refl, sym, ap, ◌∙◌, subst, arith}
 use Rattle.std.specs.Option.{option_map}
-use Rattle.std.proofs.lemmas.Bool.{eq-eqb, eqb-true, false≢true}
+use Rattle.std.proofs.lemmas.Bool.{eq-eqb}
 use Rattle.std.proofs.lemmas.List.{append-nil}
 use Rattle.std.proofs.lemmas.List.Elements.{filter-append}
 use Rattle.std.proofs.lemmas.Option.{none-some, same_Some, slice_get_cases}
 use Rattle.record_text.specs.declared.item_line.ItemLine.{ItemLine}
 use Rattle.record_text.specs.declared.item_line.Said.{Said}
-use Rattle.record_text.specs.Told.{Told, items_of, joined}
+use Rattle.record_text.specs.Told.{items_of, joined}
 use Rattle.record_text.specs.Written.{front_in, made_said}
-use Rattle.told_items.specs.Items.{Sketched, along_start, kept_by, list_told, worker_told}
+use Rattle.told_items.specs.Items.{Sketched, along_start, kept_by, list_told}
 use Rattle.record_clauses.specs.Account.{Claim, ToldItem}
-use Rattle.run_check.specs.Completeness.{AllSay, AreWritten, all_lines, told_by}
-use Rattle.run_check.specs.Items.{line_of, told_item, unmarked_item}
+use Rattle.run_check.specs.Completeness.{AreWritten, all_lines, told_by}
+use Rattle.run_check.specs.Items.{line_of, told_item}
 use Rattle.run_check.specs.Tells.{Tells}
 use Rattle.run_check.proofs.FrontOrder.{apart}
 use Rattle.run_check.proofs.ToldBack.{list_back}

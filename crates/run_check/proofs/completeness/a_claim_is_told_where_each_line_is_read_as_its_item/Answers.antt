@@ -1,4 +1,3 @@
-use Rattle.run_check.proofs.ToldBack.{all_say}
 use Rattle.run_check.proofs.ToldText.{tells}
 use Rattle.run_check.proofs.completeness.a_claim_is_told_where_each_line_is_read_as_its_item.Goals as goal
 
