@@ -1,6 +1,6 @@
 -- Each call on a map or an atomic among the items of a script's call is the one that the script's call makes.
-use Rattle.std.proofs.Common.{◌≡◌, ℕ, zero, suc, ℤ, Bool, true, false, cond, List, [], ◌∷◌, map, Option, Some, None, slice_get, refl, sym, subst}
-use Rattle.std.specs.List.{AllByRecursion, range_with_len}
+use Rattle.std.proofs.Common.{◌≡◌, ℕ, zero, suc, ℤ, Bool, true, false, cond, List, [], ◌∷◌, map, Option, Some, None, slice_get, refl, sym, subst, get_or, ◌++◌}
+use Rattle.std.specs.List.{AllByRecursion, flat_map, range_with_len}
 use Rattle.sync_types.specs.declared.atomic_object.AtomicCall.{AtomicCall}
 use Rattle.sync_types.specs.declared.atomic_object.AtomicCall.TheVariants.{Add, Load}
 use Rattle.sync_types.specs.declared.atomic_object.Number.{Number}
@@ -46,6 +46,10 @@ use Rattle.run_record.specs.declared.made.Made.TheVariants.{Shared, Entered}
 use Rattle.run_record.specs.AtomicKind.{adds, atomic_call}
 use Rattle.run_record.specs.Calls.{SpellsCall, call_at, call_on}
 use Rattle.run_record.specs.CondKind.{cond_call, wait_part}
+use Rattle.run_record.specs.Lines.{IsLineOf, Line, SpeltCall, calls_made}
+use Rattle.run_cuts.specs.CallsAlong.{calls_along}
+use Rattle.script_calls.specs.Runs.{RunsAlong}
+use Rattle.run_check.proofs.ToldPlaces.{AllOf, of_line}
 use Rattle.run_record.specs.MapKind.{map_call, range_call, step_showing}
 use Rattle.run_record.specs.Objects.{atomic_number, map_number, starts_number}
 use Rattle.run_record.specs.OnceKind.{failure, goes_on_once, once_part}
@@ -214,3 +218,12 @@ module _ (plan : Plan) (worker before : ℕ) where
   -- each item of a call is of it
   pub of_call : (call : Call) → EachOf (Fits (asked_by plan (Some call)) (ranged_by plan (Some call))) (SpellsCall plan worker before call)
   of_call call = of_call_at (slice_get plan.objects call.object) call
+
+-- what an item of a call of the script fits, and one of none
+abbrev pub FitsIn : Plan → Option Call → Made → Type 0
+FitsIn plan call = Fits (asked_by plan call) (ranged_by plan call)
+
+-- each item of a line is of the call of which it is told to be
+pub line_fits : (plan : Plan) (worker : ℕ) (line : Line) → IsLineOf plan worker line → RunsAlong (get_or plan.scripts worker []) (calls_made line) line.rest
+    → AllOf plan worker (FitsIn plan) (line.first ++ (flat_map (λ (s : SpeltCall). s.items) line.spelt ++ line.last)) (calls_along line)
+line_fits plan worker line is runs = of_line plan worker (FitsIn plan) (λ before call. of_call plan worker before call) (of_opening None None plan worker) (of_closing None None plan worker) line is runs

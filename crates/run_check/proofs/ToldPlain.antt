@@ -1,10 +1,11 @@
 -- What a worker had seen of a journal, and an entry's number among all events, decide nothing.
-use Rattle.std.proofs.Common.{◌≡◌, ◌⊎◌, inl, inr, ℕ, ◌+◌, ◌<◌, ◌≤◌, Bool, true, false, cond, ◌==◌, List, [], ◌∷◌, map, length, get_or, take, Option, Some, None, slice_get, slice_index, refl, sym, ap, ◌∙◌, subst, arith}
+use Rattle.std.proofs.Common.{◌≡◌, ◌⊎◌, inl, inr, ℕ, zero, suc, ◌+◌, ◌<◌, ◌≤◌, Bool, true, false, cond, ◌==◌, List, [], ◌∷◌, map, length, get_or, take, Option, Some, None, slice_get, slice_index, refl, sym, ap, ◌∙◌, subst, arith}
 use Rattle.std.specs.Prelude.{All}
 use Rattle.std.proofs.Math.ListN.{get_or-map}
+use Rattle.std.proofs.lemmas.Bool.{eq-eqb, eqb-true}
 use Rattle.std.proofs.lemmas.List.{length-map, take-map}
 use Rattle.std.proofs.lemmas.List.Elements.{All-map}
-use Rattle.std.proofs.lemmas.Option.{same_Some, slice_get_cases, slice_get_within, slice_get-map}
+use Rattle.std.proofs.lemmas.Option.{none-some, same_Some, slice_get-map, slice_get_cases, slice_get_within}
 use Rattle.sync_types.specs.declared.misuse.Misuse.{Misuse}
 use Rattle.sync_model.specs.declared.item.Item.{Item}
 use Rattle.sync_model.specs.declared.journal.Deed.TheVariants.{Halt}
@@ -263,3 +264,42 @@ plain_explains blind plan outcome r explains =
       lawful = plain_lawful r plan explains.lawful;
       agrees = like_agrees blind plan outcome r explains.lines explains.are others count each outcome explains.agrees;
     }
+
+-- ---- an entry in a worker's list
+
+entry_in : (list : List Made) (i object : ℕ) (entry : ObjectEntry) → slice_get list i ≡ Some (Entered object entry) → (j : ℕ) × (slice_get (entries_in object list) j ≡ Some entry)
+entry_in [] i object entry at = absurd (none-some (Entered object entry) at)
+entry_in (Shared x ∷ list) zero object entry at = absurd cc
+entry_in (Shared x ∷ list) (suc i) object entry at = entry_in list i object entry at
+entry_in (Entered other one ∷ list) zero object entry at =
+    let same : Entered other one ≡ Entered object entry = same_Some (Entered other one) (Entered object entry) at in
+    let numbers : other ≡ object = cc in
+    let entries : one ≡ entry = cc in
+    (0, ap (λ (b : Bool). slice_get (cond b (one ∷ entries_in object list) (entries_in object list)) 0) (eq-eqb other object numbers) ∙ ap (λ (e : ObjectEntry). Some e) entries)
+entry_in (Entered other one ∷ list) (suc i) object entry at = of (other == object) (entry_in list i object entry at) where
+  of : (b : Bool) → (j : ℕ) × (slice_get (entries_in object list) j ≡ Some entry) → (j : ℕ) × (slice_get (cond b (one ∷ entries_in object list) (entries_in object list)) j ≡ Some entry)
+  of true (j, there) = (suc j, there)
+  of false (j, there) = (j, there)
+
+by_caller : (worker j : ℕ) (journal : List ObjectEntry) (entry : ObjectEntry) → slice_get (by worker journal) j ≡ Some entry → entry.caller ≡ worker
+by_caller worker j [] entry at = absurd (none-some entry at)
+by_caller worker j (x ∷ journal) entry at = of j (λ k there. by_caller worker k journal entry there) (x.caller == worker) refl at where
+  of : (j : ℕ) → ((k : ℕ) → slice_get (by worker journal) k ≡ Some entry → entry.caller ≡ worker) → (b : Bool) → (x.caller == worker) ≡ b → slice_get (cond b (x ∷ by worker journal) (by worker journal)) j ≡ Some entry → entry.caller ≡ worker
+  of zero later true is there = sym (ap (λ (e : ObjectEntry). e.caller) (same_Some x entry there)) ∙ eqb-true x.caller worker is
+  of (suc k) later true is there = later k there
+  of k later false is there = later k there
+
+plain_notes : (made : Made) (object : ℕ) (entry : ObjectEntry) → plain_made made ≡ Entered object entry → (entry.knew ≡ 0) × (entry.time ≡ 0)
+plain_notes (Shared x) object entry same = absurd cc
+plain_notes (Entered other one) object entry same =
+    let entries : plain_entry one ≡ entry = cc in
+    (sym (ap (λ (e : ObjectEntry). e.knew) entries), sym (ap (λ (e : ObjectEntry). e.time) entries))
+
+-- in a record without what lines leave out, each entry in a worker's list is its own, and nothing else is told of it
+pub own_entry : (plan : Plan) (r : Record) → IsRecordOf plan r → (worker i object : ℕ) (entry : ObjectEntry) → slice_get (list_of (plain_record r) worker) i ≡ Some (Entered object entry) → (entry.caller ≡ worker) × (entry.knew ≡ 0) × (entry.time ≡ 0)
+own_entry plan r is worker i object entry at =
+    let (j, there) = entry_in (list_of (plain_record r) worker) i object entry at in
+    let once = (plain_lawful r plan is).once worker object in
+    let (was, before, same) = mapped plain_made (slice_get (list_of r worker) i) (Entered object entry) (sym (slice_get-map plain_made (list_of r worker) i) ∙ sym (ap (λ (l : List Made). slice_get l i) (list_is r worker)) ∙ at) in
+    let (knew, time) = plain_notes was object entry same in
+    (by_caller worker j (journal_of (plain_record r) object) entry (sym (ap (λ (l : List ObjectEntry). slice_get l j) once) ∙ there), knew, time)
