@@ -5,6 +5,7 @@ pub mod ToldReplies
 pub mod ToldBack
 pub mod ToldText
 pub mod ToldCalls
+pub mod ToldCursors
 pub mod ToldPlaces
 pub mod ToldPlain
 pub mod OnObjects

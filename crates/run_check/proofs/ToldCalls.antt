@@ -63,16 +63,17 @@ use Rattle.record_text.proofs.OwnWords.{each_both}
 use Rattle.told_items.specs.declared.placing.Asked.{Asked}
 use Rattle.told_items.specs.Items.{asked_at, asked_by, asked_on, ranged_at, ranged_by, ranged_on}
 
-module _ (asked : Option Asked) (ranged : Option ℕ) where
-  -- the call is the one that is asked, or the beginning of a cursor over the map that is ranged over
-  abbrev pub FitsCall : SharedCall → Type 0
-  FitsCall (calls.Map m call) = (a : Asked) × (asked ≡ Some a) × (a.call ≡ calls.Map m call)
-  FitsCall (calls.Atomic atomic call) = (a : Asked) × (asked ≡ Some a) × (a.call ≡ calls.Atomic atomic call)
-  FitsCall (calls.Begin m) = ranged ≡ Some m
-  FitsCall (calls.Next begin) = Unit {0}
+-- the call is the one that is asked, or the beginning of a cursor over the map that is ranged over
+abbrev pub FitsCall : Option Asked → Option ℕ → SharedCall → Type 0
+FitsCall asked ranged (calls.Map m call) = (a : Asked) × (asked ≡ Some a) × (a.call ≡ calls.Map m call)
+FitsCall asked ranged (calls.Atomic atomic call) = (a : Asked) × (asked ≡ Some a) × (a.call ≡ calls.Atomic atomic call)
+FitsCall asked ranged (calls.Begin m) = ranged ≡ Some m
+FitsCall asked ranged (calls.Next begin) = Unit {0}
 
+module _ (Q : SharedCall → Type 0) where
+  -- a call on a map or an atomic is such a call
   abbrev pub Fits : Made → Type 0
-  Fits (Shared x) = FitsCall x.call
+  Fits (Shared x) = Q x.call
   Fits (Entered object entry) = Unit {0}
 
   all_units : {E R : Type 0} (entries : List (Entry E R)) → AllByRecursion (λ (entry : Entry E R). Unit {0}) entries
@@ -82,7 +83,7 @@ module _ (asked : Option Asked) (ranged : Option ℕ) where
   only_entries : {E R : Type 0} (event : E → ObjectEvent) (reply : R → ObjectReply) (object : ℕ) (entries : List (Entry E R)) (items : List Made) → items ≡ map (λ entry. Entered object (lifted event reply entry)) entries → AllByRecursion Fits items
   only_entries event reply object entries items is = subst (AllByRecursion Fits) (sym is) (of_entries Fits event reply object entries (all_units entries))
 
-  of_stages : {G O E R : Type 0} (event : E → ObjectEvent) (reply : R → ObjectReply) (event_of : G → ℕ → E) (meaning : G → R → Step G O) (object : ℕ) (from : G) → EachOf Fits (stages event reply event_of meaning object from)
+  pub of_stages : {G O E R : Type 0} (event : E → ObjectEvent) (reply : R → ObjectReply) (event_of : G → ℕ → E) (meaning : G → R → Step G O) (object : ℕ) (from : G) → EachOf Fits (stages event reply event_of meaning object from)
   of_stages event reply event_of meaning object from items answer (entries, is, spelt) = only_entries event reply object entries items is
 
   of_wait : (object mutex : ℕ) → EachOf Fits (wait_part object mutex)
@@ -91,12 +92,12 @@ module _ (asked : Option Asked) (ranged : Option ℕ) where
       by_then Fits _ _ (of_stages _ _ _ _ object _) (λ left.
       by_read Fits (λ locked. replies.Returned) _ (of_stages _ _ _ _ mutex _))))
 
-  of_cond_call : (object mutex : ℕ) (call : CondCall) → EachOf Fits (cond_call object mutex call)
+  pub of_cond_call : (object mutex : ℕ) (call : CondCall) → EachOf Fits (cond_call object mutex call)
   of_cond_call object mutex cond_calls.Wait = of_wait object mutex
   of_cond_call object mutex cond_calls.Signal = by_read Fits (λ done. replies.Returned) _ (of_stages _ _ _ _ object _)
   of_cond_call object mutex cond_calls.Broadcast = by_read Fits (λ done. replies.Returned) _ (of_stages _ _ _ _ object _)
 
-  of_rw_part : (object : ℕ) (call : RwMutexCall) → EachOf Fits (rw_part object call)
+  pub of_rw_part : (object : ℕ) (call : RwMutexCall) → EachOf Fits (rw_part object call)
   of_rw_part object rw_calls.Lock = λ items answer spelt. only_entries _ _ object spelt.0 items spelt.1
   of_rw_part object rw_calls.Unlock = of_stages _ _ _ _ object _
   of_rw_part object rw_calls.TryLock = of_stages _ _ _ _ object _
@@ -110,7 +111,7 @@ module _ (asked : Option Asked) (ranged : Option ℕ) where
     of_goes_on (Already kept) = by_returns Fits (returned kept)
     of_goes_on Ended = by_never Fits
 
-    of_once : EachOf Fits (once_part part function ran returned)
+    pub of_once : EachOf Fits (once_part part function ran returned)
     of_once = by_then Fits _ _ (of_part once_stage.Begin) of_goes_on
 
   of_found : (rest : Part (Reply ℕ)) → EachOf Fits rest → (outcome : PoolOutcome) → EachOf Fits (found_or rest outcome)
@@ -128,45 +129,45 @@ module _ (asked : Option Asked) (ranged : Option ℕ) where
   of_sweeps first [] = by_returns Fits _
   of_sweeps first (part ∷ parts) = by_then Fits _ _ (of_stages _ _ _ _ _ _) (λ swept. of_sweeps first parts)
 
-  of_pool_call : (count worker first : ℕ) (call : PoolCall) → EachOf Fits (pool_call count worker first call)
+  pub of_pool_call : (count worker first : ℕ) (call : PoolCall) → EachOf Fits (pool_call count worker first call)
   of_pool_call count worker first (pool_calls.Put item) = by_read Fits _ _ (of_stages _ _ _ _ _ _)
   of_pool_call count worker first pool_calls.Get = of_looks worker first (looks_of count worker)
   of_pool_call count worker first pool_calls.Sweep = of_sweeps first (range_with_len 0 count)
 
   abbrev FitsPair : SharedCall → SharedReply → Type 0
-  FitsPair call reply = FitsCall call
+  FitsPair call reply = Q call
 
   fits_item : (x : Item) → FitsPair x.call x.reply → Fits (Shared x)
   fits_item x fits = fits
 
-  of_atomic : (a : ℕ) (call : AtomicCall) → FitsCall (calls.Atomic a call) → EachOf Fits (atomic_call a call)
+  pub of_atomic : (a : ℕ) (call : AtomicCall) → Q (calls.Atomic a call) → EachOf Fits (atomic_call a call)
   of_atomic a call fits items answer (reply, places, is) = of_places Fits FitsPair fits_item _ (fits, tt) items places
 
-  of_adds : (a : ℕ) (amount : ℤ) → FitsCall (calls.Atomic a (Add (Int64 amount))) → EachOf Fits (adds a amount)
+  pub of_adds : (a : ℕ) (amount : ℤ) → Q (calls.Atomic a (Add (Int64 amount))) → EachOf Fits (adds a amount)
   of_adds a amount fits items answer (sum, places, is) = of_places Fits FitsPair fits_item _ (fits, tt) items places
 
-  of_map : (keys : List (List ℕ)) (m : ℕ) (call : MapCall (List ℕ)) → FitsCall (calls.Map m (renamed_call (key_number keys) call)) → EachOf Fits (map_call keys m call)
+  pub of_map : (keys : List (List ℕ)) (m : ℕ) (call : MapCall (List ℕ)) → Q (calls.Map m (renamed_call (key_number keys) call)) → EachOf Fits (map_call keys m call)
   of_map keys m call fits items answer (reply, places, is) = of_places Fits FitsPair fits_item _ (fits, tt) items places
 
   abbrev FitsTold : SharedCall × SharedReply → Type 0
   FitsTold pair = FitsPair pair.0 pair.1
 
-  of_shown : (keys : List (List ℕ)) (m begin : ℕ) (shown : List (ℕ × ℕ)) → AllByRecursion FitsTold (map (step_showing keys m begin) shown)
-  of_shown keys m begin [] = tt
-  of_shown keys m begin (pair ∷ shown) = (tt, of_shown keys m begin shown)
+  of_shown : (keys : List (List ℕ)) (m begin : ℕ) → ((next : ℕ) → Q (calls.Next next)) → (shown : List (ℕ × ℕ)) → AllByRecursion FitsTold (map (step_showing keys m begin) shown)
+  of_shown keys m begin nexts [] = tt
+  of_shown keys m begin nexts (pair ∷ shown) = (nexts begin, of_shown keys m begin nexts shown)
 
-  of_range : (keys : List (List ℕ)) (m begin : ℕ) → ranged ≡ Some m → EachOf Fits (range_call keys m begin)
-  of_range keys m begin fits items answer (shown, pairs, places, sorted, is) =
-      of_places Fits FitsPair fits_item _ (fits, each_both FitsTold (map (step_showing keys m begin) shown) _ (of_shown keys m begin shown) (tt, tt)) items places
+  of_range : (keys : List (List ℕ)) (m begin : ℕ) → Q (calls.Begin m) → ((next : ℕ) → Q (calls.Next next)) → EachOf Fits (range_call keys m begin)
+  of_range keys m begin fits nexts items answer (shown, pairs, places, sorted, is) =
+      of_places Fits FitsPair fits_item _ (fits, each_both FitsTold (map (step_showing keys m begin) shown) _ (of_shown keys m begin nexts shown) (nexts begin, tt)) items places
 
-  of_test : (a : ℕ) (value : Number) → FitsCall (calls.Atomic a Load) → EachOf Fits (tests a value)
+  pub of_test : (a : ℕ) (value : Number) → Q (calls.Atomic a Load) → EachOf Fits (tests a value)
   of_test a value fits = by_read Fits (holds value) _ (of_atomic a Load fits)
 
   of_unless_met : (next : Part Bool) → EachOf Fits next → (met : Bool) → EachOf Fits (unless_met next met)
   of_unless_met next later true = by_returns Fits true
   of_unless_met next later false = later
 
-  of_waits_for : (object mutex a : ℕ) (value : Number) (tries : ℕ) → FitsCall (calls.Atomic a Load) → EachOf Fits (waits_for object mutex a value tries)
+  pub of_waits_for : (object mutex a : ℕ) (value : Number) (tries : ℕ) → Q (calls.Atomic a Load) → EachOf Fits (waits_for object mutex a value tries)
   of_waits_for object mutex a value zero fits = of_test a value fits
   of_waits_for object mutex a value (suc tries) fits = by_then Fits _ _ (of_test a value fits) (of_unless_met _ (by_then Fits _ _ (of_wait object mutex) (λ waited. of_waits_for object mutex a value tries fits)))
 
@@ -191,39 +192,39 @@ module _ (asked : Option Asked) (ranged : Option ℕ) where
       (by_returns Fits tt)
 
 module _ (plan : Plan) (worker before : ℕ) where
-  of_call_on : (place : ℕ) (kind : ObjectKind) (operation : Operation) → EachOf (Fits (asked_on plan place kind operation) (ranged_on plan place kind operation)) (call_on plan worker before place kind operation)
-  of_call_on place kinds.Map (operations.Map call) = of_map _ _ (keys_in plan.scripts) (map_number plan.objects place) call (_, refl, refl)
-  of_call_on place kinds.Map operations.Range = of_range _ _ (keys_in plan.scripts) (map_number plan.objects place) before refl
-  of_call_on place (kinds.Atomic type) (operations.Atomic call) = of_atomic _ _ (atomic_number plan.objects place) call (_, refl, refl)
-  of_call_on place (kinds.Atomic type) (operations.Composed (IfEqual value passes)) = by_read _ compared _ (of_test _ _ (atomic_number plan.objects place) value (_, refl, refl))
-  of_call_on place kinds.Mutex (operations.Mutex call) = by_read _ replies.Lock _ (of_stages _ _ _ _ _ _ _ _)
-  of_call_on place kinds.RwMutex (operations.RwMutex call) = by_read _ replies.Lock _ (of_rw_part _ _ _ call)
-  of_call_on place (kinds.Cond mutex) (operations.Cond call) = of_cond_call _ _ _ _ call
-  of_call_on place (kinds.Cond mutex) (operations.Composed (WaitFor atomic value tries)) = by_read _ compared _ (of_waits_for _ _ _ _ (atomic_number plan.objects atomic) value tries (_, refl, refl))
-  of_call_on place (kinds.WaitGroup start) (operations.WaitGroup call) = by_read _ (λ done. replies.Returned) _ (of_stages _ _ _ _ _ _ _ _)
+  of_call_on : (place : ℕ) (kind : ObjectKind) (operation : Operation) → EachOf (Fits (FitsCall (asked_on plan place kind operation) (ranged_on plan place kind operation))) (call_on plan worker before place kind operation)
+  of_call_on place kinds.Map (operations.Map call) = of_map _ (keys_in plan.scripts) (map_number plan.objects place) call (_, refl, refl)
+  of_call_on place kinds.Map operations.Range = of_range _ (keys_in plan.scripts) (map_number plan.objects place) before refl (λ next. tt)
+  of_call_on place (kinds.Atomic type) (operations.Atomic call) = of_atomic _ (atomic_number plan.objects place) call (_, refl, refl)
+  of_call_on place (kinds.Atomic type) (operations.Composed (IfEqual value passes)) = by_read _ compared _ (of_test _ (atomic_number plan.objects place) value (_, refl, refl))
+  of_call_on place kinds.Mutex (operations.Mutex call) = by_read _ replies.Lock _ (of_stages _ _ _ _ _ _ _)
+  of_call_on place kinds.RwMutex (operations.RwMutex call) = by_read _ replies.Lock _ (of_rw_part _ _ call)
+  of_call_on place (kinds.Cond mutex) (operations.Cond call) = of_cond_call _ _ _ call
+  of_call_on place (kinds.Cond mutex) (operations.Composed (WaitFor atomic value tries)) = by_read _ compared _ (of_waits_for _ _ _ (atomic_number plan.objects atomic) value tries (_, refl, refl))
+  of_call_on place (kinds.WaitGroup start) (operations.WaitGroup call) = by_read _ (λ done. replies.Returned) _ (of_stages _ _ _ _ _ _ _)
   of_call_on place (kinds.WaitGroup start) (operations.Composed (Go started)) =
-      by_then _ _ _ (by_read _ (λ done. replies.Returned) _ (of_stages _ _ _ _ _ _ _ _)) (λ added. by_read _ (λ started. replies.Returned) _ (of_stages _ _ _ _ _ _ _ _))
+      by_then _ _ _ (by_read _ (λ done. replies.Returned) _ (of_stages _ _ _ _ _ _ _)) (λ added. by_read _ (λ started. replies.Returned) _ (of_stages _ _ _ _ _ _ _))
   of_call_on place (kinds.Once atomic delta) operations.Once =
-      of_once _ _ _ (adds (atomic_number plan.objects atomic) delta) (λ sum. replies.Once (do_replies.Ran sum)) (λ kept. replies.Once do_replies.Done) (of_stages _ _ _ _ _ _ _) (of_adds _ _ (atomic_number plan.objects atomic) delta (_, refl, refl))
+      of_once _ _ (adds (atomic_number plan.objects atomic) delta) (λ sum. replies.Once (do_replies.Ran sum)) (λ kept. replies.Once do_replies.Done) (of_stages _ _ _ _ _ _) (of_adds _ (atomic_number plan.objects atomic) delta (_, refl, refl))
   of_call_on place (kinds.OnceFunc code) operations.OnceFunc =
-      of_once _ _ _ (returns code) (λ kept. replies.OnceFunc (failure kept)) (λ kept. replies.OnceFunc (failure kept)) (of_stages _ _ _ _ _ _ _) (by_returns _ code)
-  of_call_on place (kinds.OnceValue value) operations.OnceValue = of_once _ _ _ (returns value) replies.OnceValue replies.OnceValue (of_stages _ _ _ _ _ _ _) (by_returns _ value)
-  of_call_on place kinds.Pool (operations.Pool call) = of_pool_call _ _ _ _ _ call
+      of_once _ _ (returns code) (λ kept. replies.OnceFunc (failure kept)) (λ kept. replies.OnceFunc (failure kept)) (of_stages _ _ _ _ _ _) (by_returns _ code)
+  of_call_on place (kinds.OnceValue value) operations.OnceValue = of_once _ _ (returns value) replies.OnceValue replies.OnceValue (of_stages _ _ _ _ _ _) (by_returns _ value)
+  of_call_on place kinds.Pool (operations.Pool call) = of_pool_call _ _ _ _ call
   of_call_on place kind operation = λ items answer spelt. absurd spelt
 
-  of_call_at : (object : Option ObjectLine) (call : Call) → EachOf (Fits (asked_at plan object call) (ranged_at plan object call)) (call_at plan worker before call.object object call.operation)
+  of_call_at : (object : Option ObjectLine) (call : Call) → EachOf (Fits (FitsCall (asked_at plan object call) (ranged_at plan object call))) (call_at plan worker before call.object object call.operation)
   of_call_at None call = by_never _
   of_call_at (Some object) call = of_call_on call.object object.kind call.operation
 
   -- each item of a call is of it
-  pub of_call : (call : Call) → EachOf (Fits (asked_by plan (Some call)) (ranged_by plan (Some call))) (SpellsCall plan worker before call)
+  pub of_call : (call : Call) → EachOf (Fits (FitsCall (asked_by plan (Some call)) (ranged_by plan (Some call)))) (SpellsCall plan worker before call)
   of_call call = of_call_at (slice_get plan.objects call.object) call
 
 -- what an item of a call of the script fits, and one of none
 abbrev pub FitsIn : Plan → Option Call → Made → Type 0
-FitsIn plan call = Fits (asked_by plan call) (ranged_by plan call)
+FitsIn plan call = Fits (FitsCall (asked_by plan call) (ranged_by plan call))
 
 -- each item of a line is of the call of which it is told to be
 pub line_fits : (plan : Plan) (worker : ℕ) (line : Line) → IsLineOf plan worker line → RunsAlong (get_or plan.scripts worker []) (calls_made line) line.rest
     → AllOf plan worker (FitsIn plan) (line.first ++ (flat_map (λ (s : SpeltCall). s.items) line.spelt ++ line.last)) (calls_along line)
-line_fits plan worker line is runs = of_line plan worker (FitsIn plan) (λ before call. of_call plan worker before call) (of_opening None None plan worker) (of_closing None None plan worker) line is runs
+line_fits plan worker line is runs = of_line plan worker (FitsIn plan) (λ before call. of_call plan worker before call) (of_opening (FitsCall None None) plan worker) (of_closing (FitsCall None None) plan worker) line is runs
