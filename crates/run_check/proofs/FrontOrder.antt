@@ -75,7 +75,7 @@ module _ (items : List ItemLine) (i : ℕ) (line : ItemLine) (next : drop i item
 
 -- ---- all workers
 
-apart : (a b : ℕ) → (a ≡ b → ⊥) → (a == b) ≡ false
+pub apart : (a b : ℕ) → (a ≡ b → ⊥) → (a == b) ≡ false
 apart a b differ = by (a == b) refl where
   by : (t : Bool) → (a == b) ≡ t → t ≡ false
   by true is = absurd (differ (eqb-true a b is))

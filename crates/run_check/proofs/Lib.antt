@@ -1,5 +1,13 @@
 pub mod FrontOrder
 pub mod ToldFronts
+pub mod ToldEntries
+pub mod ToldReplies
+pub mod ToldBack
+pub mod ToldText
+pub mod ToldCalls
+pub mod ToldCursors
+pub mod ToldPlaces
+pub mod ToldPlain
 pub mod OnObjects
 pub mod SpeltOn
 pub mod FirstClause

@@ -283,7 +283,7 @@ module _ (told : Told) (claim : Claim) (tells : Tells told claim) (account : Acc
 
 -- ---- the clause `front`
 
-same_functions : (f g : ℕ → List Item) → ((c : ℕ) → f c ≡ g c) → f ≡ g
+pub same_functions : (f g : ℕ → List Item) → ((c : ℕ) → f c ≡ g c) → f ≡ g
 same_functions f g each = λ i c. each c i
 
 module _ (claim : Claim) (calls : ℕ → List Item) (are : (account : Account) (c : ℕ) → calls_of (record_of claim account) c ≡ calls c) where

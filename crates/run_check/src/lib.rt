@@ -1,6 +1,7 @@
 //! Whether the record of a run explains it.
 #![tactic(auto)]
 
+pub mod completeness;
 pub mod contents;
 pub mod ends;
 pub mod fronts;
