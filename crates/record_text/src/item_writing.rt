@@ -104,6 +104,7 @@ fn object_word<'a>(workload: &Workload, directory: &'a Directory, object: usize)
     ensures word { result.now ≡ object_word workload.now object }
     ensures short { length result.now ≤ 53 }
 {
+    // A workload has a text, and so its names are short.
     workload.workers();
     directory.word(object)
 }
