@@ -22,6 +22,10 @@ key_on m (Begin n) = None
 key_on m (Next begin) = None
 key_on m (Atomic a call) = None
 
+-- the key of this map that an entry names, if it names one, is below this number
+abbrev pub IsAbove : ℕ → ℕ → SharedEntry → Type 0
+IsAbove m bound entry = (key : ℕ) → key_on m entry.call ≡ Some key → key < bound
+
 module _ (start : Contents) (history : List SharedEntry) (items : List Item) (b m from i reach : ℕ) where
   -- a key that the cursor didn't show was absent at a length
   abbrev pub MayMiss : ℕ → Type 0
