@@ -4,7 +4,7 @@ ghost use Rattle.sync_model.specs.declared.item.SharedEntry.{SharedEntry};
 ghost use Rattle.sync_model.specs.SharedCalls.{IsUnshown};
 ghost use Rattle.sync_model.specs.SharedHistory.{value_at};
 ghost use Rattle.shared_checks.specs.Placing.{contents_of};
-ghost use Rattle.shared_checks.specs.Showing.{Shows, key_on, IsAbove, MayMiss, MayShowBetween};
+ghost use Rattle.shared_checks.specs.Showing.{Shows, key_on, IsAbove, IsBegunBy, MayMiss, MayShowBetween};
 
 use crate::objects::Objects;
 use crate::stood::stood_between;
@@ -33,6 +33,7 @@ pub fn may_show(
     requires reach { step.reach ≤ length history.now }
     requires order { step.from ≤ step.reach }
     requires index { step.index ≤ length items.now }
+    requires begun { IsBegunBy items.now step.begin }
     requires empty { (key : ℕ) → value_at (contents_of objects.now) step.map key ≡ None }
     ensures { IsTrue result ↔ MayShowBetween (contents_of objects.now) history.now items.now step.begin step.map step.from step.index step.reach shown }
 {
@@ -57,6 +58,7 @@ fn misses_none(objects: &Objects, history: &[SharedEntry], items: &[Item], step:
     requires reach { step.reach ≤ length history.now }
     requires order { step.from ≤ step.reach }
     requires index { step.index ≤ length items.now }
+    requires begun { IsBegunBy items.now step.begin }
     requires empty { (key : ℕ) → value_at (contents_of objects.now) step.map key ≡ None }
     ensures { IsTrue result ↔ ((key : ℕ) → MayMiss (contents_of objects.now) history.now items.now step.begin step.map step.from step.index step.reach key) }
 {
@@ -104,6 +106,7 @@ fn may_miss(
     requires there { step.map < length objects.now.maps.items }
     requires reach { step.reach ≤ length history.now }
     requires index { step.index ≤ length items.now }
+    requires begun { IsBegunBy items.now step.begin }
     ensures { IsTrue result ↔ MayMiss (contents_of objects.now) history.now items.now step.begin step.map step.from step.index step.reach key }
 {
     if is_unshown(items, step.begin, step.index, key) {
@@ -115,10 +118,11 @@ fn may_miss(
 
 // Whether no step before one of the cursor that call number `begin` began showed this key.
 fn is_unshown(items: &[Item], begin: u64, index: usize, key: u32) -> bool
-    requires { index ≤ length items.now }
+    requires index { index ≤ length items.now }
+    requires begun { IsBegunBy items.now begin }
     ensures { IsTrue result ↔ IsUnshown items.now begin index key }
 {
-    for step in 0..index {
+    for step in begin as usize..index {
         if shows(&items[step], begin, key) {
             return false;
         }

@@ -41,13 +41,7 @@ pub fn stood_between(
 }
 
 // What a key has after so many entries. Those behind the last one that sets the key are played, so mostly few.
-fn held_at(
-    objects: &Objects,
-    history: &[SharedEntry],
-    at: usize,
-    map: u32,
-    key: u32,
-) -> Option<u64>
+fn held_at(objects: &Objects, history: &[SharedEntry], at: usize, map: u32, key: u32) -> Option<u64>
     requires there { map < length objects.now.maps.items }
     requires at { at ≤ length history.now }
     ensures { result ≡ value_at (contents_at (contents_of objects.now) history.now at) map key }
