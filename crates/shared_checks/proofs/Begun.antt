@@ -24,6 +24,12 @@ module _ (items : List Item) (j : ℕ) (x : Item) (begin : ℕ) (is : x.call ≡
     pub no_begin : ((m : ℕ) → first.call ≢ Begin m) → HasBegun items j x → ⊥
     no_begin other has = let found = has.begun begin is in other found.1 (ap (λ (y : Item). y.call) (same_Some first found.0 (sym at ∙ found.3)) ∙ found.4)
 
+pub one_more : (P : ℕ → Type 0) (n : ℕ) → P n → ((k : ℕ) → k < n → P k) → (k : ℕ) → k < n + 1 → P k
+one_more P n holds so_far k below = by (eq-or-lt_of_le {n = k} {m = n} (omega (arith, below))) where
+  by : (k ≡ n) ⊎ (k < n) → P k
+  by (inr before) = so_far k before
+  by (inl same) = subst P (sym same) holds
+
 module _ {A : Type 0} (P : ℕ → A → Type 0) (xs : List A) where
   pub one_item_more : (n : ℕ) (x : A) → slice_get xs n ≡ Some x → P n x → ((j : ℕ) (y : A) → j < n → slice_get xs j ≡ Some y → P j y) → (j : ℕ) (y : A) → j < n + 1 → slice_get xs j ≡ Some y → P j y
   one_item_more n x at holds so_far j y below there = by (eq-or-lt_of_le {n = j} {m = n} (omega (arith, below))) where

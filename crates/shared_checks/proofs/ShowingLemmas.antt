@@ -22,7 +22,7 @@ use Rattle.shared_checks.specs.Calls.{calls_in}
 use Rattle.shared_checks.specs.Fronts.{CountsMade, LawfulFronts, known}
 use Rattle.shared_checks.specs.Parts.{LawfulHistory, LawfulBegins, LawfulRanges}
 use Rattle.shared_checks.specs.Placing.{IsOn, AreOn}
-use Rattle.shared_checks.specs.Showing.{Shows, key_on, MayMiss, MayShowBetween, KeepsStep}
+use Rattle.shared_checks.specs.Showing.{Shows, key_on, IsBegunBy, MayMiss, MayShowBetween, KeepsStep}
 use Rattle.shared_checks.proofs.Orders.{order_of}
 use Rattle.shared_checks.proofs.KnownLemmas.{known_within}
 use Rattle.shared_checks.proofs.PlayLemmas.{taken}
@@ -169,6 +169,9 @@ module _ (start : Contents) (history : List SharedEntry) (lists : List (List Ite
   pub place_within : LawfulHistory start history (calls_in lists) → (i : ℕ) (x : Item) → slice_get items i ≡ Some x → x.place ≤ length history
   place_within law i x at = (law.placed c i x (there i x at)).place
 
+  pub begun_there : LawfulBegins (calls_in lists) → (b : ℕ) → IsBegunBy items b
+  begun_there begins b j x at next = ((begins c j x (there j x at)).begun b next).2
+
   pub order_there : LawfulFronts (calls_in lists) → LawfulBegins (calls_in lists) → (b i : ℕ) (x y : Item) → slice_get items b ≡ Some y → slice_get items i ≡ Some x → x.call ≡ Next b → known lists y.front ≤ x.place
   order_there fronts begins b i x y at_b at next = order_between start history lists fronts begins c b i x y (there b y at_b) (there i x at) next
 
@@ -198,3 +201,7 @@ each_more P xs n holds so_far j y below there = by (eq-or-lt_of_le {n = j} {m = 
   by : (j ≡ n) ⊎ (j < n) → P j y
   by (inr before) = so_far j y before there
   by (inl same) = subst (λ k. P k y) (sym same) (holds y (ap (slice_get xs) (sym same) ∙ there))
+
+-- the cursor that call number b began has no step before it
+pub none_yet : (items : List Item) (b key : ℕ) → IsBegunBy items b → NoneTo items b key b
+none_yet items b key begun = λ j x before at shows. let behind = begun j x at shows.1 in omega (arith, before, behind)

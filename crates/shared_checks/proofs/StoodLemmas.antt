@@ -40,3 +40,13 @@ module _ (start : Contents) (history : List SharedEntry) (m key : ℕ) (value : 
     by : (k ≡ n) ⊎ (k < n) → ⊥
     by (inl is) = other (subst (λ l. from ≤ l) is behind) (so_far.is ∙ ap (λ l. value_at (contents_at start history l) m key) (sym is) ∙ same)
     by (inr below) = so_far.none k behind below same
+
+-- a key has what an entry leaves there whatever stood there
+pub set_there : (start : Contents) (history : List SharedEntry) (m key n : ℕ) (entry : SharedEntry) → m < length start.maps → slice_get history n ≡ Some entry
+    → (left : Option ℕ) → ((held : Option ℕ) → cond (is_on_key m key entry.call) (value_left entry.call held) held ≡ left) → left ≡ value_at (contents_at start history (n + 1)) m key
+set_there start history m key n entry there at left sets = sym (value_next start history m key n entry there at ∙ sets (value_at (contents_at start history n) m key))
+
+-- a key has after one entry more what the entry leaves
+pub held_next : (start : Contents) (history : List SharedEntry) (m key n : ℕ) (entry : SharedEntry) (held : Option ℕ) → m < length start.maps → slice_get history n ≡ Some entry
+    → held ≡ value_at (contents_at start history n) m key → (new : Option ℕ) → new ≡ cond (is_on_key m key entry.call) (value_left entry.call held) held → new ≡ value_at (contents_at start history (n + 1)) m key
+held_next start history m key n entry held there at is new after = after ∙ ap (λ v. cond (is_on_key m key entry.call) (value_left entry.call v) v) is ∙ sym (value_next start history m key n entry there at)

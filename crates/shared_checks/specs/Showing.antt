@@ -15,12 +15,20 @@ use Rattle.shared_checks.specs.Parts.{StoodBetween}
 abbrev pub Shows : Item → ℕ → ℕ → Type 0
 Shows x b key = (value : ℕ) × (x.call ≡ Next b) × (x.reply ≡ Shown (Some (key, value)))
 
+-- the steps of the cursor that call number b began stand behind it
+abbrev pub IsBegunBy : List Item → ℕ → Type 0
+IsBegunBy items b = (j : ℕ) (x : Item) → slice_get items j ≡ Some x → x.call ≡ Next b → b < j
+
 -- the key of this map that a call names, if it names one
 abbrev pub key_on : ℕ → SharedCall → Option ℕ
 key_on m (Map n call) = cond (n == m) (map_key call) None
 key_on m (Begin n) = None
 key_on m (Next begin) = None
 key_on m (Atomic a call) = None
+
+-- the key of this map that an entry names, if it names one, is below this number
+abbrev pub IsAbove : ℕ → ℕ → SharedEntry → Type 0
+IsAbove m bound entry = (key : ℕ) → key_on m entry.call ≡ Some key → key < bound
 
 module _ (start : Contents) (history : List SharedEntry) (items : List Item) (b m from i reach : ℕ) where
   -- a key that the cursor didn't show was absent at a length

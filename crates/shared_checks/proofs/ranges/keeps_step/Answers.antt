@@ -2,7 +2,7 @@ use Rattle.std.proofs.Common.{length, refl, arith}
 use Rattle.std.proofs.lemmas.Option.{slice_get_read}
 use Rattle.shared_checks.specs.Calls.{calls_in}
 use Rattle.shared_checks.specs.Placing.{contents_of}
-use Rattle.shared_checks.proofs.ShowingLemmas.{bound_small, front_made, map_there, place_within, order_there, keeps, kept}
+use Rattle.shared_checks.proofs.ShowingLemmas.{bound_small, front_made, map_there, place_within, order_there, begun_there, keeps, kept}
 use Rattle.shared_checks.proofs.ranges.keeps_step.Goals as goal
 
 pub known_of-from-requires-clause-made : goal.known_of-from-requires-clause-made
@@ -30,6 +30,9 @@ may_show-requires-clause-order c =
     let order = order_there (contents_of c.args.objects.now) c.args.history.now c.args.lists.now c.args.items.now c.args.caller c.requires.same c.requires.fronts c.requires.begins
     c.in-Next.begin c.args.index c.index-items-index.result c.index-items-begin.result at_b at c.in-Next.is in
     omega (arith, order, c.known_of-from.ensures)
+
+pub may_show-requires-clause-begun : goal.may_show-requires-clause-begun
+may_show-requires-clause-begun c = begun_there (contents_of c.args.objects.now) c.args.history.now c.args.lists.now c.args.items.now c.args.caller c.requires.same c.requires.begins c.in-Next.begin
 
 pub returns : goal.returns
 returns c =
