@@ -1,5 +1,0 @@
-use Rattle.measure.proofs.Callers.{stays}
-use Rattle.measure.proofs.table_objects.TableObjectsMapAndInt.store.Goals as goal
-
-pub returns : goal.returns
-returns g c = stays c.args.self.now.table c.args.caller.now.note c.store.new.caller.note _ c.requires.caller.0 c.store.ensures.called.0 c.store.ensures.called.1.own_new
