@@ -12,7 +12,7 @@ use Rattle.clap.specs.Faults.{check_fault, entered_fault, flag_word_fault, level
 use Rattle.clap.specs.declared.error.kind.ErrorKind.TheVariants as kinds
 use Rattle.clap.proofs.OnLiterals.{clap_on_literals}
 use Rattle.command_line.specs.declared.definition.Subcommand.{Subcommand}
-use Rattle.command_line.specs.declared.definition.Subcommand.TheVariants.{Step as ByStep, Run, Make, Race, Check}
+use Rattle.command_line.specs.declared.definition.Subcommand.TheVariants.{Step as ByStep, Run, Make, Race, Check, Trace}
 use Rattle.command_line.specs.Command.{argument, argument_in, gosync_command, matched}
 use Rattle.command_line.proofs.ParseAnswers.{matched_by}
 use Rattle.command_line.proofs.Refusals.{HasHelp, dashes, first_none, has_argument, plain_long, rules, second_none, some_kind}
@@ -91,6 +91,13 @@ enters_check more = stays (codes "check") [] more
 
 pub found_check : (program : Text) (more : List Text) → fault_of gosync_command (program ∷ codes "check" ∷ more) ≡ [] → (text : Text) × (matched (program ∷ codes "check" ∷ more) ≡ Some (Check, text))
 found_check = found (codes "check") Check enters_check (λ more. refl) (λ more. refl) (λ rows. refl)
+
+enters_trace : (more : List Text) → walk top.rules names nothing_held (codes "trace" ∷ more) ≡ stopped (codes "trace") more
+unfolding walked
+enters_trace more = stays (codes "trace") [] more
+
+pub found_trace : (program : Text) (more : List Text) → fault_of gosync_command (program ∷ codes "trace" ∷ more) ≡ [] → (text : Text) × (matched (program ∷ codes "trace" ∷ more) ≡ Some (Trace, text))
+found_trace = found (codes "trace") Trace enters_trace (λ more. refl) (λ more. refl) (λ rows. refl)
 
 -- ---- words that name no subcommand
 
@@ -192,19 +199,20 @@ module _ (program x : Text) (more : List Text) (none : matched (program ∷ x �
       let has = finds (subst (λ (w : Text). fault_of gosync_command (program ∷ w ∷ more) ≡ []) (sym is) faultless) in
       none_some (matched (program ∷ name ∷ more)) (by, has.0) (subst (λ (w : Text). matched (program ∷ w ∷ more) ≡ None) (sym is) none) has.1
 
-  by_names : (s r m a k h : Bool) → bytes_eq (codes "step") x ≡ s → bytes_eq (codes "run") x ≡ r → bytes_eq (codes "make") x ≡ m → bytes_eq (codes "race") x ≡ a → bytes_eq (codes "check") x ≡ k → bytes_eq (codes "help") x ≡ h → ⊥
-  by_names true r m a k h is ir im ia ik ih = at_name (codes "step") ByStep ((bytes_eq-Decides (codes "step") x).0 is) (found_step program more)
-  by_names false true m a k h is ir im ia ik ih = at_name (codes "run") Run ((bytes_eq-Decides (codes "run") x).0 ir) (found_run program more)
-  by_names false false true a k h is ir im ia ik ih = at_name (codes "make") Make ((bytes_eq-Decides (codes "make") x).0 im) (found_make program more)
-  by_names false false false true k h is ir im ia ik ih = at_name (codes "race") Race ((bytes_eq-Decides (codes "race") x).0 ia) (found_race program more)
-  by_names false false false false true h is ir im ia ik ih = at_name (codes "check") Check ((bytes_eq-Decides (codes "check") x).0 ik) (found_check program more)
-  by_names false false false false false true is ir im ia ik ih =
+  by_names : (s r m a k t h : Bool) → bytes_eq (codes "step") x ≡ s → bytes_eq (codes "run") x ≡ r → bytes_eq (codes "make") x ≡ m → bytes_eq (codes "race") x ≡ a → bytes_eq (codes "check") x ≡ k → bytes_eq (codes "trace") x ≡ t → bytes_eq (codes "help") x ≡ h → ⊥
+  by_names true r m a k t h is ir im ia ik it ih = at_name (codes "step") ByStep ((bytes_eq-Decides (codes "step") x).0 is) (found_step program more)
+  by_names false true m a k t h is ir im ia ik it ih = at_name (codes "run") Run ((bytes_eq-Decides (codes "run") x).0 ir) (found_run program more)
+  by_names false false true a k t h is ir im ia ik it ih = at_name (codes "make") Make ((bytes_eq-Decides (codes "make") x).0 im) (found_make program more)
+  by_names false false false true k t h is ir im ia ik it ih = at_name (codes "race") Race ((bytes_eq-Decides (codes "race") x).0 ia) (found_race program more)
+  by_names false false false false true t h is ir im ia ik it ih = at_name (codes "check") Check ((bytes_eq-Decides (codes "check") x).0 ik) (found_check program more)
+  by_names false false false false false true h is ir im ia ik it ih = at_name (codes "trace") Trace ((bytes_eq-Decides (codes "trace") x).0 it) (found_trace program more)
+  by_names false false false false false false true is ir im ia ik it ih =
       helped program more (subst (λ (w : Text). fault_of gosync_command (program ∷ w ∷ more) ≡ []) (sym ((bytes_eq-Decides (codes "help") x).0 ih)) faultless)
-  by_names false false false false false false is ir im ia ik ih = nameless program x (rw (is, ir, im, ia, ik, ih) refl) more faultless
+  by_names false false false false false false false is ir im ia ik it ih = nameless program x (rw (is, ir, im, ia, ik, it, ih) refl) more faultless
 
 -- where nothing is matched, the command finds a fault
 pub refused_alone : (words : List Text) → matched words ≡ None → fault_of gosync_command words ≡ [] → ⊥
 refused_alone [] none e = too_few [] e empty_fault
 refused_alone (program ∷ []) none e = too_few (program ∷ []) e (alone_fault program)
 refused_alone (program ∷ x ∷ more) none e =
-    by_names program x more none e (bytes_eq (codes "step") x) (bytes_eq (codes "run") x) (bytes_eq (codes "make") x) (bytes_eq (codes "race") x) (bytes_eq (codes "check") x) (bytes_eq (codes "help") x) refl refl refl refl refl refl
+    by_names program x more none e (bytes_eq (codes "step") x) (bytes_eq (codes "run") x) (bytes_eq (codes "make") x) (bytes_eq (codes "race") x) (bytes_eq (codes "check") x) (bytes_eq (codes "trace") x) (bytes_eq (codes "help") x) refl refl refl refl refl refl refl

@@ -12,7 +12,7 @@ use Rattle.clap.specs.Walk.{Held, Step, Walk, after_step, finished, idle, nothin
 use Rattle.clap.specs.Faults.{check_fault, defaults_fault, level_fault, settle_fault, step_fault, walk_fault, word_fault}
 use Rattle.clap.proofs.OnLiterals.{clap_on_literals}
 use Rattle.command_line.specs.declared.definition.Subcommand.{Subcommand}
-use Rattle.command_line.specs.declared.definition.Subcommand.TheVariants.{Step as ByStep, Run, Make, Race, Check}
+use Rattle.command_line.specs.declared.definition.Subcommand.TheVariants.{Step as ByStep, Run, Make, Race, Check, Trace}
 use Rattle.command_line.specs.Command.{argument_in, gosync_command, is_argument, matched, subcommand_named, unless_faulty, with_argument}
 
 -- a subcommand as it is built
@@ -115,6 +115,14 @@ found_check : (program word : Text) → subcommand_of gosync_command (program �
 unfolding clap_on_literals
 found_check program word = refl
 
+fault_trace : (program word : Text) → fault_of gosync_command (program ∷ codes "trace" ∷ word ∷ []) ≡ or_else (level_fault (leaf (codes "trace")) [] nothing_held (word ∷ []) false []) []
+unfolding clap_on_literals
+fault_trace program word = refl
+
+found_trace : (program word : Text) → subcommand_of gosync_command (program ∷ codes "trace" ∷ word ∷ []) ≡ Some (codes "trace", rows_after (leaf (codes "trace")).rules [] (word ∷ []))
+unfolding clap_on_literals
+found_trace program word = refl
+
 taken_at : (name program word : Text) → IsPlain word → fault_of gosync_command (program ∷ name ∷ word ∷ []) ≡ or_else (level_fault (leaf name) [] nothing_held (word ∷ []) false []) []
     → subcommand_of gosync_command (program ∷ name ∷ word ∷ []) ≡ Some (name, rows_after (leaf name).rules [] (word ∷ [])) → matched (program ∷ name ∷ word ∷ []) ≡ found_at name (finished (leaf name).rules (after word).held)
 taken_at name program word p faults found =
@@ -130,23 +138,27 @@ module _ (program name text : Text) (subcommand : Subcommand) (p : IsPlain text)
   at_name : (word : Text) (by : Subcommand) → name ≡ word → Some by ≡ Some subcommand → taken_as word by → IsTaken
   at_name word by is same taken = subst (λ (n : Text). matched (program ∷ n ∷ text ∷ []) ≡ Some (subcommand, text)) (sym is) (taken ∙ ap (option_map (λ (s : Subcommand). (s, text))) same)
 
-  by_check : (b : Bool) → bytes_eq name (codes "check") ≡ b → cond b (Some Check) None ≡ Some subcommand → IsTaken
-  by_check true is named = at_name (codes "check") Check ((bytes_eq-Decides name (codes "check")).0 is) named (taken_at (codes "check") program text p (fault_check program text) (found_check program text))
-  by_check false is named = cc
+  by_trace : (b : Bool) → bytes_eq name (codes "trace") ≡ b → cond b (Some Trace) None ≡ Some subcommand → IsTaken
+  by_trace true is named = at_name (codes "trace") Trace ((bytes_eq-Decides name (codes "trace")).0 is) named (taken_at (codes "trace") program text p (fault_trace program text) (found_trace program text))
+  by_trace false is named = cc
 
-  by_race : (b : Bool) → bytes_eq name (codes "race") ≡ b → cond b (Some Race) (cond (bytes_eq name (codes "check")) (Some Check) None) ≡ Some subcommand → IsTaken
+  by_check : (b : Bool) → bytes_eq name (codes "check") ≡ b → cond b (Some Check) (cond (bytes_eq name (codes "trace")) (Some Trace) None) ≡ Some subcommand → IsTaken
+  by_check true is named = at_name (codes "check") Check ((bytes_eq-Decides name (codes "check")).0 is) named (taken_at (codes "check") program text p (fault_check program text) (found_check program text))
+  by_check false is named = by_trace (bytes_eq name (codes "trace")) refl named
+
+  by_race : (b : Bool) → bytes_eq name (codes "race") ≡ b → cond b (Some Race) (cond (bytes_eq name (codes "check")) (Some Check) (cond (bytes_eq name (codes "trace")) (Some Trace) None)) ≡ Some subcommand → IsTaken
   by_race true is named = at_name (codes "race") Race ((bytes_eq-Decides name (codes "race")).0 is) named (taken_at (codes "race") program text p (fault_race program text) (found_race program text))
   by_race false is named = by_check (bytes_eq name (codes "check")) refl named
 
-  by_make : (b : Bool) → bytes_eq name (codes "make") ≡ b → cond b (Some Make) (cond (bytes_eq name (codes "race")) (Some Race) (cond (bytes_eq name (codes "check")) (Some Check) None)) ≡ Some subcommand → IsTaken
+  by_make : (b : Bool) → bytes_eq name (codes "make") ≡ b → cond b (Some Make) (cond (bytes_eq name (codes "race")) (Some Race) (cond (bytes_eq name (codes "check")) (Some Check) (cond (bytes_eq name (codes "trace")) (Some Trace) None))) ≡ Some subcommand → IsTaken
   by_make true is named = at_name (codes "make") Make ((bytes_eq-Decides name (codes "make")).0 is) named (taken_at (codes "make") program text p (fault_make program text) (found_make program text))
   by_make false is named = by_race (bytes_eq name (codes "race")) refl named
 
-  by_run : (b : Bool) → bytes_eq name (codes "run") ≡ b → cond b (Some Run) (cond (bytes_eq name (codes "make")) (Some Make) (cond (bytes_eq name (codes "race")) (Some Race) (cond (bytes_eq name (codes "check")) (Some Check) None))) ≡ Some subcommand → IsTaken
+  by_run : (b : Bool) → bytes_eq name (codes "run") ≡ b → cond b (Some Run) (cond (bytes_eq name (codes "make")) (Some Make) (cond (bytes_eq name (codes "race")) (Some Race) (cond (bytes_eq name (codes "check")) (Some Check) (cond (bytes_eq name (codes "trace")) (Some Trace) None)))) ≡ Some subcommand → IsTaken
   by_run true is named = at_name (codes "run") Run ((bytes_eq-Decides name (codes "run")).0 is) named (taken_at (codes "run") program text p (fault_run program text) (found_run program text))
   by_run false is named = by_make (bytes_eq name (codes "make")) refl named
 
-  by_step : (b : Bool) → bytes_eq name (codes "step") ≡ b → cond b (Some ByStep) (cond (bytes_eq name (codes "run")) (Some Run) (cond (bytes_eq name (codes "make")) (Some Make) (cond (bytes_eq name (codes "race")) (Some Race) (cond (bytes_eq name (codes "check")) (Some Check) None)))) ≡ Some subcommand → IsTaken
+  by_step : (b : Bool) → bytes_eq name (codes "step") ≡ b → cond b (Some ByStep) (cond (bytes_eq name (codes "run")) (Some Run) (cond (bytes_eq name (codes "make")) (Some Make) (cond (bytes_eq name (codes "race")) (Some Race) (cond (bytes_eq name (codes "check")) (Some Check) (cond (bytes_eq name (codes "trace")) (Some Trace) None))))) ≡ Some subcommand → IsTaken
   by_step true is named = at_name (codes "step") ByStep ((bytes_eq-Decides name (codes "step")).0 is) named (taken_at (codes "step") program text p (fault_step program text) (found_step program text))
   by_step false is named = by_run (bytes_eq name (codes "run")) refl named
 

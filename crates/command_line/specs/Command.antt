@@ -6,7 +6,7 @@ use Rattle.std.specs.Str.{bytes_eq}
 use Rattle.clap.specs.Simple.{on_top}
 use Rattle.clap.specs.Words.{App, Kinds, Row, Shape, Text, fault_of, first_of, new_app, new_rule, subcommand_of, with_rule, with_subcommand}
 use Rattle.command_line.specs.declared.definition.Subcommand.{Subcommand}
-use Rattle.command_line.specs.declared.definition.Subcommand.TheVariants.{Step, Run, Make, Race, Check}
+use Rattle.command_line.specs.declared.definition.Subcommand.TheVariants.{Step, Run, Make, Race, Check, Trace}
 
 -- the name of the one argument of each subcommand
 abbrev pub argument : Text
@@ -16,15 +16,15 @@ argument = codes "argument"
 abbrev pub with_argument : Text → Shape
 with_argument name = (with_rule (new_app name) (record (new_rule argument) { required = true })).top
 
--- the command: its name, one required subcommand of five, and nothing else
+-- the command: its name, one required subcommand of six, and nothing else
 abbrev pub gosync_command : App
 gosync_command =
     let named = on_top (λ s. record s { subcommand_required = true }) (new_app (codes "gosync")) in
-    with_subcommand (with_subcommand (with_subcommand (with_subcommand (with_subcommand named (with_argument (codes "step"))) (with_argument (codes "run"))) (with_argument (codes "make"))) (with_argument (codes "race"))) (with_argument (codes "check"))
+    with_subcommand (with_subcommand (with_subcommand (with_subcommand (with_subcommand (with_subcommand named (with_argument (codes "step"))) (with_argument (codes "run"))) (with_argument (codes "make"))) (with_argument (codes "race"))) (with_argument (codes "check"))) (with_argument (codes "trace"))
 
 -- the subcommand of this name
 abbrev pub subcommand_named : Text → Option Subcommand
-subcommand_named word = cond (bytes_eq word (codes "step")) (Some Step) (cond (bytes_eq word (codes "run")) (Some Run) (cond (bytes_eq word (codes "make")) (Some Make) (cond (bytes_eq word (codes "race")) (Some Race) (cond (bytes_eq word (codes "check")) (Some Check) None))))
+subcommand_named word = cond (bytes_eq word (codes "step")) (Some Step) (cond (bytes_eq word (codes "run")) (Some Run) (cond (bytes_eq word (codes "make")) (Some Make) (cond (bytes_eq word (codes "race")) (Some Race) (cond (bytes_eq word (codes "check")) (Some Check) (cond (bytes_eq word (codes "trace")) (Some Trace) None)))))
 
 -- the subcommand that was matched, with its argument
 abbrev pub argument_in : Option (Text × List Row) → Option (Subcommand × Text)

@@ -20,6 +20,8 @@ pub enum Subcommand {
     Race,
     /// Tell whether the record of a file explains its run: `check FILE`.
     Check,
+    /// Run the workload of a file by its schedule, and write the record of the run: `trace FILE`.
+    Trace,
 }
 
 /// The name of the one argument of each subcommand.
@@ -39,6 +41,8 @@ pub fn subcommand_named(word: &str) -> Option<Subcommand>
         Some(Subcommand::Race)
     } else if word.as_bytes() == b"check".as_slice() {
         Some(Subcommand::Check)
+    } else if word.as_bytes() == b"trace".as_slice() {
+        Some(Subcommand::Trace)
     } else {
         None
     }
@@ -60,8 +64,8 @@ fn adding<'a>(alloc: Global, command: Command<'a>, name: &'a str) -> Result<Comm
     command.subcommand(subcommand)
 }
 
-/// The command line: the command `gosync` with a required subcommand, which is `step`, `run`, `make`, `race` or `check`,
-/// each with one required argument that is any text. Nothing else is set.
+/// The command line: the command `gosync` with a required subcommand, which is `step`, `run`, `make`, `race`, `check` or
+/// `trace`, each with one required argument that is any text. Nothing else is set.
 pub fn command<'a>(alloc: Global) -> Result<Command<'a>, AllocError>
     ensures { IfOk result (λ made. app_of made ≡ gosync_command) }
 {
@@ -70,5 +74,6 @@ pub fn command<'a>(alloc: Global) -> Result<Command<'a>, AllocError>
     let command = adding(alloc, command, "run")?;
     let command = adding(alloc, command, "make")?;
     let command = adding(alloc, command, "race")?;
-    adding(alloc, command, "check")
+    let command = adding(alloc, command, "check")?;
+    adding(alloc, command, "trace")
 }

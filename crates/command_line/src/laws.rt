@@ -8,8 +8,8 @@ ghost use Rattle.command_line.specs.declared.definition.Subcommand.{Subcommand};
 
 use workload::laws::numbers;
 
-/// Taken is each list of three words, the program's name first, of which the second is `step`, `run`, `make`, `race` or `check`,
-/// and the third isn't empty and is `-` or doesn't begin with `-`: with that subcommand and that argument.
+/// Taken is each list of three words, the program's name first, of which the second is `step`, `run`, `make`, `race`, `check` or
+/// `trace`, and the third isn't empty and is `-` or doesn't begin with `-`: with that subcommand and that argument.
 pub fn a_subcommand_with_its_argument_is_taken()
     ensures { (program name text : List ℕ) (subcommand : Subcommand) → subcommand_named name ≡ Some subcommand → is_argument text ≡ true
         → matched (program ∷ name ∷ text ∷ []) ≡ Some (subcommand, text) }

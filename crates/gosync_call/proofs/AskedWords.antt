@@ -67,6 +67,7 @@ named_by mode file (Some (subcommands.Step, text)) is = ap file_of_words is
 named_by mode file (Some (subcommands.Run, text)) is = ap file_of_words is
 named_by mode file (Some (subcommands.Make, text)) is = absurd (none_is_some (mode, file) is)
 named_by mode file (Some (subcommands.Race, text)) is = ap file_of_words is
+named_by mode file (Some (subcommands.Trace, text)) is = ap file_of_words is
 named_by mode file (Some (subcommands.Check, text)) is = absurd (none_is_some (mode, file) is)
 
 -- words that ask to run a file name it
@@ -91,6 +92,7 @@ is_to_check (Some (subcommands.Step, text)) = false
 is_to_check (Some (subcommands.Run, text)) = false
 is_to_check (Some (subcommands.Make, text)) = false
 is_to_check (Some (subcommands.Race, text)) = false
+is_to_check (Some (subcommands.Trace, text)) = false
 is_to_check (Some (subcommands.Check, text)) = true
 
 true_is_false : true ≡ false → ⊥

@@ -116,6 +116,7 @@ module _ (words : List (List ℕ)) where
   asking_by None is = inr (inr (inr (inl is)))
   asking_by (Some (subcommands.Step, text)) is = inl (modes.Step, text, ap (λ (f : Option (Subcommand × List ℕ)). option_and_then file_of f) is)
   asking_by (Some (subcommands.Run, text)) is = inl (modes.Run, text, ap (λ (f : Option (Subcommand × List ℕ)). option_and_then file_of f) is)
+  asking_by (Some (subcommands.Trace, text)) is = inl (modes.Trace, text, ap (λ (f : Option (Subcommand × List ℕ)). option_and_then file_of f) is)
   asking_by (Some (subcommands.Check, text)) is = inr (inl (text, is))
   asking_by (Some (subcommands.Make, text)) is = inr (inr (seeded text is (seed_of text) refl))
   asking_by (Some (subcommands.Race, text)) is = inl (modes.Race, text, ap (λ (f : Option (Subcommand × List ℕ)). option_and_then file_of f) is)
@@ -128,6 +129,7 @@ module _ (words : List (List ℕ)) where
   run_by file modes.Step asks no_other = absurd (no_other (λ is. cc))
   run_by file modes.Run asks no_other = (file, asks)
   run_by file modes.Race asks no_other = absurd (no_other (λ is. cc))
+  run_by file modes.Trace asks no_other = absurd (no_other (λ is. cc))
 
   -- where no other thing is asked for, a run with threads is
   pub asks_run : Asking → ((mode : Mode) (file : List ℕ) → AskFor words mode file → mode ≢ modes.Run → ⊥) → ((file : List ℕ) → AskToCheck words file → ⊥) → ((seed : ℕ) → AskToMake words seed → ⊥) → (AreRefused words → ⊥) → (file : List ℕ) × AskFor words modes.Run file
@@ -141,6 +143,7 @@ pub by_threads : {X : Type 0} (words : List (List ℕ)) (mode : Mode) (file : Li
 by_threads words modes.Step file asks run other = other (λ is. cc)
 by_threads words modes.Run file asks run other = run asks refl
 by_threads words modes.Race file asks run other = other (λ is. cc)
+by_threads words modes.Trace file asks run other = other (λ is. cc)
 
 -- what a file that no workload is read from comes to
 pub front_comes : (Comes : Plan → Outcome → Type 0) (told old new : Option (List ℕ)) (status : Status) → IsFrontOfRun told (fronts.Ended status) → new ≡ old → ComesTo Comes told old new status

@@ -71,6 +71,7 @@ module _ (told old new : Option (List ℕ)) (bytes : List ℕ) (Read Write : Typ
   completes_check text verdict one (statuses.Failed faults.CannotWrite) judges is tells comes read write no_read no_write = absurd (no_write (write refl))
   completes_check text verdict one (statuses.Failed faults.CannotStart) judges is tells comes read write no_read no_write = absurd judges
   completes_check text verdict one (statuses.Failed faults.Memory) judges is tells comes read write no_read no_write = absurd judges
+  completes_check text verdict one (statuses.Failed faults.TooLong) judges is tells comes read write no_read no_write = absurd judges
   completes_check text verdict one statuses.Usage judges is tells comes read write no_read no_write = absurd judges
 
   -- and one that is none of a record is refused
@@ -89,6 +90,7 @@ module _ (told old new : Option (List ℕ)) (bytes : List ℕ) (Read Write : Typ
       absurd (none found.0 (subst (λ (b : List ℕ). IsTold b found.0) (told_so bytes judges.1.0 told is judges.1.1) found.1))
   refuses_check (statuses.Failed faults.CannotStart) judges is none read no_read = absurd judges
   refuses_check (statuses.Failed faults.Memory) judges is none read no_read = absurd judges
+  refuses_check (statuses.Failed faults.TooLong) judges is none read no_read = absurd judges
   refuses_check statuses.Usage judges is none read no_read = absurd judges
 
 -- the status with number 0 is a yes, where it is a verdict, and that with number 7 is a no
@@ -104,6 +106,7 @@ module _ (told old new : Option (List ℕ)) where
   is_yes (statuses.Failed faults.CannotWrite) judges is = absurd cc
   is_yes (statuses.Failed faults.CannotStart) judges is = absurd cc
   is_yes (statuses.Failed faults.Memory) judges is = absurd cc
+  is_yes (statuses.Failed faults.TooLong) judges is = absurd judges
   is_yes statuses.Usage judges is = absurd judges
 
   pub is_no : (status : Status) → JudgesTo told old new status → code_of status ≡ 7 → (clause : Clause) × JudgesTo told old new (statuses.Judged (verdicts.No clause))
@@ -117,6 +120,7 @@ module _ (told old new : Option (List ℕ)) where
   is_no (statuses.Failed faults.CannotWrite) judges is = absurd cc
   is_no (statuses.Failed faults.CannotStart) judges is = absurd cc
   is_no (statuses.Failed faults.Memory) judges is = absurd cc
+  is_no (statuses.Failed faults.TooLong) judges is = absurd judges
   is_no statuses.Usage judges is = absurd judges
 
 -- where the bytes are told, the verdict is on what they tell

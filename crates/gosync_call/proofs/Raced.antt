@@ -39,6 +39,7 @@ is_raced (statuses.Unread unreads.Memory) is = absurd cc
 is_raced (statuses.Failed faults.CannotWrite) is = absurd cc
 is_raced (statuses.Failed faults.CannotStart) is = absurd cc
 is_raced (statuses.Failed faults.Memory) is = absurd cc
+is_raced (statuses.Failed faults.TooLong) is = absurd cc
 is_raced statuses.Usage is = absurd cc
 
 -- where it is no verdict
@@ -56,6 +57,7 @@ is_done X (statuses.Unread unreads.Memory) x judged is = absurd cc
 is_done X (statuses.Failed faults.CannotWrite) x judged is = absurd cc
 is_done X (statuses.Failed faults.CannotStart) x judged is = absurd cc
 is_done X (statuses.Failed faults.Memory) x judged is = absurd cc
+is_done X (statuses.Failed faults.TooLong) x judged is = absurd cc
 is_done X statuses.Usage x judged is = absurd cc
 
 -- no outcome ends so without its races

@@ -31,6 +31,8 @@ use Rattle.gosync_call.specs.Input.{AreBytesOf}
 use Rattle.gosync_call.specs.Messages.{ending_of, message_of, IsOutOfMemory, WritesOut}
 use Rattle.gosync_call.specs.Modes.{dialect_of, EndsBy, ModeComesTo, StopsBy}
 use Rattle.gosync_call.specs.Races.{ending_with, EndsWithRaces, FailsWithRaces, HasRaces, RacesTo}
+use Rattle.gosync_call.specs.Traces.{EndsWithRecord, FailsWithRecord, TracesTo}
+use Rattle.step_runner.specs.Outcomes.{StepsTo}
 use Rattle.race_clocks.specs.declared.race.Race.{Race}
 use Rattle.run_report.specs.ReportText.{report_text}
 
@@ -117,26 +119,33 @@ module _ (dialect : Dialect) (Ends : Plan → Ending → Type 0) (Stops : Plan �
   pub status_comes : (status : Status) → ((s : Status) × (fronts.Ended status ≡ fronts.Ended s) × ComesBy dialect Ends Stops told old new s) → ComesBy dialect Ends Stops told old new status
   status_comes status comes = subst (λ (s : Status). ComesBy dialect Ends Stops told old new s) (sym (status_is status comes.0 comes.1)) comes.2
 
-  -- without a fault, a text that is read is run, unless memory is out
+  -- without a fault, a text that is read is run, unless memory is out; or what is told of the run passes a limit
   pub completes : (bytes : List ℕ) (plan : Plan) (Read Write Start : Type 0) → OneReading dialect → (status : Status) → ComesBy dialect Ends Stops told old new status → told ≡ Some bytes → ReadsIn dialect bytes plan
       → (status ≡ statuses.Unread unreads.CannotRead → Read) → (status ≡ statuses.Failed faults.CannotWrite → Write) → (status ≡ statuses.Failed faults.CannotStart → Start)
-      → (Read → ⊥) → (Write → ⊥) → (Start → ⊥) → Completes (Ends plan) status
+      → (Read → ⊥) → (Write → ⊥) → (Start → ⊥) → Completes (Ends plan) status ⊎ ((status ≡ statuses.Failed faults.TooLong) × Stops plan faults.TooLong)
   completes bytes plan Read Write Start one (statuses.Ended ending) comes is reads read write start no_read no_write no_start =
-      inl (ending, subst (λ (p : Plan). Ends p ending) (plan_is dialect bytes plan told one comes.0 is reads comes.1) comes.2, refl)
+      inl (inl (ending, subst (λ (p : Plan). Ends p ending) (plan_is dialect bytes plan told one comes.0 is reads comes.1) comes.2, refl))
   completes bytes plan Read Write Start one (statuses.Judged verdict) comes is reads read write start no_read no_write no_start = absurd comes
   completes bytes plan Read Write Start one (statuses.Unread (unreads.NoRecord line reason)) comes is reads read write start no_read no_write no_start = absurd comes.0
   completes bytes plan Read Write Start one (statuses.Unread (unreads.NotAccepted line reason)) comes is reads read write start no_read no_write no_start =
       absurd (comes.0.3 plan (subst (λ (b : List ℕ). ReadsIn dialect b plan) (sym (told_so bytes comes.0.0 told is comes.0.1)) reads))
   completes bytes plan Read Write Start one (statuses.Unread unreads.CannotRead) comes is reads read write start no_read no_write no_start = absurd (no_read (read refl))
-  completes bytes plan Read Write Start one (statuses.Unread unreads.Memory) comes is reads read write start no_read no_write no_start = inr refl
+  completes bytes plan Read Write Start one (statuses.Unread unreads.Memory) comes is reads read write start no_read no_write no_start = inl (inr refl)
   completes bytes plan Read Write Start one (statuses.Failed faults.CannotWrite) comes is reads read write start no_read no_write no_start = absurd (no_write (write refl))
   completes bytes plan Read Write Start one (statuses.Failed faults.CannotStart) comes is reads read write start no_read no_write no_start = absurd (no_start (start refl))
-  completes bytes plan Read Write Start one (statuses.Failed faults.Memory) comes is reads read write start no_read no_write no_start = inr refl
+  completes bytes plan Read Write Start one (statuses.Failed faults.Memory) comes is reads read write start no_read no_write no_start = inl (inr refl)
+  completes bytes plan Read Write Start one (statuses.Failed faults.TooLong) comes is reads read write start no_read no_write no_start =
+      inr (refl, subst (λ (p : Plan). Stops p faults.TooLong) (plan_is dialect bytes plan told one comes.0 is reads comes.1) comes.2)
   completes bytes plan Read Write Start one statuses.Usage comes is reads read write start no_read no_write no_start = absurd comes
 
 -- what a front's status comes to, by its mode
 pub mode_comes : (mode : Mode) (told old new : Option (List ℕ)) (status : Status) → ((s : Status) × (fronts.Ended status ≡ fronts.Ended s) × ModeComesTo mode told old new s) → ModeComesTo mode told old new status
 mode_comes mode told old new status comes = status_comes (dialect_of mode) (λ plan ending. EndsBy mode plan old new ending) (λ plan fault. StopsBy mode plan old new fault) told old new status comes
+
+-- nothing that is told of the run passes a limit
+whole : (Ends : Ending → Type 0) (Long : Type 0) (status : Status) → Completes Ends status ⊎ ((status ≡ statuses.Failed faults.TooLong) × Long) → (Long → ⊥) → Completes Ends status
+whole Ends Long status (inl completes) never = completes
+whole Ends Long status (inr long) never = absurd (never long.1)
 
 -- it ended as an outcome of the run
 outcome_of_run : (Comes : Plan → Outcome → Type 0) (plan : Plan) (old new : Option (List ℕ)) (status : Status) → Completes (λ (ending : Ending). EndsWithReport Comes plan old new ending) status
@@ -150,20 +159,45 @@ races_of_run : (plan : Plan) (old new : Option (List ℕ)) (status : Status) →
 races_of_run plan old new status (inl ended) = inl (ended.1.0, ended.1.1, ended.1.2, ended.2 ∙ ap (λ (e : Ending). statuses.Ended e) ended.1.3)
 races_of_run plan old new status (inr memory) = inr memory
 
+-- the run's outcome ends so, or its record passes a limit
+abbrev pub TracesSo : Plan → Status → Type 0
+TracesSo plan status = (outcome : Outcome) × StepsTo plan outcome × ((status ≡ statuses.Ended (ending_of outcome)) ⊎ ((ending_of outcome ≡ endings.Done) × (status ≡ statuses.Failed faults.TooLong)))
+
+traces_so : (plan : Plan) (old new : Option (List ℕ)) (status : Status) (ending : Ending) → EndsWithRecord plan old new ending → status ≡ statuses.Ended ending → TracesSo plan status
+traces_so plan old new status endings.Done ends is = (outcomes.Done ends.0, ends.1.done, inl is)
+traces_so plan old new status (endings.Misused misuse) ends is = (outcomes.Misused ends.0.0 misuse, ends.0.1, inl is)
+traces_so plan old new status endings.Deadlocked ends is = (outcomes.Deadlocked ends.0.0, ends.0.1, inl is)
+traces_so plan old new status endings.Raced ends is = absurd ends
+
+record_of_run : (plan : Plan) (old new : Option (List ℕ)) (status : Status)
+    → Completes (λ (ending : Ending). EndsWithRecord plan old new ending) status ⊎ ((status ≡ statuses.Failed faults.TooLong) × FailsWithRecord plan old new faults.TooLong)
+    → TracesSo plan status ⊎ IsOutOfMemory status
+record_of_run plan old new status (inl (inl ended)) = inl (traces_so plan old new status ended.0 ended.1 ended.2)
+record_of_run plan old new status (inl (inr memory)) = inr memory
+record_of_run plan old new status (inr long) = inl (outcomes.Done long.1.0.0, long.1.0.1.done, inr (refl, long.0))
+
 module _ (old new : Option (List ℕ)) (bytes : List ℕ) (plan : Plan) (told : Option (List ℕ)) (Read Write Start : Type 0) where
   pub completes_report : (Comes : Plan → Outcome → Type 0) → OneReading Plain → (status : Status) → ComesTo Comes told old new status → told ≡ Some bytes → ReadsIn Plain bytes plan
       → (status ≡ statuses.Unread unreads.CannotRead → Read) → (status ≡ statuses.Failed faults.CannotWrite → Write) → (status ≡ statuses.Failed faults.CannotStart → Start)
       → (Read → ⊥) → (Write → ⊥) → (Start → ⊥) → ((outcome : Outcome) × Comes plan outcome × (status ≡ statuses.Ended (ending_of outcome))) ⊎ IsOutOfMemory status
   completes_report Comes one status comes is reads read write start no_read no_write no_start =
       outcome_of_run Comes plan old new status
-      (completes Plain (λ p ending. EndsWithReport Comes p old new ending) (λ p fault. Fails Comes p old new fault) told old new bytes plan Read Write Start one status comes is reads read write start no_read no_write no_start)
+      (whole _ _ status (completes Plain (λ p ending. EndsWithReport Comes p old new ending) (λ p fault. Fails Comes p old new fault) told old new bytes plan Read Write Start one status comes is reads read write start no_read no_write no_start) (λ long. absurd long))
 
   pub completes_races : OneReading Races → (status : Status) → RacesTo told old new status → told ≡ Some bytes → ReadsIn Races bytes plan
       → (status ≡ statuses.Unread unreads.CannotRead → Read) → (status ≡ statuses.Failed faults.CannotWrite → Write) → (status ≡ statuses.Failed faults.CannotStart → Start)
       → (Read → ⊥) → (Write → ⊥) → (Start → ⊥) → ((outcome : Outcome) × (races : List Race) × HasRaces plan outcome races × (status ≡ statuses.Ended (ending_with outcome races))) ⊎ IsOutOfMemory status
   completes_races one status comes is reads read write start no_read no_write no_start =
       races_of_run plan old new status
-      (completes Races (λ p ending. EndsWithRaces p old new ending) (λ p fault. FailsWithRaces p old new fault) told old new bytes plan Read Write Start one status comes is reads read write start no_read no_write no_start)
+      (whole _ _ status (completes Races (λ p ending. EndsWithRaces p old new ending) (λ p fault. FailsWithRaces p old new fault) told old new bytes plan Read Write Start one status comes is reads read write start no_read no_write no_start) (λ long. absurd long))
+
+  -- or as the run ends whose record is asked for, which may pass a limit
+  pub completes_record : OneReading Plain → (status : Status) → TracesTo told old new status → told ≡ Some bytes → ReadsIn Plain bytes plan
+      → (status ≡ statuses.Unread unreads.CannotRead → Read) → (status ≡ statuses.Failed faults.CannotWrite → Write) → (status ≡ statuses.Failed faults.CannotStart → Start)
+      → (Read → ⊥) → (Write → ⊥) → (Start → ⊥) → TracesSo plan status ⊎ IsOutOfMemory status
+  completes_record one status comes is reads read write start no_read no_write no_start =
+      record_of_run plan old new status
+      (completes Plain (λ p ending. EndsWithRecord p old new ending) (λ p fault. FailsWithRecord p old new fault) told old new bytes plan Read Write Start one status comes is reads read write start no_read no_write no_start)
 
 module _ (plan : Plan) (old new : Option (List ℕ)) where
   -- what comes in jobs comes
@@ -174,6 +208,7 @@ module _ (plan : Plan) (old new : Option (List ℕ)) where
   fails_by_record ran ran_now faults.CannotWrite fails = (fails.0, fails.1.0, fails.2)
   fails_by_record ran ran_now faults.CannotStart fails = fails
   fails_by_record ran ran_now faults.Memory fails = fails
+  fails_by_record ran ran_now faults.TooLong fails = fails
 
   by_done : (outcome : Outcome) → RunsTo plan outcome → endings.Done ≡ ending_of outcome → Appends old new (report_text plan outcome)
       → (left : Report) × (r : Record) × Explains plan (outcomes.Done left) r × InOneOrder r × Appends old new (report_text plan (outcomes.Done left))

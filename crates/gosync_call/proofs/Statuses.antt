@@ -29,6 +29,7 @@ of_calls (statuses.Unread why) = inr (inr tt)
 of_calls (statuses.Failed faults.CannotWrite) = inr (inl refl)
 of_calls (statuses.Failed faults.CannotStart) = inr (inr tt)
 of_calls (statuses.Failed faults.Memory) = inr (inr tt)
+of_calls (statuses.Failed faults.TooLong) = inr (inr tt)
 of_calls statuses.Usage = inr (inr tt)
 
 pub of_bytes : (status : Status) → IsOfAllBytes status ⊎ ((status ≡ statuses.Unread unreads.CannotRead) ⊎ ((status ≡ statuses.Unread unreads.Memory) ⊎ (status ≡ statuses.Usage)))
@@ -42,7 +43,7 @@ of_bytes (statuses.Failed fault) = inl tt
 of_bytes statuses.Usage = inr (inr (inr refl))
 
 module _ (dialect : Dialect) (Ends : Plan → Ending → Type 0) (Stops : Plan → Fault → Type 0) (told old new : Option (List ℕ))
-    (start : (plan : Plan) → Stops plan faults.CannotStart → new ≡ old) (memory : (plan : Plan) → Stops plan faults.Memory → new ≡ old) where
+    (start : (plan : Plan) → Stops plan faults.CannotStart → new ≡ old) (memory : (plan : Plan) → Stops plan faults.Memory → new ≡ old) (long : (plan : Plan) → Stops plan faults.TooLong → new ≡ old) where
   pub unwritten : (status : Status) → ComesBy dialect Ends Stops told old new status → IsUnstarted status → new ≡ old
   unwritten (statuses.Ended ending) comes unstarted = absurd unstarted
   unwritten (statuses.Judged verdict) comes unstarted = absurd comes
@@ -50,12 +51,13 @@ module _ (dialect : Dialect) (Ends : Plan → Ending → Type 0) (Stops : Plan �
   unwritten (statuses.Failed faults.CannotWrite) comes unstarted = absurd unstarted
   unwritten (statuses.Failed faults.CannotStart) comes unstarted = start comes.0 comes.2
   unwritten (statuses.Failed faults.Memory) comes unstarted = memory comes.0 comes.2
+  unwritten (statuses.Failed faults.TooLong) comes unstarted = long comes.0 comes.2
   unwritten statuses.Usage comes unstarted = absurd comes
 
 -- what is told of a report
 pub unwritten_report : (Comes : Plan → Outcome → Type 0) (told old new : Option (List ℕ)) (status : Status) → ComesTo Comes told old new status → IsUnstarted status → new ≡ old
 unwritten_report Comes told old new status comes unstarted =
-    unwritten Plain (λ plan ending. EndsWithReport Comes plan old new ending) (λ plan fault. Fails Comes plan old new fault) told old new (λ plan same. same) (λ plan same. same) status comes unstarted
+    unwritten Plain (λ plan ending. EndsWithReport Comes plan old new ending) (λ plan fault. Fails Comes plan old new fault) told old new (λ plan same. same) (λ plan same. same) (λ plan never. absurd never) status comes unstarted
 
 module _ (seed ran ran_now : ℕ) (old new : Option (List ℕ)) where
   pub unmade : (status : Status) → MakesTo seed ran ran_now old new status → IsUnstarted status → new ≡ old
@@ -68,6 +70,7 @@ module _ (seed ran ran_now : ℕ) (old new : Option (List ℕ)) where
   unmade (statuses.Failed faults.CannotWrite) makes unstarted = absurd unstarted
   unmade (statuses.Failed faults.CannotStart) makes unstarted = makes
   unmade (statuses.Failed faults.Memory) makes unstarted = makes
+  unmade (statuses.Failed faults.TooLong) makes unstarted = absurd makes
   unmade statuses.Usage makes unstarted = absurd makes
 
   pub made_statuses : (status : Status) → MakesTo seed ran ran_now old new status

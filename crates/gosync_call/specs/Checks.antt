@@ -51,4 +51,5 @@ JudgesTo told old new (statuses.Unread why) = IsNoRecord told why × (new ≡ ol
 JudgesTo told old new (statuses.Failed faults.CannotWrite) = (verdict : Verdict) × IsJudged told verdict × AppendsFront old new (verdict_line verdict)
 JudgesTo told old new (statuses.Failed faults.CannotStart) = ⊥
 JudgesTo told old new (statuses.Failed faults.Memory) = ⊥
+JudgesTo told old new (statuses.Failed faults.TooLong) = ⊥
 JudgesTo told old new statuses.Usage = ⊥

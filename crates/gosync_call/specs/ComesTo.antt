@@ -46,6 +46,7 @@ abbrev pub Fails : (Plan → Outcome → Type 0) → Plan → Option (List ℕ) 
 Fails Comes plan old new faults.CannotWrite = (outcome : Outcome) × Comes plan outcome × AppendsFront old new (report_text plan outcome)
 Fails Comes plan old new faults.CannotStart = new ≡ old
 Fails Comes plan old new faults.Memory = new ≡ old
+Fails Comes plan old new faults.TooLong = ⊥
 
 -- What the bytes of a file come to, where they are told, with what was written before and after. `Ends plan ending` stands for: a run
 -- of the plan ended so, and all that is told of it was written; `Stops plan fault` for: this fault came, and left as much of that

@@ -17,6 +17,7 @@ file_of (subcommands.Run, file) = Some (modes.Run, file)
 file_of (subcommands.Make, seed) = None
 file_of (subcommands.Race, file) = Some (modes.Race, file)
 file_of (subcommands.Check, file) = None
+file_of (subcommands.Trace, file) = Some (modes.Trace, file)
 
 -- the mode and the file that the words ask for, by the matches of the command
 abbrev pub asked : List (List ℕ) → Option (Mode × List ℕ)
@@ -30,6 +31,7 @@ file_named (Some (subcommands.Run, file)) = file
 file_named (Some (subcommands.Make, seed)) = []
 file_named (Some (subcommands.Race, file)) = file
 file_named (Some (subcommands.Check, file)) = file
+file_named (Some (subcommands.Trace, file)) = file
 
 -- the file that the words name
 abbrev pub file_in : List (List ℕ) → List ℕ

@@ -43,4 +43,5 @@ IsUnstarted (statuses.Unread why) = Unit {0}
 IsUnstarted (statuses.Failed faults.CannotWrite) = ⊥
 IsUnstarted (statuses.Failed faults.CannotStart) = Unit {0}
 IsUnstarted (statuses.Failed faults.Memory) = Unit {0}
+IsUnstarted (statuses.Failed faults.TooLong) = Unit {0}
 IsUnstarted statuses.Usage = Unit {0}

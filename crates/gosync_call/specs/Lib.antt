@@ -10,3 +10,4 @@ pub mod Messages
 pub mod Modes
 pub mod Races
 pub mod Told
+pub mod Traces

@@ -19,6 +19,7 @@ abbrev pub IsUnmade : ℕ → ℕ → ℕ → Option (List ℕ) → Option (List
 IsUnmade seed ran ran_now old new faults.CannotWrite = AppendsFront old new (summary_text (summary seed)) × RoseBy 8 ran ran_now
 IsUnmade seed ran ran_now old new faults.CannotStart = new ≡ old
 IsUnmade seed ran ran_now old new faults.Memory = new ≡ old
+IsUnmade seed ran ran_now old new faults.TooLong = ⊥
 
 -- what a status says of a seed, with how many jobs were done and what was written before and after: no misuse, no deadlock and no
 -- race comes, and nothing is refused

@@ -33,6 +33,7 @@ code_of (statuses.Unread unreads.Memory) = 4
 code_of (statuses.Failed faults.CannotWrite) = 3
 code_of (statuses.Failed faults.CannotStart) = 3
 code_of (statuses.Failed faults.Memory) = 4
+code_of (statuses.Failed faults.TooLong) = 1
 code_of statuses.Usage = 5
 
 -- how a run ended that came to this
@@ -72,6 +73,7 @@ abbrev pub fault_line : Fault → List ℕ
 fault_line faults.CannotWrite = codes "gosync: cannot write the report\n"
 fault_line faults.CannotStart = codes "gosync: cannot start the workers\n"
 fault_line faults.Memory = codes "gosync: out of memory\n"
+fault_line faults.TooLong = codes "gosync: line 0: record too long\n"
 
 -- the line on the error output, of a run of this file
 abbrev pub message_of : List ℕ → Status → List ℕ

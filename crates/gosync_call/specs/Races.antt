@@ -47,6 +47,7 @@ abbrev pub FailsWithRaces : Plan → Option (List ℕ) → Option (List ℕ) →
 FailsWithRaces plan old new faults.CannotWrite = (outcome : Outcome) × (races : List Race) × HasRaces plan outcome races × AppendsFront old new (race_text plan outcome races)
 FailsWithRaces plan old new faults.CannotStart = new ≡ old
 FailsWithRaces plan old new faults.Memory = new ≡ old
+FailsWithRaces plan old new faults.TooLong = ⊥
 
 -- what the bytes of a race text come to, where they are told, with what was written before and after
 abbrev pub RacesTo : Option (List ℕ) → Option (List ℕ) → Option (List ℕ) → Status → Type 0

@@ -22,6 +22,7 @@ mod report;
 mod run;
 pub mod status;
 mod step;
+mod trace;
 mod words;
 
 pub use message::say;

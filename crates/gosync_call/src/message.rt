@@ -73,6 +73,7 @@ fn say_fault<E: Sink>(err: &mut E, fault: Fault)
         Fault::CannotWrite => say_text(err, b"gosync: cannot write the report\n"),
         Fault::CannotStart => say_text(err, b"gosync: cannot start the workers\n"),
         Fault::Memory => say_text(err, b"gosync: out of memory\n"),
+        Fault::TooLong => say_text(err, b"gosync: line 0: record too long\n"),
     }
 }
 

@@ -1,6 +1,7 @@
 //! The run of a file on one thread.
-ghost use Rattle.std.specs.Prelude.{◌≡◌, ◌≢◌, ℕ, List, ◌+◌, ◌≤◌, Err, IfErr, MatchResult};
+ghost use Rattle.std.specs.Prelude.{◌≡◌, ◌≢◌, ℕ, List, ◌+◌, ◌≤◌, false, Err, IfErr, MatchResult};
 ghost use Rattle.sync_outside.specs.Faults.{Rose};
+ghost use Rattle.workload.specs.Dialect.{has_variables};
 ghost use Rattle.workload.specs.declared.limits.TheConstants.{MAX_INPUT};
 ghost use Rattle.gosync_call.specs.Front.{IsOfAllBytes};
 ghost use Rattle.gosync_call.specs.Input.{IsWhollyRead, ReadFailed};
@@ -14,6 +15,7 @@ use crate::race::run_with_races;
 use crate::read::read_workload;
 use crate::status::{Ending, Fault, Status};
 use crate::step::run_by_schedule;
+use crate::trace::run_with_record;
 use crate::words::Mode;
 use std::alloc::Global;
 use sync_outside::{Sink, Sources};
@@ -26,7 +28,8 @@ fn run_in<O: Sink>(
     workload: &Workload,
     out: &mut O,
 ) -> Result<Ending, Fault>
-    requires { mode ≢ modes.Run }
+    requires mode { mode ≢ modes.Run }
+    requires plain { mode ≡ modes.Trace → has_variables workload.now ≡ false }
     ensures ran { MatchResult result (EndsBy mode workload.now (O.contents out.old) (O.contents out.new)) (StopsBy mode workload.now (O.contents out.old) (O.contents out.new)) }
     ensures started { result ≡ Err faults.CannotStart → ⊥ }
     ensures cannot_write { IfErr result (λ fault. fault ≡ faults.CannotWrite → Rose (O.faults out.old) (O.faults out.new)) }
@@ -35,6 +38,7 @@ fn run_in<O: Sink>(
     match mode {
         Mode::Step => run_by_schedule(alloc, workload, out),
         Mode::Race => run_with_races(alloc, workload, out),
+        Mode::Trace => run_with_record(alloc, workload, out),
         Mode::Run => unreachable!(),
     }
 }

@@ -20,6 +20,7 @@ ghost use Rattle.gosync_call.specs.Made.{MakesTo};
 ghost use Rattle.gosync_call.specs.Messages.{code_of, ending_of, message_of, IsOutOfMemory, WritesOut};
 ghost use Rattle.gosync_call.specs.Modes.{dialect_of};
 ghost use Rattle.gosync_call.specs.Races.{ending_with, HasRaces, RacesTo};
+ghost use Rattle.gosync_call.specs.Traces.{TracesTo};
 ghost use Rattle.race_clocks.specs.declared.race.Race.{Race};
 ghost use Rattle.workload.specs.declared.keyword.Dialect.TheVariants.{Races};
 ghost use Rattle.gosync_call.specs.declared.status.Ending.TheVariants as endings;
@@ -75,6 +76,9 @@ pub fn gosync<
     // The workload of a seed comes to the five lines of the seed, whatever the interleaving.
     ensures make { (seed : ℕ) → AskToMake (map string_bytes words.now) seed → MakesTo seed (P.ran spawner.old) (P.ran spawner.new) (O.contents out.old) (O.contents out.new) result }
 
+    // And one whose record is asked for: where it is done, to the text of the record that explains it.
+    ensures trace { (file : List ℕ) → AskFor (map string_bytes words.now) modes.Trace file → TracesTo (S.contents src.old file) (O.contents out.old) (O.contents out.new) result }
+
     // The text of a record comes to its one verdict: yes where the record explains its run, else the first clause that fails.
     ensures check { (file : List ℕ) → AskToCheck (map string_bytes words.now) file → JudgesTo (S.contents src.old file) (O.contents out.old) (O.contents out.new) result }
 
@@ -90,6 +94,7 @@ pub fn gosync<
     ensures unstarted { IsUnstarted result ⊎ ((file : List ℕ) × AskFor (map string_bytes words.now) modes.Step file) → (P.ran spawner.new ≡ P.ran spawner.old) × (P.rounds spawner.new ≡ P.rounds spawner.old) }
     ensures race_unstarted { ((file : List ℕ) × AskFor (map string_bytes words.now) modes.Race file) → (P.ran spawner.new ≡ P.ran spawner.old) × (P.rounds spawner.new ≡ P.rounds spawner.old) }
 
+    ensures trace_unstarted { ((file : List ℕ) × AskFor (map string_bytes words.now) modes.Trace file) → (P.ran spawner.new ≡ P.ran spawner.old) × (P.rounds spawner.new ≡ P.rounds spawner.old) }
     ensures check_unstarted { ((file : List ℕ) × AskToCheck (map string_bytes words.now) file) → (P.ran spawner.new ≡ P.ran spawner.old) × (P.rounds spawner.new ≡ P.rounds spawner.old) }
 
     // What is told of a file is told of all its bytes: it was read to its end, or as far as a text may go and a byte more.
@@ -117,6 +122,9 @@ pub fn gosync<
     ensures races { (file bytes : List ℕ) (plan : Plan) → AskFor (map string_bytes words.now) modes.Race file → S.contents src.old file ≡ Some bytes → ReadsIn Races bytes plan
         → NoReadFailed (S.open_faults src.old file) (S.open_faults src.new file) (S.read_faults src.old) (S.read_faults src.new) → NoWriteFailed (O.faults out.old) (O.faults out.new)
         → ((outcome : Outcome) × (races : List Race) × HasRaces plan outcome races × (result ≡ statuses.Ended (ending_with outcome races))) ⊎ IsOutOfMemory result }
+    ensures traces { (file bytes : List ℕ) (plan : Plan) → AskFor (map string_bytes words.now) modes.Trace file → S.contents src.old file ≡ Some bytes → Reads bytes plan
+        → NoReadFailed (S.open_faults src.old file) (S.open_faults src.new file) (S.read_faults src.old) (S.read_faults src.new) → NoWriteFailed (O.faults out.old) (O.faults out.new)
+        → ((outcome : Outcome) × StepsTo plan outcome × ((result ≡ statuses.Ended (ending_of outcome)) ⊎ ((ending_of outcome ≡ endings.Done) × (result ≡ statuses.Failed faults.TooLong)))) ⊎ IsOutOfMemory result }
     ensures refused { (mode : Mode) (file bytes : List ℕ) → AskFor (map string_bytes words.now) mode file → S.contents src.old file ≡ Some bytes → ((plan : Plan) → ¬ ReadsIn (dialect_of mode) bytes plan)
         → NoReadFailed (S.open_faults src.old file) (S.open_faults src.new file) (S.read_faults src.old) (S.read_faults src.new)
         → (code_of result ≡ 1) ⊎ IsOutOfMemory result }

@@ -42,6 +42,8 @@ pub enum Fault {
     CannotStart,
     /// Memory is out. Nothing is written.
     Memory,
+    /// The record of the run passes a limit of the text of a record. Nothing is written.
+    TooLong,
 }
 
 /// How the program ends.
@@ -67,7 +69,8 @@ impl Status {
         match self {
             Status::Ended(Ending::Done) | Status::Judged(Verdict::Yes) => 0,
             Status::Ended(Ending::Misused(_) | Ending::Deadlocked) => 2,
-            Status::Unread(Unread::NotAccepted { .. } | Unread::NoRecord { .. }) => 1,
+            Status::Unread(Unread::NotAccepted { .. } | Unread::NoRecord { .. })
+            | Status::Failed(Fault::TooLong) => 1,
             Status::Unread(Unread::CannotRead)
             | Status::Failed(Fault::CannotWrite | Fault::CannotStart) => 3,
             Status::Unread(Unread::Memory) | Status::Failed(Fault::Memory) => 4,

@@ -17,6 +17,8 @@ pub enum Mode {
     Run,
     /// By its schedule, on one thread, and its races are told.
     Race,
+    /// By its schedule, on one thread, and its record is told.
+    Trace,
 }
 
 impl Mode {
@@ -25,7 +27,7 @@ impl Mode {
         ensures { result ≡ dialect_of self }
     {
         match self {
-            Mode::Step | Mode::Run => Dialect::Plain,
+            Mode::Step | Mode::Run | Mode::Trace => Dialect::Plain,
             Mode::Race => Dialect::Races,
         }
     }
@@ -56,6 +58,7 @@ pub fn asked<'a>(alloc: Global, words: &'a [String]) -> Result<Request<'a>, Word
             None => Err(WordsFault::Refused),
         },
         Ok((Subcommand::Race, file)) => Ok(Request::File(Mode::Race, file)),
+        Ok((Subcommand::Trace, file)) => Ok(Request::File(Mode::Trace, file)),
         Ok((Subcommand::Check, file)) => Ok(Request::Check(file)),
         Err(fault) => Err(fault),
     }

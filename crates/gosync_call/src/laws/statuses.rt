@@ -16,6 +16,7 @@ ghost use Rattle.gosync_call.specs.Input.{IsWhollyRead};
 ghost use Rattle.gosync_call.specs.Made.{MakesTo};
 ghost use Rattle.gosync_call.specs.Messages.{WritesOut};
 ghost use Rattle.gosync_call.specs.Races.{RacesTo};
+ghost use Rattle.gosync_call.specs.Traces.{TracesTo};
 ghost use Rattle.gosync_call.specs.declared.status.Ending.{Ending};
 ghost use Rattle.gosync_call.specs.declared.status.Ending.TheVariants as endings;
 ghost use Rattle.gosync_call.specs.declared.status.Fault.{Fault};
@@ -38,6 +39,7 @@ pub fn what_was_not_started_wrote_nothing()
     ensures with_threads { (told old new : Option (List ℕ)) (status : Status) → Headline told old new status → IsUnstarted status → new ≡ old }
     ensures by_schedule { (told old new : Option (List ℕ)) (status : Status) → ComesTo StepsTo told old new status → IsUnstarted status → new ≡ old }
     ensures with_races { (told old new : Option (List ℕ)) (status : Status) → RacesTo told old new status → IsUnstarted status → new ≡ old }
+    ensures with_record { (told old new : Option (List ℕ)) (status : Status) → TracesTo told old new status → IsUnstarted status → new ≡ old }
     ensures of_a_seed { (seed ran ran_now : ℕ) (old new : Option (List ℕ)) (status : Status) → MakesTo seed ran ran_now old new status → IsUnstarted status → new ≡ old }
 {}
 

@@ -18,7 +18,7 @@ use Rattle.sync_outside.specs.Faults.{Rose}
 use Rattle.gosync_call.proofs.AskedWords.{names_none, names_record, no_run_to_check, no_seed_to_check, not_both}
 use Rattle.gosync_call.proofs.Fronts.{asking, asks_run, by_threads, ended_make, ended_makes, ended_no_failed, ended_no_unread, err_of, failed_no_unread, front_comes, make_taken, refuses_by, run_is_read, run_no_ended, run_taken, run_unasked, run_unmade, same_fault}
 use Rattle.gosync_call.proofs.Judged.{completes_check, front_judges, refuses_check}
-use Rattle.gosync_call.proofs.Runs.{completes_races, completes_report, ended_run, ends_by_record, failed_run, fails_by_record, is_read, mode_comes, same_mode, says_run}
+use Rattle.gosync_call.proofs.Runs.{completes_races, completes_record, completes_report, ended_run, ends_by_record, failed_run, fails_by_record, is_read, mode_comes, same_mode, says_run}
 use Rattle.gosync_call.proofs.program.gosync.Goals as goal
 
 pub returns-in-Ended-clause-says : goal.returns-in-Ended-clause-says
@@ -252,6 +252,24 @@ returns-in-Ended-clause-races g c file bytes plan asks is reads no_read no_write
     (Rose (g.O.Sink.faults c.args.out.now) (g.O.Sink.faults c.front.new.out)) ⊥
     c.race_texts_are_read_or_refused.ensures.one c.in-Ended.status (mode_comes modes.Race told old new c.in-Ended.status (c.in-Ended.ensures.one_thread modes.Race file asks (λ e. cc))) is reads
     (λ e. c.in-Ended.ensures.cannot_read modes.Race file asks (ap (λ (s : Status). fronts.Ended s) e))
+    (λ e. c.in-Ended.ensures.cannot_write (ap (λ (s : Status). fronts.Ended s) e))
+    (λ e. c.in-Ended.ensures.started (ap (λ (s : Status). fronts.Ended s) e))
+    no_read no_write (λ e. e)
+
+pub returns-in-Ended-clause-trace : goal.returns-in-Ended-clause-trace
+returns-in-Ended-clause-trace g c file asks =
+    mode_comes modes.Trace (g.S.Sources.contents c.args.src.now file) (g.O.Sink.contents c.args.out.now) (g.O.Sink.contents c.front.new.out) c.in-Ended.status (c.in-Ended.ensures.one_thread modes.Trace file asks (λ e. cc))
+
+pub returns-in-Ended-clause-traces : goal.returns-in-Ended-clause-traces
+returns-in-Ended-clause-traces g c file bytes plan asks is reads no_read no_write =
+    let told = g.S.Sources.contents c.args.src.now file in
+    let old = g.O.Sink.contents c.args.out.now in
+    let new = g.O.Sink.contents c.front.new.out in
+    completes_record old new bytes plan told
+    (ReadFailed (g.S.Sources.open_faults c.args.src.now file) (g.S.Sources.open_faults c.front.new.src file) (g.S.Sources.read_faults c.args.src.now) (g.S.Sources.read_faults c.front.new.src))
+    (Rose (g.O.Sink.faults c.args.out.now) (g.O.Sink.faults c.front.new.out)) ⊥
+    c.one_reading.ensures c.in-Ended.status (mode_comes modes.Trace told old new c.in-Ended.status (c.in-Ended.ensures.one_thread modes.Trace file asks (λ e. cc))) is reads
+    (λ e. c.in-Ended.ensures.cannot_read modes.Trace file asks (ap (λ (s : Status). fronts.Ended s) e))
     (λ e. c.in-Ended.ensures.cannot_write (ap (λ (s : Status). fronts.Ended s) e))
     (λ e. c.in-Ended.ensures.started (ap (λ (s : Status). fronts.Ended s) e))
     no_read no_write (λ e. e)
