@@ -1,4 +1,3 @@
 mod AllCallers
-mod Callers
 mod Pairs
 mod Walkers

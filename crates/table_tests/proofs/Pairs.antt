@@ -1,7 +1,5 @@
 -- Two callers of a table.
 use Rattle.std.proofs.Common.{◌≡◌, ℕ, List, [], ◌∷◌, ◌++◌, length, Option, Some, IsSome, slice_get, refl, sym, subst}
-use Rattle.sync_types.specs.declared.atomic_object.AtomicCall.{AtomicCall}
-use Rattle.sync_types.specs.declared.atomic_object.AtomicReply.{AtomicReply}
 use Rattle.sync_model.specs.declared.caller.Caller.{Caller}
 use Rattle.sync_model.specs.Note.{Holding}
 use Rattle.sync_model.specs.Shared.{IsCallerAt}
@@ -9,14 +7,9 @@ use Rattle.shared_table.specs.declared.note.SharedNote.{SharedNote}
 use Rattle.shared_table.specs.declared.table.SharedTable.{SharedTable}
 use Rattle.shared_table.specs.NewCallers.{AreNewCallers}
 use Rattle.shared_table.specs.Notes.{own_by, IsNoteOf}
-use Rattle.go_atomic.specs.Typed.{MakesCall}
 
 some_is : (own : Option Holding) (h : Holding) → own ≡ Some h → IsSome own
 some_is own h e = subst (λ (o : Option Holding). IsSome o) (sym e) refl
-
--- a call leaves a caller a caller
-pub stays : (table : SharedTable) (atomic : ℕ) (call : AtomicCall) (reply : AtomicReply) (old new : Caller SharedNote) → IsCallerAt IsNoteOf own_by table old → MakesCall table atomic call reply old.note new.note → IsCallerAt IsNoteOf own_by table new
-stays table atomic call reply old new is makes = (makes.0 table is.0, some_is (own_by new.note) makes.1.becomes makes.1.own_new)
 
 pub is_caller : (table : SharedTable) (spare : List ℕ) (callers : List (Caller SharedNote)) → AreNewCallers table spare callers → (i : ℕ) (caller : Caller SharedNote) → slice_get callers i ≡ Some caller → IsCallerAt IsNoteOf own_by table caller
 is_caller table spare callers new i caller at = let each = new.all.each i caller at in (each.0, some_is (own_by caller.note) each.1.0 each.1.1)
@@ -29,7 +22,3 @@ module _ {A : Type 0} where
   pub within : (xs ys : List A) (x : A) → slice_get ((xs ++ x ∷ []) ++ ys) (length xs) ≡ Some x
   within [] ys x = refl
   within (y ∷ xs) ys x = within xs ys x
-
--- the same table under another name
-pub on : (table other : SharedTable) (caller : Caller SharedNote) → other ≡ table → IsCallerAt IsNoteOf own_by table caller → IsCallerAt IsNoteOf own_by other caller
-on table other caller e is = subst (λ t. IsCallerAt IsNoteOf own_by t caller) (sym e) is

@@ -1,5 +1,0 @@
-use Rattle.table_tests.proofs.Callers.{stays_at}
-use Rattle.table_tests.proofs.maps.maps.crew.deleted_if.Goals as goal
-
-pub returns : goal.returns
-returns g c = stays_at c.args.table.now c.at.result.table.now _ _ _ c.args.caller.now.note c.compare_and_delete.new.caller.note c.at.ensures.0 c.requires.caller.0 c.compare_and_delete.ensures.called
