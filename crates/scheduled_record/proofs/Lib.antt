@@ -1,4 +1,5 @@
 mod ActsInRange
+mod Adding
 mod Begun
 mod Contents
 mod ContentsBegin
@@ -8,6 +9,7 @@ mod CursorShows
 mod Cursors
 mod EndContents
 mod InRange
+mod LedgerSteps
 mod Lists
 mod JoinedLemmas
 mod Journals

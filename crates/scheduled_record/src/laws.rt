@@ -39,10 +39,11 @@ ghost use Rattle.step_runner.specs.declared.turns.object_state.ObjectState.TheVa
 ghost use Rattle.step_runner.specs.Outcomes.{StepsTo};
 ghost use Rattle.step_runner.specs.RunItems.{all_made};
 ghost use Rattle.step_runner.specs.State.{start};
-ghost use Rattle.step_runner.specs.Traces.{trace_of};
+ghost use Rattle.step_runner.specs.Traces.{items_told, trace_of};
 ghost use Rattle.step_runner.specs.Turns.{after_items};
 ghost use Rattle.kept_record.specs.Acts.{AreActsOf, AreAnswered};
 ghost use Rattle.kept_record.specs.Keeping.{record_of};
+ghost use Rattle.scheduled_record.specs.ItemsOf.{AreItemsOf};
 ghost use Rattle.scheduled_record.specs.RunActs.{acts_of, run_acts, scheduled_record};
 
 use kept_record::laws as kept;
@@ -59,6 +60,14 @@ use sync_types::Name;
 use sync_types::laws::atomics::only_entries_change;
 use sync_types::laws::renaming::maps_with_renamed_keys_answer_the_same;
 use workload::laws::keys_are_numbered_by_first_appearance;
+
+/// All items of a run are of the workload's workers, on objects of the workload: an event on Starts only where some worker waits to be started, and a pool's on a pool.
+pub fn the_items_of_a_run_are_the_workloads()
+    ensures { (plan : Plan) → is_valid plan ≡ true → AreItemsOf plan (items_told (trace_of plan)) }
+{
+    validity();
+    a_trace_tells_what_turns_made();
+}
 
 /// All acts of a run are of the workload's workers, on objects of the workload.
 pub fn the_acts_of_a_run_are_the_workloads()
