@@ -1,23 +1,23 @@
 -- What is added to a ledger, one piece behind the other.
-use Rattle.std.proofs.Common.{◌≡◌, ℕ, zero, suc, ◌+◌, ◌<◌, Bool, true, false, not, cond, List, [], ◌∷◌, ◌++◌, map, filter, flat_map, fold, take, get_or, length, Option, Some, None, slice_get, refl, sym, ap, ◌∙◌, subst, append-nil, append_assoc, arith}
+use Rattle.std.proofs.Common.{◌≡◌, ℕ, zero, suc, ◌+◌, ◌<◌, ◌&&◌, Bool, true, false, not, cond, List, [], ◌∷◌, ◌++◌, map, filter, flat_map, fold, take, get_or, length, replicate, Option, Some, None, slice_get, refl, sym, ap, ◌∙◌, subst, append-nil, append_assoc, arith}
 use Rattle.std.specs.List.{AllByRecursion, range_with_len}
 use Rattle.std.proofs.lemmas.List.FromFn.{get_or-map-range_with_len, length-map-range_with_len}
 use Rattle.std.proofs.lemmas.List.Elements.{filter-append}
 use Rattle.std.proofs.lemmas.Grind.{flat_map-append}
 use Rattle.std.specs.Option.{option_map_or}
-use Rattle.std.proofs.lemmas.List.{map-append, get_or-map}
+use Rattle.std.proofs.lemmas.List.{map-append, get_or-map, length-replicate, get_or-replicate}
 use Rattle.std.proofs.lemmas.List.Sums.{fold-append}
-use Rattle.std.proofs.lemmas.Option.{none-some, same_Some, slice_get-get_or}
+use Rattle.std.proofs.lemmas.Option.{none-some, same_Some, slice_get-get_or, slice_get_within, get_or_from_slice_get}
 use Rattle.sync_model.specs.declared.item.SharedCall.TheVariants as calls
 use Rattle.sync_model.specs.declared.item.SharedReply.TheVariants as answers
 use Rattle.sync_model.specs.SharedHistory.{Contents}
 use Rattle.workload.specs.Keys.{keys_in, key_number}
 use Rattle.starts_core.specs.declared.starts.StartEvent.TheVariants as starts
 use Rattle.starts_core.specs.declared.starts.StartReply.TheVariants as start_replies
-use Rattle.workload.specs.Plan.{Plan, has_dormant}
+use Rattle.workload.specs.Plan.{Plan, is_dormant, has_dormant}
 use Rattle.run_record.specs.declared.made.Made.{Made}
 use Rattle.run_record.specs.MapKind.{step_showing}
-use Rattle.run_record.specs.Objects.{contents_of}
+use Rattle.run_record.specs.Objects.{contents_of, object_count}
 use Rattle.kept_record.specs.Acts.{contents_behind, AreAnswered}
 use Rattle.run_record.specs.Record.{shared_in}
 use Rattle.kept_record.specs.Keeping.{Act, made_by}
@@ -27,11 +27,12 @@ use Rattle.step_runner.specs.Traces.{items_told}
 use Rattle.step_runner.specs.declared.trace.TraceItem.{TraceItem}
 use Rattle.step_runner.specs.declared.turns.item.Item.{Item}
 use Rattle.scheduled_record.specs.declared.ledger.Ledger.{Ledger}
+use Rattle.scheduled_record.specs.declared.ledger.JournalState.{JournalState}
 use Rattle.scheduled_record.specs.declared.ledger.WorkerState.{WorkerState}
 use Rattle.scheduled_record.specs.ItemsOf.{AreItemsOf}
 use Rattle.scheduled_record.specs.Ledgers.{IsKept, IsLedgerOf, AreRight, Adds, adding, waits_in}
-use Rattle.scheduled_record.specs.RunActs.{acts_by, going_acts, waits_still, ending_acts, leaving_acts}
-use Rattle.scheduled_record.specs.ToldItems.{ToldAct, acts_in, told_as, with_told_item, with_told_turn, closed_told}
+use Rattle.scheduled_record.specs.RunActs.{acts_by, going_acts, waits_still, ending_acts, leaving_acts, closing_acts, closed_acts, with_item, run_acts}
+use Rattle.scheduled_record.specs.ToldItems.{ToldAct, acts_in, told_as, with_told_item, with_told_turn, told_turns, closed_told, told_run}
 use Rattle.scheduled_record.proofs.RunInRange.{some_dormant}
 
 answered_first : (contents : Contents) (acts more : List Act) → AreAnswered contents (acts ++ more) → AreAnswered contents acts
@@ -284,3 +285,96 @@ closing_adds plan l mid new waiting ended waits others dormant first second = re
 pub closing_none : (plan : Plan) (l : Ledger) → has_dormant plan ≡ false → Adds plan (closed_told plan) l l
 closing_none plan l none = adds_as plan (λ told. told) (closed_told plan) l l
     (λ told. sym (ap (λ (b : Bool). told ++ told_as None (cond b (ending_acts plan (acts_in told) ++ leaving_acts plan (acts_in told)) [])) none ∙ append-nil told)) (adds_none plan l)
+
+-- ---- at the beginning
+
+module _ {A : Type 0} where
+  over_at : (f : ℕ → A) (n w : ℕ) (x : A) → slice_get (map f (range_with_len 0 n)) w ≡ Some x → f w ≡ x
+  over_at f n w x at =
+      let within = slice_get_within (map f (range_with_len 0 n)) w x at in
+      let below : w < n = subst (λ (k : ℕ). w < k) (length-map-range_with_len f 0 n) within in
+      let none : 0 + w ≡ w = omega arith in
+      sym (get_or-map-range_with_len f 0 n w w x below none) ∙ get_or_from_slice_get (map f (range_with_len 0 n)) w x x at
+
+  replicate_at : (n o : ℕ) (y x : A) → slice_get (replicate n y) o ≡ Some x → y ≡ x
+  replicate_at n o y x at =
+      let within = slice_get_within (replicate n y) o x at in
+      sym (get_or-replicate n o y x (subst (λ (k : ℕ). o < k) (length-replicate n y) within)) ∙ get_or_from_slice_get (replicate n y) o x x at
+
+abbrev pub first_worker : Plan → ℕ → WorkerState
+first_worker plan worker = record { front = replicate plan.workers 0; waits = is_dormant plan worker }
+
+abbrev pub first_journal : Plan → JournalState
+first_journal plan = record { entries = 0; released = replicate plan.workers 0 }
+
+module _ (plan : Plan) (l : Ledger) (workers : l.workers.items ≡ map (first_worker plan) (range_with_len 0 plan.workers)) (journals : l.journals.items ≡ replicate (object_count plan) (first_journal plan)) where
+  long : length l.workers.items ≡ plan.workers
+  long = ap length workers ∙ length-map-range_with_len (first_worker plan) 0 plan.workers
+
+  many : length l.journals.items ≡ object_count plan
+  many = ap length journals ∙ length-replicate (object_count plan) (first_journal plan)
+
+  worker_at : (w : ℕ) (x : WorkerState) → slice_get l.workers.items w ≡ Some x → first_worker plan w ≡ x
+  worker_at w x at = over_at (first_worker plan) plan.workers w x (ap (λ (r : List WorkerState). slice_get r w) (sym workers) ∙ at)
+
+  journal_at : (o : ℕ) (x : JournalState) → slice_get l.journals.items o ≡ Some x → first_journal plan ≡ x
+  journal_at o x at = replicate_at (object_count plan) o (first_journal plan) x (ap (λ (r : List JournalState). slice_get r o) (sym journals) ∙ at)
+
+  nothing_yet : (b : Bool) → b ≡ (b && true)
+  nothing_yet true = refl
+  nothing_yet false = refl
+
+  pub begun_of : IsLedgerOf plan l
+  begun_of = record {
+    workers = long;
+    journals = many;
+    dormant = λ w x at waits. ap (λ (y : WorkerState). y.waits) (worker_at w x at) ∙ waits;
+  }
+
+  pub begun_kept : l.history ≡ 0 → l.maps.items ≡ (contents_of plan).maps → l.lines.items ≡ [] → IsKept plan [] l
+  begun_kept history maps lines = record {
+    workers = long;
+    journals = many;
+    worker = λ w x at.
+        (sym (ap (λ (y : WorkerState). y.front) (worker_at w x at)) ∙ sym (get_or-replicate plan.workers w (replicate plan.workers 0) [] (subst (λ (k : ℕ). w < k) long (slice_get_within l.workers.items w x at))),
+         sym (ap (λ (y : WorkerState). y.waits) (worker_at w x at)) ∙ nothing_yet (is_dormant plan w));
+    journal = λ o x at.
+        (sym (ap (λ (y : JournalState). y.entries) (journal_at o x at)),
+         sym (ap (λ (y : JournalState). y.released) (journal_at o x at)) ∙ sym (get_or-replicate (object_count plan) o (replicate plan.workers 0) [] (subst (λ (k : ℕ). o < k) many (slice_get_within l.journals.items o x at))));
+    history = history;
+    maps = maps;
+    lines = lines;
+  }
+
+-- ---- the acts that are told
+
+acts_as : (index : Option ℕ) (acts : List Act) → acts_in (told_as index acts) ≡ acts
+acts_as index [] = refl
+acts_as index (act ∷ acts) = ap (λ (l : List Act). act ∷ l) (acts_as index acts)
+
+module _ (plan : Plan) where
+  item_acts : (index : Option ℕ) (told : List ToldAct) (item : Item) → acts_in (with_told_item plan index told item) ≡ with_item plan (acts_in told) item
+  item_acts index told item =
+      let goes = going_acts plan (acts_in told) item.caller in
+      let does = acts_by item.caller (recorded_item plan (length (shared_in (made_by item.caller (acts_in told)))) item) in
+      map-append (λ (t : ToldAct). t.act) told (told_as None goes ++ told_as index does)
+      ∙ ap (λ (l : List Act). acts_in told ++ l) (map-append (λ (t : ToldAct). t.act) (told_as None goes) (told_as index does) ∙ (ap (λ (l : List Act). l ++ acts_in (told_as index does)) (acts_as None goes) ∙ ap (λ (l : List Act). goes ++ l) (acts_as index does)))
+
+  items_acts : (index : Option ℕ) (told : List ToldAct) (items : List Item) → acts_in (fold (with_told_item plan index) told items) ≡ fold (with_item plan) (acts_in told) items
+  items_acts index told [] = refl
+  items_acts index told (item ∷ items) = items_acts index (with_told_item plan index told item) items ∙ ap (λ (acts : List Act). fold (with_item plan) acts items) (item_acts index told item)
+
+  turns_acts : (told : List ToldAct) (trace : List TraceItem) → acts_in (fold (with_told_turn plan) told trace) ≡ fold (with_item plan) (acts_in told) (items_told trace)
+  turns_acts told [] = refl
+  turns_acts told (turn ∷ trace) =
+      turns_acts (with_told_turn plan told turn) trace
+      ∙ (ap (λ (acts : List Act). fold (with_item plan) acts (items_told trace)) (items_acts turn.index told turn.made) ∙ sym (fold-append (with_item plan) (acts_in told) turn.made (items_told trace)))
+
+  -- they are the acts of the record
+  pub run_told : (trace : List TraceItem) → acts_in (told_run plan trace) ≡ run_acts plan trace
+  run_told trace =
+      map-append (λ (t : ToldAct). t.act) (told_turns plan trace) (told_as None (closing_acts plan (acts_in (told_turns plan trace))))
+      ∙ (ap (λ (l : List Act). acts_in (told_turns plan trace) ++ l) (acts_as None (closing_acts plan (acts_in (told_turns plan trace)))) ∙ ap (closed_acts plan) (turns_acts [] trace))
+
+  pub run_right : (trace : List TraceItem) → AreAnswered (contents_of plan) (run_acts plan trace) → AreRight plan (told_run plan trace)
+  run_right trace right = subst (λ (acts : List Act). AreAnswered (contents_of plan) acts) (sym (run_told trace)) right

@@ -29,3 +29,4 @@ mod StartsOn
 mod StartsRun
 mod StartsSo
 mod StartsWalk
+mod ToldLemmas

@@ -503,6 +503,7 @@ pub fn items_of_run(
 {
     the_items_of_a_run_are_the_workloads();
     the_calls_of_a_scheduled_run_are_a_legal_history();
+    let _workers = workload.workers();
     let mut ledger = new_ledger(alloc, workload)?;
     ledger.add_turns(alloc, workload, trace.as_slice())?;
     ledger.close(alloc, workload)?;
