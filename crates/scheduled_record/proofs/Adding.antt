@@ -218,9 +218,9 @@ module _ (plan : Plan) (among : List Bool) (makes : ℕ → List Made) where
       ∙ (ap (flat_map (λ worker. acts_by worker (makes worker))) (filter-append (λ worker. get_or among worker false) (range_with_len 0 n) (n ∷ []))
       ∙ (flat_map-append (λ worker. acts_by worker (makes worker)) (filter (λ worker. get_or among worker false) (range_with_len 0 n)) (filter (λ worker. get_or among worker false) (n ∷ []))
       ∙ ap (λ (l : List Act). made_to n ++ l) (chosen (get_or among n false)))) where
-    chosen : (b : Bool) → flat_map (λ worker. acts_by worker (makes worker)) (cond b (n ∷ []) []) ≡ acts_by n (cond b (makes n) [])
-    chosen true = append-nil (acts_by n (makes n))
-    chosen false = refl
+        chosen : (b : Bool) → flat_map (λ worker. acts_by worker (makes worker)) (cond b (n ∷ []) []) ≡ acts_by n (cond b (makes n) [])
+        chosen true = append-nil (acts_by n (makes n))
+        chosen false = refl
 
   pub starts_more : (n : ℕ) (b : Bool) (old mid new : Ledger) → b ≡ get_or among n false → Adds plan (λ told. told ++ told_as None (made_to n)) old mid → Adds plan (adding None n (cond b (makes n) [])) mid new
       → Adds plan (λ told. told ++ told_as None (made_to (n + 1))) old new
@@ -335,12 +335,14 @@ module _ (plan : Plan) (l : Ledger) (workers : l.workers.items ≡ map (first_wo
   begun_kept history maps lines = record {
     workers = long;
     journals = many;
-    worker = λ w x at.
-        (sym (ap (λ (y : WorkerState). y.front) (worker_at w x at)) ∙ sym (get_or-replicate plan.workers w (replicate plan.workers 0) [] (subst (λ (k : ℕ). w < k) long (slice_get_within l.workers.items w x at))),
-         sym (ap (λ (y : WorkerState). y.waits) (worker_at w x at)) ∙ nothing_yet (is_dormant plan w));
-    journal = λ o x at.
-        (sym (ap (λ (y : JournalState). y.entries) (journal_at o x at)),
-         sym (ap (λ (y : JournalState). y.released) (journal_at o x at)) ∙ sym (get_or-replicate (object_count plan) o (replicate plan.workers 0) [] (subst (λ (k : ℕ). o < k) many (slice_get_within l.journals.items o x at))));
+    worker = λ w x at. (
+      sym (ap (λ (y : WorkerState). y.front) (worker_at w x at)) ∙ sym (get_or-replicate plan.workers w (replicate plan.workers 0) [] (subst (λ (k : ℕ). w < k) long (slice_get_within l.workers.items w x at))),
+      sym (ap (λ (y : WorkerState). y.waits) (worker_at w x at)) ∙ nothing_yet (is_dormant plan w),
+    );
+    journal = λ o x at. (
+      sym (ap (λ (y : JournalState). y.entries) (journal_at o x at)),
+      sym (ap (λ (y : JournalState). y.released) (journal_at o x at)) ∙ sym (get_or-replicate (object_count plan) o (replicate plan.workers 0) [] (subst (λ (k : ℕ). o < k) many (slice_get_within l.journals.items o x at))),
+    );
     history = history;
     maps = maps;
     lines = lines;

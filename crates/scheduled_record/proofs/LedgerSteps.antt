@@ -160,9 +160,10 @@ module _ (plan : Plan) (told : List ToldAct) (index : Option ℕ) (worker : ℕ)
 
       mine : slice_get n.workers.items worker ≡ Some x → IsWorkerKept plan (acts_in more) worker x
       mine at =
-          let same = set_there l.workers.items worker (record { front = knows; waits = false }) x (ap (λ (r : List WorkerState). slice_get r worker) (sym set_so) ∙ at) in
-          (ap (λ (y : WorkerState). y.front) (sym same) ∙ sym (front_at worker ∙ get_or-set_same kept.fronts worker knows [] (subst (λ (k : ℕ). worker < k) (sym (fronts_long plan (acts_in told))) within)),
-           ap (λ (y : WorkerState). y.waits) (sym same) ∙ sym waits_own)
+          let same = set_there l.workers.items worker (record { front = knows; waits = false }) x (ap (λ (r : List WorkerState). slice_get r worker) (sym set_so) ∙ at) in (
+            ap (λ (y : WorkerState). y.front) (sym same) ∙ sym (front_at worker ∙ get_or-set_same kept.fronts worker knows [] (subst (λ (k : ℕ). worker < k) (sym (fronts_long plan (acts_in told))) within)),
+            ap (λ (y : WorkerState). y.waits) (sym same) ∙ sym waits_own,
+          )
 
       theirs : w ≢ worker → IsWorkerKept plan (acts_in more) w x
       theirs apart =
@@ -288,16 +289,18 @@ module _ (plan : Plan) (told : List ToldAct) (index : Option ℕ) (worker object
 
     mine : (y : JournalState) → slice_get n.journals.items object ≡ Some y → IsJournalKept (account_of plan (acts_in (told ++ told_as index (acts_by worker (Entered object entry ∷ []))))) object y
     mine y at_y =
-        let same = set_there l.journals.items object (record { entries = number_in l object + 1; released = given entry.deed front (released_in l object) }) y (ap (λ (r : List JournalState). slice_get r object) (sym does.journals) ∙ at_y) in
-        (ap (λ (z : JournalState). z.entries) (sym same) ∙ (ap (λ (k : ℕ). k + 1) old.0 ∙ sym (entries_at object
-            ∙ (ap (λ (b : Bool). length (entries_on object here.acts ++ cond b (entered worker object entry here ∷ []) [])) (eq-eqb object object refl) ∙ length-append (entries_on object here.acts) _))),
-         ap (λ (z : JournalState). z.released) (sym same) ∙ (freed ∙ sym (released_so object ∙ get_or-set_same here.released object _ [] (subst (λ (k : ℕ). object < k) (sym (released_long plan (acts_in told))) on))))
+        let same = set_there l.journals.items object (record { entries = number_in l object + 1; released = given entry.deed front (released_in l object) }) y (ap (λ (r : List JournalState). slice_get r object) (sym does.journals) ∙ at_y) in (
+          ap (λ (z : JournalState). z.entries) (sym same) ∙ (ap (λ (k : ℕ). k + 1) old.0 ∙ sym (entries_at object
+              ∙ (ap (λ (b : Bool). length (entries_on object here.acts ++ cond b (entered worker object entry here ∷ []) [])) (eq-eqb object object refl) ∙ length-append (entries_on object here.acts) _))),
+          ap (λ (z : JournalState). z.released) (sym same) ∙ (freed ∙ sym (released_so object ∙ get_or-set_same here.released object _ [] (subst (λ (k : ℕ). object < k) (sym (released_long plan (acts_in told))) on))),
+        )
 
     theirs : (o : ℕ) (y : JournalState) → o ≢ object → slice_get n.journals.items o ≡ Some y → IsJournalKept (account_of plan (acts_in (told ++ told_as index (acts_by worker (Entered object entry ∷ []))))) o y
     theirs o y apart at_y =
-        let was = is.journal o y (sym (set_elsewhere l.journals.items object o (record { entries = number_in l object + 1; released = given entry.deed front (released_in l object) }) apart) ∙ (ap (λ (r : List JournalState). slice_get r o) (sym does.journals) ∙ at_y)) in
-        (was.0 ∙ sym (entries_at o ∙ (ap (λ (b : Bool). length (entries_on o here.acts ++ cond b (entered worker object entry here ∷ []) [])) (ne_eqb object o (λ same. apart (sym same))) ∙ ap length (append-nil (entries_on o here.acts)))),
-         was.1 ∙ sym (released_so o ∙ get_or-set_other here.released object o _ [] apart))
+        let was = is.journal o y (sym (set_elsewhere l.journals.items object o (record { entries = number_in l object + 1; released = given entry.deed front (released_in l object) }) apart) ∙ (ap (λ (r : List JournalState). slice_get r o) (sym does.journals) ∙ at_y)) in (
+          was.0 ∙ sym (entries_at o ∙ (ap (λ (b : Bool). length (entries_on o here.acts ++ cond b (entered worker object entry here ∷ []) [])) (ne_eqb object o (λ same. apart (sym same))) ∙ ap length (append-nil (entries_on o here.acts)))),
+          was.1 ∙ sym (released_so o ∙ get_or-set_other here.released object o _ [] apart),
+        )
 
 -- ---- a ledger stays one
 

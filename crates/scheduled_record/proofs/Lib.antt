@@ -30,3 +30,4 @@ mod StartsRun
 mod StartsSo
 mod StartsWalk
 mod ToldLemmas
+mod ToldNumbers

@@ -21,16 +21,11 @@ made_with : (worker : ℕ) (told : List ToldAct) (acts : List Act) → length to
 made_with worker [] [] same = refl
 made_with worker [] (act ∷ acts) same = absurd (omega (arith, same))
 made_with worker (t ∷ told) [] same = absurd (omega (arith, same))
-made_with worker (t ∷ told) (act ∷ acts) same = chosen (act.worker == worker) where
-  less : length told ≡ length acts
-  less = omega (arith, same)
-
-  rest : map (λ (t : ToldAct). t.act.made) (told_by worker (told_with told acts)) ≡ made_by worker acts
-  rest = made_with worker told acts less
-
-  chosen : (b : Bool) → map (λ (t : ToldAct). t.act.made) (cond b (record { index = t.index; act = act } ∷ told_by worker (told_with told acts)) (told_by worker (told_with told acts))) ≡ cond b (act.made ∷ made_by worker acts) (made_by worker acts)
-  chosen true = ap (λ (l : List Made). act.made ∷ l) rest
-  chosen false = rest
+made_with worker (t ∷ told) (act ∷ acts) same = let less : length told ≡ length acts = omega (arith, same) in chosen (act.worker == worker) (made_with worker told acts less) where
+  chosen : (b : Bool) → map (λ (t : ToldAct). t.act.made) (told_by worker (told_with told acts)) ≡ made_by worker acts
+      → map (λ (t : ToldAct). t.act.made) (cond b (record { index = t.index; act = act } ∷ told_by worker (told_with told acts)) (told_by worker (told_with told acts))) ≡ cond b (act.made ∷ made_by worker acts) (made_by worker acts)
+  chosen true rest = ap (λ (l : List Made). act.made ∷ l) rest
+  chosen false rest = rest
 
 pub kept_lists : (plan : Plan) (worker : ℕ) (told : List ToldAct) → map (λ (t : ToldAct). t.act.made) (told_by worker (kept_told plan told)) ≡ made_by worker (account_of plan (acts_in told)).acts
 kept_lists plan worker told = made_with worker told (account_of plan (acts_in told)).acts (sym (length-map told (λ (t : ToldAct). t.act)) ∙ sym (acts_long plan (acts_in told)))
@@ -39,13 +34,7 @@ kept_lists plan worker told = made_with worker told (account_of plan (acts_in to
 
 one_line : (worker : ℕ) (t : ToldAct) → filter (λ (item : ItemLine). item.worker == worker) (line_in t) ≡ cond (t.act.worker == worker) (line_in t) []
 one_line worker t = said_so (made_said (number_of t.act.made) t.act.made) where
-  abbrev_line : Option Said → List ItemLine
-  abbrev_line said = option_to_list (option_map (λ (s : Said). record { worker = t.act.worker; index = t.index; front = front_in t.act.made; said = s }) said)
-
-  either : (b : Bool) (item : ItemLine) → cond b (item ∷ []) [] ≡ cond b (item ∷ []) []
-  either b item = refl
-
-  nothing : (b : Bool) → [] ≡ cond b ([] {A = ItemLine}) []
+  nothing : (b : Bool) → ◌≡◌ {A = List ItemLine} [] (cond b [] [])
   nothing true = refl
   nothing false = refl
 
@@ -59,9 +48,9 @@ worker_lines worker [] = refl
 worker_lines worker (t ∷ told) =
     filter-append (λ (item : ItemLine). item.worker == worker) (line_in t) (flat_map line_in told)
     ∙ (ap (λ (l : List ItemLine). l ++ items_of (flat_map line_in told) worker) (one_line worker t) ∙ (ap (λ (l : List ItemLine). cond (t.act.worker == worker) (line_in t) [] ++ l) (worker_lines worker told) ∙ chosen (t.act.worker == worker))) where
-  chosen : (b : Bool) → cond b (line_in t) [] ++ flat_map line_in (told_by worker told) ≡ flat_map line_in (cond b (t ∷ told_by worker told) (told_by worker told))
-  chosen true = refl
-  chosen false = refl
+      chosen : (b : Bool) → cond b (line_in t) [] ++ flat_map line_in (told_by worker told) ≡ flat_map line_in (cond b (t ∷ told_by worker told) (told_by worker told))
+      chosen true = refl
+      chosen false = refl
 
 pub own_worker : (worker : ℕ) (told : List ToldAct) (place : ℕ) (t : ToldAct) → slice_get (told_by worker told) place ≡ Some t → t.act.worker ≡ worker
 own_worker worker [] place t at = absurd (none-some t at)

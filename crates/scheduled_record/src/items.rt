@@ -174,9 +174,10 @@ impl Ledger {
         let first = first_part(workload, place);
         match event {
             PoolEvent::Sweep => self.add_sweep(alloc, workload, worker, index, first, answer),
-            PoolEvent::Put(_) | PoolEvent::LookOwn | PoolEvent::LookOther(_) | PoolEvent::LookVictim(
-                _,
-            ) => {
+            PoolEvent::Put(_)
+            | PoolEvent::LookOwn
+            | PoolEvent::LookOther(_)
+            | PoolEvent::LookVictim(_) => {
                 let object = first + part_of(worker, event) as usize;
                 let event = ObjectEvent::Pool(event);
                 self.add_entry(alloc, worker, index, object, &event, answer)
@@ -322,14 +323,7 @@ impl Ledger {
         ensures { OnOk result (Adds workload.now (λ told. with_told_item workload.now index told item.now) self.old self.new) }
     {
         self.add_going(alloc, workload, item.caller)?;
-        self.add_deed(
-            alloc,
-            workload,
-            item.caller,
-            index,
-            item.object,
-            &item.deed,
-        )
+        self.add_deed(alloc, workload, item.caller, index, item.object, &item.deed)
     }
 
     /// Adds what a turn made.
@@ -408,7 +402,13 @@ impl Ledger {
             let waits = self.waiting(alloc, workload)?;
             let ended = negated(alloc, &waits)?;
             self.add_all_on_starts(alloc, workload, &ended, StartEvent::End, StartReply::Done)?;
-            self.add_all_on_starts(alloc, workload, &waits, StartEvent::Leave, StartReply::Never)?;
+            self.add_all_on_starts(
+                alloc,
+                workload,
+                &waits,
+                StartEvent::Leave,
+                StartReply::Never,
+            )?;
         }
         Ok(())
     }

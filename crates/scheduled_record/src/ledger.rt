@@ -302,12 +302,7 @@ impl Ledger {
         ensures { IfOk result (λ journal. journal ≡ record { entries = number_in self.now object + 1; released = given (Event event.now answer.now) knows.now (released_in self.now object) }) }
     {
         let entries = one_more(self.number(object))?;
-        let released = joined_if(
-            alloc,
-            frees(event, answer),
-            self.released(object),
-            knows,
-        )?;
+        let released = joined_if(alloc, frees(event, answer), self.released(object), knows)?;
         Ok(JournalState { entries, released })
     }
 

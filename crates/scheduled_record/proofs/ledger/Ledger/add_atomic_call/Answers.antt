@@ -23,11 +23,14 @@ same_maps atomic call contents true = refl
 same_maps atomic call contents false = refl
 
 pub returns : goal.returns
-returns c = both_ok c.place.result c.place.ensures.placed c.place.ensures.maps (λ placed maps plan atomic. record { stays = stays plan c.args.self.now c.place.new.self c.args.worker _ placed.workers (ap length placed.journals); kept = λ told is right.
-    let contents = (account_of plan (acts_in told)).contents in
-    let call = calls.Atomic atomic c.args.call.now in
-    let reply = ap (replied c.args.reply) (last_right plan told c.args.index c.args.worker (made_shared plan (call, answers.Atomic c.args.reply)) right) in
-    let enters = c.enters_atomic-enters.ensures (number_at contents atomic) reply in
-    called plan told c.args.index c.args.worker (record { call = call; reply = answers.Atomic c.args.reply; place = 0; entry = false; front = [] }) _ c.args.self.now c.place.new.self
-    is (subst (λ (k : ℕ). c.args.worker < k) is.workers c.requires) (subst (λ (b : Bool). IsPlaced c.args.worker c.args.index b (Some (said.Call c.args.self.now.history c.atomic_reply.result)) c.args.self.now c.place.new.self) enters placed) (ap (λ (r : PlacedReply). Some (said.Call c.args.self.now.history r)) (sym c.atomic_reply.ensures))
-    (maps ∙ (is.maps ∙ sym (same_maps atomic c.args.call.now contents (is_entry call contents)))) })
+returns c = both_ok c.place.result c.place.ensures.placed c.place.ensures.maps (λ placed maps plan atomic. record {
+  stays = stays plan c.args.self.now c.place.new.self c.args.worker _ placed.workers (ap length placed.journals);
+  kept = λ told is right.
+      let contents = (account_of plan (acts_in told)).contents in
+      let call = calls.Atomic atomic c.args.call.now in
+      let reply = ap (replied c.args.reply) (last_right plan told c.args.index c.args.worker (made_shared plan (call, answers.Atomic c.args.reply)) right) in
+      let enters = c.enters_atomic-enters.ensures (number_at contents atomic) reply in
+      called plan told c.args.index c.args.worker (record { call = call; reply = answers.Atomic c.args.reply; place = 0; entry = false; front = [] }) _ c.args.self.now c.place.new.self
+      is (subst (λ (k : ℕ). c.args.worker < k) is.workers c.requires) (subst (λ (b : Bool). IsPlaced c.args.worker c.args.index b (Some (said.Call c.args.self.now.history c.atomic_reply.result)) c.args.self.now c.place.new.self) enters placed) (ap (λ (r : PlacedReply). Some (said.Call c.args.self.now.history r)) (sym c.atomic_reply.ensures))
+      (maps ∙ (is.maps ∙ sym (same_maps atomic c.args.call.now contents (is_entry call contents))));
+})
