@@ -31,3 +31,4 @@ mod StartsSo
 mod StartsWalk
 mod ToldLemmas
 mod ToldNumbers
+mod ToldPlaces
