@@ -1,4 +1,5 @@
 mod ActsInRange
+mod Adding
 mod Begun
 mod Contents
 mod ContentsBegin
@@ -8,7 +9,9 @@ mod CursorShows
 mod Cursors
 mod EndContents
 mod InRange
+mod LedgerSteps
 mod Lists
+mod JoinedLemmas
 mod Journals
 mod Machines
 mod NoHalts
@@ -26,3 +29,6 @@ mod StartsOn
 mod StartsRun
 mod StartsSo
 mod StartsWalk
+mod ToldLemmas
+mod ToldNumbers
+mod ToldPlaces
