@@ -50,7 +50,7 @@ use Rattle.step_runner.specs.LeadsTo.{on_object, CallsTo, MapGoes, AtomicGoes, V
 use Rattle.step_runner.specs.Recorded.{made_shared, made_on, shared_calls, recorded_pool_event, recorded_event, recorded_deed, recorded_item}
 use Rattle.step_runner.specs.Spelt.{made_on_starts}
 use Rattle.scheduled_record.specs.RunActs.{acts_by, waits_still, going_acts, with_item, ending_acts, leaving_acts, closing_acts, closed_acts}
-use Rattle.scheduled_record.proofs.InRange.{is_key, has_key, IsDeedOn, AreItemsOf}
+use Rattle.scheduled_record.specs.ItemsOf.{is_key, has_key, IsDeedOn, AreItemsOf}
 
 -- ---- numbers among maps and among atomics
 

@@ -39,7 +39,7 @@ use Rattle.step_runner.specs.Objects.{kind_of, new_object}
 use Rattle.step_runner.specs.RunItems.{LeadTo}
 use Rattle.scheduled_record.specs.RunActs.{acts_of}
 use Rattle.scheduled_record.proofs.Contents.{ByKey, behind_all, ContentLaws, IsEvent, IsEntered, HoldsAt, HasLine, Holds, items_go}
-use Rattle.scheduled_record.proofs.InRange.{is_key, AreItemsOf}
+use Rattle.scheduled_record.specs.ItemsOf.{is_key, AreItemsOf}
 
 -- ---- what a record's history makes
 

@@ -44,7 +44,7 @@ use Rattle.scheduled_record.proofs.ContentsBegin.{history_makes}
 use Rattle.scheduled_record.proofs.CursorKept.{calls_kept, HasCursors, ArePlain, plain_keep, AreSteps, steps_add, cursor_keeps, same_count}
 use Rattle.scheduled_record.proofs.CursorShows.{shows_all}
 use Rattle.scheduled_record.proofs.Cursors.{Shows, new_cursor}
-use Rattle.scheduled_record.proofs.InRange.{is_key, IsDeedOn, AreItemsOf}
+use Rattle.scheduled_record.specs.ItemsOf.{is_key, IsDeedOn, AreItemsOf}
 use Rattle.scheduled_record.proofs.Lists.{made-append, shared-append}
 
 -- ---- acts that are no cursor's

@@ -28,7 +28,7 @@ use Rattle.step_runner.specs.declared.turns.object_state.ObjectState.TheVariants
 use Rattle.step_runner.specs.Ends.{numbers_of, numbers_from, maps_of, maps_from, scheduled_ends}
 use Rattle.step_runner.specs.Objects.{kind_of}
 use Rattle.scheduled_record.proofs.Contents.{ByKey, HoldsAt, HasLine, Holds, number_within}
-use Rattle.scheduled_record.proofs.InRange.{is_key}
+use Rattle.scheduled_record.specs.ItemsOf.{is_key}
 
 -- ---- a map by the names of its keys
 

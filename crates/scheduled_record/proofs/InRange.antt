@@ -56,43 +56,7 @@ use Rattle.step_runner.specs.Objects.{kind_of}
 use Rattle.step_runner.specs.PoolTurn.{looked}
 use Rattle.step_runner.specs.TurnAtObjects.{with_both, turn_on, turn_on_both, turn_by, turn_at, once_made}
 use Rattle.step_runner.specs.TurnWithin.{wait_on, load_of, add_one, is_met, unless_last_items, unless_met_items, look_items as looks_at, behind_wait_items, wait_for_items, start_item, start_items, items_by_operation, items_within}
-
--- a look names a part that is there
-abbrev pub NamesPart : ℕ → PoolEvent ℕ → Type 0
-NamesPart workers (pool_events.LookOther part) = part < workers
-NamesPart workers (pool_events.LookVictim part) = part < workers
-NamesPart workers (pool_events.Put item) = Unit {0}
-NamesPart workers pool_events.LookOwn = Unit {0}
-NamesPart workers pool_events.Sweep = Unit {0}
-
-abbrev pub HasPool : Plan → ℕ → Type 0
-HasPool plan place = (line : ObjectLine) × (slice_get plan.objects place ≡ Some line) × (line.kind ≡ kinds.Pool)
-
--- an event is on an object that is there: a pool's on a pool, and one of Starts where there is one
-abbrev pub IsEventOn : Plan → ℕ → ObjectEvent → Type 0
-IsEventOn plan place (events.Pool event) = HasPool plan place × NamesPart plan.workers event
-IsEventOn plan place (events.Starts event) = has_dormant plan ≡ true
-IsEventOn plan place event = place < length plan.objects
-
--- the keys of the workload's calls
-abbrev pub is_key : Plan → List ℕ → Bool
-is_key plan name = list_any (bytes_eq name) (all_keys plan.scripts)
-
--- a call on a map is at one of them
-abbrev pub has_key : Plan → Operation → Bool
-has_key plan (operations.Map call) = is_call_at (is_key plan) call
-has_key plan operation = true
-
-abbrev pub IsDeedOn : Plan → ℕ → Deed → Type 0
-IsDeedOn plan place (deeds.Placed operation reply) = (place < length plan.objects) × (has_key plan operation ≡ true)
-IsDeedOn plan place (deeds.Entered event answer) = IsEventOn plan place event
-
-pub record IsItemOf (plan : Plan) (item : Item) : Type 0 where
-  pub caller : item.caller < plan.workers
-  pub on : IsDeedOn plan item.object item.deed
-
-abbrev pub AreItemsOf : Plan → List Item → Type 0
-AreItemsOf plan items = AllByRecursion (IsItemOf plan) items
+use Rattle.scheduled_record.specs.ItemsOf.{NamesPart, HasPool, IsEventOn, is_key, has_key, AreItemsOf}
 
 pub both : (plan : Plan) (items more : List Item) → AreItemsOf plan items → AreItemsOf plan more → AreItemsOf plan (items ++ more)
 both plan [] more first second = second

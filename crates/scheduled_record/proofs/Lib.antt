@@ -9,6 +9,7 @@ mod Cursors
 mod EndContents
 mod InRange
 mod Lists
+mod JoinedLemmas
 mod Journals
 mod Machines
 mod NoHalts

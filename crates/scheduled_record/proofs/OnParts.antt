@@ -28,7 +28,7 @@ use Rattle.step_runner.specs.declared.turns.item.Item.{Item}
 use Rattle.step_runner.specs.Recorded.{made_shared, made_on, shared_calls, recorded_pool_event, recorded_event, recorded_deed, recorded_item}
 use Rattle.step_runner.specs.Spelt.{made_on_starts}
 use Rattle.scheduled_record.specs.RunActs.{acts_by, waits_still, going_acts, with_item, acts_of, ending_acts, leaving_acts, closing_acts, closed_acts}
-use Rattle.scheduled_record.proofs.InRange.{NamesPart, HasPool, IsEventOn, IsDeedOn, IsItemOf, AreItemsOf}
+use Rattle.scheduled_record.specs.ItemsOf.{NamesPart, HasPool, IsEventOn, IsDeedOn, IsItemOf, AreItemsOf}
 use Rattle.scheduled_record.proofs.OnObjects.{Told}
 
 -- an event of a pool is about a part: the one that it names, or its caller's own, and a sweep is about each

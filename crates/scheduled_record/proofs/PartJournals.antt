@@ -20,7 +20,7 @@ use Rattle.step_runner.specs.declared.turns.object_state.ObjectState.{ObjectStat
 use Rattle.step_runner.specs.declared.turns.object_state.ObjectState.TheVariants as states
 use Rattle.step_runner.specs.LeadsTo.{on_object, LeadsTo}
 use Rattle.step_runner.specs.Objects.{new_object}
-use Rattle.scheduled_record.proofs.InRange.{AreItemsOf}
+use Rattle.scheduled_record.specs.ItemsOf.{AreItemsOf}
 use Rattle.scheduled_record.proofs.Journals.{follows_from}
 use Rattle.scheduled_record.proofs.OnParts.{part_told}
 use Rattle.scheduled_record.proofs.PartLogs.{PartLaws, part_log, part_follows, by_part, told_on_part, from_part_log, log_callers}

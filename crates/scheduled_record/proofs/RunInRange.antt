@@ -36,7 +36,8 @@ use Rattle.step_runner.specs.RunItems.{made_by, unless_ended, all_made}
 use Rattle.step_runner.specs.State.{State, with_moment, stand_of, IsStateOf}
 use Rattle.step_runner.specs.TurnWithin.{items_within}
 use Rattle.step_runner.specs.Turns.{script_left, done_calls, closing_calls, left_once, next_call, begun_by, turn_of}
-use Rattle.scheduled_record.proofs.InRange.{HasPool, has_key, AreItemsOf, both, PoolFits, IsCallOf, within_in}
+use Rattle.scheduled_record.specs.ItemsOf.{HasPool, has_key, AreItemsOf}
+use Rattle.scheduled_record.proofs.InRange.{both, PoolFits, IsCallOf, within_in}
 
 -- ---- scripts
 

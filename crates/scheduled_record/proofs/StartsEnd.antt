@@ -16,7 +16,7 @@ use Rattle.step_runner.specs.declared.state.Stand.TheVariants.{Waits, Live, Gone
 use Rattle.step_runner.specs.State.{State, first_stand, start, stand_of, IsStateOf}
 use Rattle.step_runner.specs.Turns.{script_left, done_calls, closing_calls, left_once, has_ended}
 use Rattle.scheduled_record.specs.RunActs.{is_nothing, waits_still, ending_acts, leaving_acts, closed_acts}
-use Rattle.scheduled_record.proofs.InRange.{HasPool}
+use Rattle.scheduled_record.specs.ItemsOf.{HasPool}
 use Rattle.scheduled_record.proofs.OnObjects.{Told}
 use Rattle.scheduled_record.proofs.RunEnds.{nobody_stands}
 use Rattle.scheduled_record.proofs.StartsLed.{place_by, state_by, Leads, nothing_led, joined_led, begins, place_at, callers_by, EndsLed, ends_led, none_live, leaves_led}

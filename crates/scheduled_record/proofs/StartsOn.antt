@@ -27,7 +27,7 @@ use Rattle.step_runner.specs.declared.turns.item.Item.{Item}
 use Rattle.step_runner.specs.Recorded.{made_shared, made_on, shared_calls, recorded_pool_event, recorded_event, recorded_deed, recorded_item}
 use Rattle.step_runner.specs.Spelt.{made_on_starts}
 use Rattle.scheduled_record.specs.RunActs.{acts_by, waits_still, going_acts, with_item, ending_acts, leaving_acts}
-use Rattle.scheduled_record.proofs.InRange.{HasPool, NamesPart, IsEventOn, IsDeedOn, IsItemOf}
+use Rattle.scheduled_record.specs.ItemsOf.{HasPool, NamesPart, IsEventOn, IsDeedOn, IsItemOf}
 use Rattle.scheduled_record.proofs.OnObjects.{Told}
 
 -- what a worker is told on Starts

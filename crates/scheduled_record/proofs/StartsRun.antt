@@ -30,7 +30,8 @@ use Rattle.step_runner.specs.State.{State, with_moment, stand_of, stands_behind,
 use Rattle.step_runner.specs.TurnWithin.{done_on, turn_within, items_within}
 use Rattle.step_runner.specs.Turns.{script_left, done_calls, closing_calls, is_empty, is_behind, settled_with, begun_by, next_call, turn_of, with_event, and_then, items_of, after_items}
 use Rattle.scheduled_record.specs.RunActs.{is_nothing, with_item}
-use Rattle.scheduled_record.proofs.InRange.{HasPool, IsCallOf}
+use Rattle.scheduled_record.specs.ItemsOf.{HasPool}
+use Rattle.scheduled_record.proofs.InRange.{IsCallOf}
 use Rattle.scheduled_record.proofs.OnObjects.{Told}
 use Rattle.scheduled_record.proofs.RunInRange.{stands, live, left_all, of_worker, moment_still}
 use Rattle.scheduled_record.proofs.StartsLed.{state_by, Leads}

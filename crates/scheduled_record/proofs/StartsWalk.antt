@@ -28,7 +28,8 @@ use Rattle.step_runner.specs.TurnAtObjects.{turn_at}
 use Rattle.step_runner.specs.Items.{items_at}
 use Rattle.step_runner.specs.Turns.{is_behind, completed, settled_by, begun_by}
 use Rattle.scheduled_record.specs.RunActs.{waits_still, with_item}
-use Rattle.scheduled_record.proofs.InRange.{HasPool, IsDeedOn, IsItemOf, AreItemsOf, IsCallOf, at_in, within_in}
+use Rattle.scheduled_record.specs.ItemsOf.{HasPool, IsDeedOn, IsItemOf, AreItemsOf}
+use Rattle.scheduled_record.proofs.InRange.{IsCallOf, at_in, within_in}
 use Rattle.scheduled_record.proofs.OnObjects.{Told}
 use Rattle.scheduled_record.proofs.RunInRange.{is_one, long, fits}
 use Rattle.scheduled_record.proofs.StartsLed.{place_by, state_by, Leads, nothing_led, joined_led, goes_led, starts_led}

@@ -1,1 +1,4 @@
+pub mod ItemsOf
+pub mod Ledgers
 pub mod RunActs
+pub mod ToldItems

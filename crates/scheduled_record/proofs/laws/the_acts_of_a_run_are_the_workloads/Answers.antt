@@ -9,7 +9,7 @@ use Rattle.step_runner.specs.State.{start}
 use Rattle.step_runner.specs.Traces.{items_told, trace_of}
 use Rattle.scheduled_record.specs.RunActs.{run_acts}
 use Rattle.scheduled_record.proofs.ActsInRange.{acts_on}
-use Rattle.scheduled_record.proofs.InRange.{AreItemsOf}
+use Rattle.scheduled_record.specs.ItemsOf.{AreItemsOf}
 use Rattle.scheduled_record.proofs.RunInRange.{run_in}
 use Rattle.scheduled_record.proofs.laws.the_acts_of_a_run_are_the_workloads.Goals as goal
 

@@ -27,7 +27,7 @@ use Rattle.scheduled_record.proofs.Contents.{ByKey, behind_all, ContentLaws, Hol
 use Rattle.scheduled_record.proofs.ContentsBegin.{history_makes, lined, run_holds}
 use Rattle.scheduled_record.proofs.EndContents.{same_ends}
 use Rattle.scheduled_record.proofs.RunEnds.{ends_in as ends_of_run}
-use Rattle.scheduled_record.proofs.InRange.{is_key}
+use Rattle.scheduled_record.specs.ItemsOf.{is_key}
 use Rattle.scheduled_record.proofs.RunInRange.{run_in}
 use Rattle.scheduled_record.proofs.laws.the_calls_of_a_scheduled_run_are_a_legal_history.Goals as goal
 

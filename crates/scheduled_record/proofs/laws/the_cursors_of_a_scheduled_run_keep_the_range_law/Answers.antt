@@ -24,7 +24,7 @@ use Rattle.scheduled_record.proofs.ContentsBegin.{lined, there, begin}
 use Rattle.scheduled_record.proofs.CursorKept.{calls_kept, HasCursors}
 use Rattle.scheduled_record.proofs.CursorRun.{run_kept}
 use Rattle.scheduled_record.proofs.Cursors.{IsCursor, keeps_range}
-use Rattle.scheduled_record.proofs.InRange.{is_key}
+use Rattle.scheduled_record.specs.ItemsOf.{is_key}
 use Rattle.scheduled_record.proofs.RunInRange.{run_in}
 use Rattle.scheduled_record.proofs.laws.the_cursors_of_a_scheduled_run_keep_the_range_law.Goals as goal
 

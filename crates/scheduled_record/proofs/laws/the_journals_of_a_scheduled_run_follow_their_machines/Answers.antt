@@ -16,7 +16,7 @@ use Rattle.scheduled_record.proofs.Machines.{group_few, journal_by, object_there
 use Rattle.workload.specs.declared.object.ObjectKind.{ObjectKind}
 use Rattle.workload.specs.declared.object.ObjectKind.TheVariants as kinds
 use Rattle.run_record.specs.Objects.{first_part}
-use Rattle.scheduled_record.proofs.InRange.{AreItemsOf}
+use Rattle.scheduled_record.specs.ItemsOf.{AreItemsOf}
 use Rattle.scheduled_record.proofs.OnParts.{of_part}
 use Rattle.scheduled_record.proofs.PartJournals.{part_journal}
 use Rattle.scheduled_record.proofs.PartLogs.{PartLaws}

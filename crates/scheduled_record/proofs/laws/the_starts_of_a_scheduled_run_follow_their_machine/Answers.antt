@@ -14,7 +14,7 @@ use Rattle.step_runner.specs.State.{State, start}
 use Rattle.step_runner.specs.Traces.{items_told, trace_of}
 use Rattle.step_runner.specs.Turns.{after_items, has_ended}
 use Rattle.scheduled_record.specs.RunActs.{acts_of, run_acts, scheduled_record}
-use Rattle.scheduled_record.proofs.InRange.{HasPool}
+use Rattle.scheduled_record.specs.ItemsOf.{HasPool}
 use Rattle.scheduled_record.proofs.Journals.{follows_from}
 use Rattle.scheduled_record.proofs.RunEnds.{ends_in}
 use Rattle.scheduled_record.proofs.StartsEnd.{so_begins, closed_led}

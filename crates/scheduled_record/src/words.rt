@@ -1,0 +1,270 @@
+//! The words by which an item's line says what was done, and what was answered.
+ghost use Rattle.std.specs.Prelude.{◌≡◌};
+ghost use Rattle.record_text.specs.Written.{whole_of, number_reply, atomic_reply, map_reply, mutex_event, rw_event, cond_event, group_event, once_event, pool_event, start_event, event_of, mutex_answer, rw_answer, cond_answer, group_answer, once_answer, pool_answer, start_answer, answer_of};
+
+use mutex_core::{Arrival, MutexEvent, MutexReply, Resumption, Unlocking};
+use pool_core::{PoolEvent, PoolReply};
+use record_text::{AnswerWord, EventWord, PlacedReply, Whole};
+use run_record::{ObjectEvent, ObjectReply};
+use rw_core::{
+    Arrival as RwArrival, Resumption as RwResumption, RwEvent, RwReply, Unlocking as RwUnlocking,
+};
+use starts_core::{StartEvent, StartReply};
+use sync_types::{AtomicReply, MapReply, Number};
+use wait_cores::{GroupEvent, GroupReply, NotifyEvent, NotifyReply, OnceEvent, OnceReply};
+
+fn whole_of(number: i64) -> Whole
+    ensures { result ≡ whole_of number }
+{
+    if number < 0 {
+        Whole::Below(number.unsigned_abs())
+    } else {
+        Whole::Natural(number as u64)
+    }
+}
+
+fn number_reply(number: Number) -> PlacedReply
+    ensures { result ≡ number_reply number }
+{
+    match number {
+        Number::Int32(number) => PlacedReply::Number(whole_of(number as i64)),
+        Number::Int64(number) => PlacedReply::Number(whole_of(number)),
+        Number::Uint32(number) => PlacedReply::Number(Whole::Natural(number as u64)),
+        Number::Uint64(number) => PlacedReply::Number(Whole::Natural(number)),
+        Number::Bool(truth) => PlacedReply::Truth(truth),
+    }
+}
+
+/// The word of what an atomic replies.
+pub(crate) fn atomic_reply(reply: AtomicReply) -> PlacedReply
+    ensures { result ≡ atomic_reply reply }
+{
+    match reply {
+        AtomicReply::Done => PlacedReply::Done,
+        AtomicReply::Held(number) => number_reply(number),
+        AtomicReply::Compared(is_old) => PlacedReply::Truth(is_old),
+    }
+}
+
+/// The word of what a map replies.
+pub(crate) fn map_reply(reply: MapReply) -> PlacedReply
+    ensures { result ≡ map_reply reply }
+{
+    match reply {
+        MapReply::Done => PlacedReply::Done,
+        MapReply::Found(None) => PlacedReply::Absent,
+        MapReply::Found(Some(value)) => PlacedReply::Valued {
+            value,
+            was_there: true,
+        },
+        MapReply::Settled { value, loaded } => PlacedReply::Valued {
+            value,
+            was_there: loaded,
+        },
+        MapReply::Compared(is_old) => PlacedReply::Truth(is_old),
+    }
+}
+
+fn mutex_event(event: MutexEvent) -> EventWord
+    ensures { result ≡ mutex_event event }
+{
+    match event {
+        MutexEvent::Arrive { now } => EventWord::Arrive { now },
+        MutexEvent::Try => EventWord::Try,
+        MutexEvent::Unlock => EventWord::Unlock,
+        MutexEvent::Woken { now } => EventWord::Woken { now },
+    }
+}
+
+fn rw_event(event: RwEvent) -> EventWord
+    ensures { result ≡ rw_event event }
+{
+    match event {
+        RwEvent::ReadArrive => EventWord::ReadArrive,
+        RwEvent::ReadTry => EventWord::ReadTry,
+        RwEvent::ReadUnlock => EventWord::ReadUnlock,
+        RwEvent::WriteArrive { now } => EventWord::WriteArrive { now },
+        RwEvent::WriteTry => EventWord::WriteTry,
+        RwEvent::WriteWoken { now } => EventWord::WriteWoken { now },
+        RwEvent::WriteUnlock => EventWord::WriteUnlock,
+        RwEvent::Leave => EventWord::Leave,
+    }
+}
+
+fn cond_event(event: NotifyEvent) -> EventWord
+    ensures { result ≡ cond_event event }
+{
+    match event {
+        NotifyEvent::Ticket => EventWord::Ticket,
+        NotifyEvent::Signal => EventWord::Signal,
+        NotifyEvent::Broadcast => EventWord::Broadcast,
+        NotifyEvent::Leave => EventWord::Leave,
+    }
+}
+
+fn group_event(event: GroupEvent) -> EventWord
+    ensures { result ≡ group_event event }
+{
+    match event {
+        GroupEvent::Add(delta) => EventWord::Add {
+            amount: whole_of(delta as i64),
+        },
+        GroupEvent::Wait => EventWord::Wait,
+        GroupEvent::Leave => EventWord::Leave,
+    }
+}
+
+fn once_event<T: Copy>(event: OnceEvent<T>) -> EventWord
+    ensures { result ≡ once_event event }
+{
+    match event {
+        OnceEvent::Begin => EventWord::Begin,
+        OnceEvent::End(_) => EventWord::End,
+        OnceEvent::Leave => EventWord::Leave,
+    }
+}
+
+fn pool_event(event: PoolEvent<u64>) -> EventWord
+    ensures { result ≡ pool_event event }
+{
+    match event {
+        PoolEvent::Put(item) => EventWord::Put { item },
+        PoolEvent::LookOwn => EventWord::LookOwn,
+        PoolEvent::LookOther(_) => EventWord::LookOther,
+        PoolEvent::LookVictim(_) => EventWord::LookVictim,
+        PoolEvent::Sweep => EventWord::Sweep,
+    }
+}
+
+fn start_event(event: StartEvent) -> EventWord
+    ensures { result ≡ start_event event }
+{
+    match event {
+        StartEvent::Start(worker) => EventWord::Start { worker },
+        StartEvent::End => EventWord::End,
+        StartEvent::Leave => EventWord::Leave,
+    }
+}
+
+/// The word of an event. What the function of a once came to isn't said, nor the part of a pool.
+pub(crate) fn event_of(event: ObjectEvent) -> EventWord
+    ensures { result ≡ event_of event }
+{
+    match event {
+        ObjectEvent::Mutex(event) => mutex_event(event),
+        ObjectEvent::RwMutex(event) => rw_event(event),
+        ObjectEvent::Cond(event) => cond_event(event),
+        ObjectEvent::WaitGroup(event) => group_event(event),
+        ObjectEvent::Once(event) => once_event(event),
+        ObjectEvent::OnceFunc(event) => once_event(event),
+        ObjectEvent::OnceValue(event) => once_event(event),
+        ObjectEvent::Pool(event) => pool_event(event),
+        ObjectEvent::Starts(event) => start_event(event),
+    }
+}
+
+fn mutex_answer(reply: MutexReply) -> AnswerWord
+    ensures { result ≡ mutex_answer reply }
+{
+    match reply {
+        MutexReply::Arrived(Arrival::Acquired) => AnswerWord::Acquired,
+        MutexReply::Arrived(Arrival::Queued(_)) => AnswerWord::Queued,
+        MutexReply::Tried(taken) => AnswerWord::Tried(taken),
+        MutexReply::Unlocked(Unlocking::Free) => AnswerWord::Free,
+        MutexReply::Unlocked(Unlocking::Woke(worker)) => AnswerWord::Woke { worker },
+        MutexReply::Unlocked(Unlocking::Handed(worker)) => AnswerWord::Handed { worker },
+        MutexReply::Unlocked(Unlocking::Misuse(misuse)) => AnswerWord::Misused(misuse),
+        MutexReply::Resumed(Resumption::Acquired) => AnswerWord::Acquired,
+        MutexReply::Resumed(Resumption::Requeued) => AnswerWord::Requeued,
+        MutexReply::Still => AnswerWord::Still,
+    }
+}
+
+fn rw_answer(reply: RwReply) -> AnswerWord
+    ensures { result ≡ rw_answer reply }
+{
+    match reply {
+        RwReply::Arrived(RwArrival::Acquired) => AnswerWord::Acquired,
+        RwReply::Arrived(RwArrival::Queued) => AnswerWord::Queued,
+        RwReply::Tried(taken) => AnswerWord::Tried(taken),
+        RwReply::Unlocked(RwUnlocking::Done) => AnswerWord::Done,
+        RwReply::Unlocked(RwUnlocking::Misuse(misuse)) => AnswerWord::Misused(misuse),
+        RwReply::Resumed(RwResumption::Acquired) => AnswerWord::Acquired,
+        RwReply::Resumed(RwResumption::Queued) => AnswerWord::Queued,
+        RwReply::Resumed(RwResumption::Requeued) => AnswerWord::Requeued,
+        RwReply::Left => AnswerWord::Done,
+        RwReply::Still => AnswerWord::Still,
+    }
+}
+
+fn cond_answer(reply: NotifyReply) -> AnswerWord
+    ensures { result ≡ cond_answer reply }
+{
+    match reply {
+        NotifyReply::Done => AnswerWord::Done,
+        NotifyReply::Still => AnswerWord::Still,
+    }
+}
+
+fn group_answer(reply: GroupReply) -> AnswerWord
+    ensures { result ≡ group_answer reply }
+{
+    match reply {
+        GroupReply::Done => AnswerWord::Done,
+        GroupReply::Queued => AnswerWord::Queued,
+        GroupReply::Misused(misuse) => AnswerWord::Misused(misuse),
+        GroupReply::Still => AnswerWord::Still,
+    }
+}
+
+fn once_answer<T: Copy>(reply: OnceReply<T>) -> AnswerWord
+    ensures { result ≡ once_answer reply }
+{
+    match reply {
+        OnceReply::Run => AnswerWord::Run,
+        OnceReply::Queued => AnswerWord::Queued,
+        OnceReply::Done(_) => AnswerWord::Ran,
+        OnceReply::Ended | OnceReply::Left(_) => AnswerWord::Done,
+        OnceReply::Still => AnswerWord::Still,
+    }
+}
+
+fn pool_answer(reply: PoolReply<u64>) -> Option<AnswerWord>
+    ensures { result ≡ pool_answer reply }
+{
+    match reply {
+        PoolReply::Kept | PoolReply::Swept => Some(AnswerWord::Done),
+        PoolReply::Dropped(_) => None,
+        PoolReply::Item(item) => Some(AnswerWord::Item { item }),
+        PoolReply::Nothing => Some(AnswerWord::Nothing),
+        PoolReply::Still => Some(AnswerWord::Still),
+    }
+}
+
+fn start_answer(reply: StartReply) -> AnswerWord
+    ensures { result ≡ start_answer reply }
+{
+    match reply {
+        StartReply::Done => AnswerWord::Done,
+        StartReply::Go => AnswerWord::Go,
+        StartReply::Never => AnswerWord::Never,
+        StartReply::Still => AnswerWord::Still,
+    }
+}
+
+/// The word of an answer. That an item was dropped has none.
+pub(crate) fn answer_of(reply: ObjectReply) -> Option<AnswerWord>
+    ensures { result ≡ answer_of reply }
+{
+    match reply {
+        ObjectReply::Mutex(reply) => Some(mutex_answer(reply)),
+        ObjectReply::RwMutex(reply) => Some(rw_answer(reply)),
+        ObjectReply::Cond(reply) => Some(cond_answer(reply)),
+        ObjectReply::WaitGroup(reply) => Some(group_answer(reply)),
+        ObjectReply::Once(reply) => Some(once_answer(reply)),
+        ObjectReply::OnceFunc(reply) => Some(once_answer(reply)),
+        ObjectReply::OnceValue(reply) => Some(once_answer(reply)),
+        ObjectReply::Pool(reply) => pool_answer(reply),
+        ObjectReply::Starts(reply) => Some(start_answer(reply)),
+    }
+}
