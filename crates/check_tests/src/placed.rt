@@ -126,6 +126,9 @@ fn number_of(kind: AtomicKind, number: Whole) -> Option<Number> {
         (AtomicKind::Int64, Whole::Natural(number)) => {
             Some(Number::Int64(i64::try_from(number).ok()?))
         }
+        (AtomicKind::Int64, Whole::Below(number)) => {
+            Some(Number::Int64(i64::try_from(number).ok()?.checked_neg()?))
+        }
         _ => None,
     }
 }

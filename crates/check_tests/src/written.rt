@@ -1,6 +1,8 @@
 //! The items of lists, written back as their lines.
 use crate::texts::{made_list, text_of};
-use record_text::{Directory, ItemLine, RECORD_LINE_ROOM, Said, item_of, read_record, set_item_line};
+use record_text::{
+    Directory, ItemLine, RECORD_LINE_ROOM, Said, item_of, read_record, set_item_line,
+};
 use std::alloc::{AllocError, Global};
 use std::test::Fail;
 use workload::Workload;
@@ -15,7 +17,7 @@ const LINES: [&[u8]; 30] = [
     b"call 0 0 0 0,0 ok",
     b"call 0 1 1 1,0 1 true",
     b"call 0 1 18446744073709551615 18446744073709551615,0 - false",
-    b"call 0 2 1 2,7 -9223372036854775808",
+    b"call 0 2 1 2,7 -9223372036854775807",
     b"call 0 2 1 2,7 5",
     b"begin 0 3 7 0,0",
     b"next 0 3 7 0,0 k=18446744073709551615",
@@ -90,9 +92,10 @@ fn items_are_written_as_their_lines(rt: HostRuntime) -> Result<(), Fail> {
         let mut items = Vec::from_slice(rt.alloc(), line)?;
         items.push(b'\n')?;
         let text = text_of(rt.alloc(), WORKLOAD, &items)?;
-        match written_back(rt.alloc(), &text)? {
-            None => Err("no line")?,
-            Some(written) => assert!(rt; written.as_slice() == line, "at {line:?}: {written:?}"),
+        let written = written_back(rt.alloc(), &text)?;
+        assert!(rt; written.is_some(), "at {line:?}");
+        if let Some(written) = written {
+            assert!(rt; written.as_slice() == line, "at {line:?}: {written:?}");
         }
     }
     Ok(())

@@ -216,47 +216,51 @@ module _ (P : List ℕ → Type 0) where
   each_with_names names [] each rest = each
   each_with_names names (name ∷ more) each rest = each_with_names (with_name names name) more (each_with names name each rest.0) rest.1
 
--- a key of a call is a name
-operation_solid : (operation : Operation) → is_operation operation ≡ true → AllByRecursion Solid (operation_keys operation)
-operation_solid (operations.Map call) h = by (map_key call) (both (list_all is_name (option_to_list (map_key call))) (list_all is_value (map_values call)) h).0 where
-  by : (key : Option (List ℕ)) → list_all is_name (option_to_list key) ≡ true → AllByRecursion Solid (option_to_list key)
-  by None h = tt
-  by (Some name) h = (name_solid name (name_bytes name (both (is_name name) true h).0), tt)
-operation_solid operations.Range h = tt
-operation_solid (operations.Atomic call) h = tt
-operation_solid (operations.Mutex call) h = tt
-operation_solid (operations.RwMutex call) h = tt
-operation_solid (operations.Cond call) h = tt
-operation_solid (operations.WaitGroup call) h = tt
-operation_solid operations.Once h = tt
-operation_solid operations.OnceFunc h = tt
-operation_solid operations.OnceValue h = tt
-operation_solid (operations.Pool call) h = tt
-operation_solid (operations.Var call) h = tt
-operation_solid (operations.Composed call) h = tt
+module _ (P : List ℕ → Type 0) (named : (name : List ℕ) → is_name name ≡ true → P name) where
+  -- a key of a call is a name
+  operation_each : (operation : Operation) → is_operation operation ≡ true → AllByRecursion P (operation_keys operation)
+  operation_each (operations.Map call) h = by (map_key call) (both (list_all is_name (option_to_list (map_key call))) (list_all is_value (map_values call)) h).0 where
+    by : (key : Option (List ℕ)) → list_all is_name (option_to_list key) ≡ true → AllByRecursion P (option_to_list key)
+    by None h = tt
+    by (Some name) h = (named name (both (is_name name) true h).0, tt)
+  operation_each operations.Range h = tt
+  operation_each (operations.Atomic call) h = tt
+  operation_each (operations.Mutex call) h = tt
+  operation_each (operations.RwMutex call) h = tt
+  operation_each (operations.Cond call) h = tt
+  operation_each (operations.WaitGroup call) h = tt
+  operation_each operations.Once h = tt
+  operation_each operations.OnceFunc h = tt
+  operation_each operations.OnceValue h = tt
+  operation_each (operations.Pool call) h = tt
+  operation_each (operations.Var call) h = tt
+  operation_each (operations.Composed call) h = tt
 
-script_solid : (script : List Call) → list_all is_call script ≡ true → AllByRecursion Solid (flat_map keys_of script)
-script_solid [] h = tt
-script_solid (call ∷ script) h =
-    let parts = both (is_call call) (list_all is_call script) h in
-    each_both Solid (keys_of call) (flat_map keys_of script) (operation_solid call.operation parts.0) (script_solid script parts.1)
+  script_each : (script : List Call) → list_all is_call script ≡ true → AllByRecursion P (flat_map keys_of script)
+  script_each [] h = tt
+  script_each (call ∷ script) h =
+      let parts = both (is_call call) (list_all is_call script) h in
+      each_both P (keys_of call) (flat_map keys_of script) (operation_each call.operation parts.0) (script_each script parts.1)
 
-keys_solid : (scripts : List (List Call)) → list_all (list_all is_call) scripts ≡ true → AllByRecursion Solid (all_keys scripts)
-keys_solid [] h = tt
-keys_solid (script ∷ scripts) h =
-    let parts = both (list_all is_call script) (list_all (list_all is_call) scripts) h in
-    each_both Solid (flat_map keys_of script) (all_keys scripts) (script_solid script parts.0) (keys_solid scripts parts.1)
+  scripts_each : (scripts : List (List Call)) → list_all (list_all is_call) scripts ≡ true → AllByRecursion P (all_keys scripts)
+  scripts_each [] h = tt
+  scripts_each (script ∷ scripts) h =
+      let parts = both (list_all is_call script) (list_all (list_all is_call) scripts) h in
+      each_both P (flat_map keys_of script) (all_keys scripts) (script_each script parts.0) (scripts_each scripts parts.1)
 
-name_of_key : (keys : List (List ℕ)) (key : ℕ) → AllByRecursion Solid keys → Solid (key_name keys key)
-name_of_key [] key each = refl
-name_of_key (name ∷ keys) zero each = each.0
-name_of_key (name ∷ keys) (suc key) each = name_of_key keys key each.1
+  pub keys_each : (scripts : List (List Call)) → list_all (list_all is_call) scripts ≡ true → AllByRecursion P (keys_in scripts)
+  keys_each scripts h = each_with_names P [] (all_keys scripts) tt (scripts_each scripts h)
+
+pub name_of_key : (P : List ℕ → Type 0) (keys : List (List ℕ)) (key : ℕ) → P [] → AllByRecursion P keys → P (key_name keys key)
+name_of_key P [] key nothing each = nothing
+name_of_key P (name ∷ keys) zero nothing each = each.0
+name_of_key P (name ∷ keys) (suc key) nothing each = name_of_key P keys key nothing each.1
 
 shown_solid : (keys : List (List ℕ)) (shown : Option (ℕ × ℕ)) → AllByRecursion Solid keys → is_shown keys shown ≡ true → Solid (shown_word keys shown)
 shown_solid keys None each fits = refl
 shown_solid keys (Some p) each fits =
     let parts = both (nat_lt p.0 (length keys)) (has_64_bits p.1) fits in
-    solid_both (key_name keys p.0 ++ codes "=") (decimal p.1) (solid_both (key_name keys p.0) (codes "=") (name_of_key keys p.0 each) refl) (number_solid p.1 (small p.1 parts.1))
+    solid_both (key_name keys p.0 ++ codes "=") (decimal p.1) (solid_both (key_name keys p.0) (codes "=") (name_of_key Solid keys p.0 refl each) refl) (number_solid p.1 (small p.1 parts.1))
 
 -- ---- objects
 
@@ -297,7 +301,7 @@ pub readable_solid : (plan : Plan) → IsReadable plan → AreSolid plan
 readable_solid plan readable = record {
   few = readable.few_workers;
   short = λ worker. short_script plan.scripts worker readable.call_room;
-  keys = each_with_names Solid [] (all_keys plan.scripts) tt (keys_solid plan.scripts readable.calls);
+  keys = keys_each Solid (λ name is. name_solid name (name_bytes name is)) plan.scripts readable.calls;
   objects = objects_solid plan readable.few_workers readable.objects;
 }
 

@@ -31,3 +31,4 @@ pub mod KeysShown
 pub mod LawfulLines
 pub mod WrittenTexts
 pub mod WholeTexts
+pub mod ShortLines

@@ -93,11 +93,14 @@ get_past [] worker past = refl
 get_past (s ∷ scripts) zero past = absurd (omega (arith, past))
 get_past (s ∷ scripts) (suc worker) past = get_past scripts worker (omega (arith, past))
 
-pub short_script : (scripts : List (List Call)) (worker : ℕ) → call_count scripts ≤ MAX_CALLS → length (get_or scripts worker []) < 2 ^ 64
-short_script scripts worker room = by (nat_lt worker (length scripts)) refl where
-  by : (b : Bool) → nat_lt worker (length scripts) ≡ b → length (get_or scripts worker []) < 2 ^ 64
+pub few_calls : (scripts : List (List Call)) (worker : ℕ) → call_count scripts ≤ MAX_CALLS → length (get_or scripts worker []) ≤ MAX_CALLS
+few_calls scripts worker room = by (nat_lt worker (length scripts)) refl where
+  by : (b : Bool) → nat_lt worker (length scripts) ≡ b → length (get_or scripts worker []) ≤ MAX_CALLS
   by true h = let low = get_or-le-sum_by length scripts worker [] (ltb-true worker (length scripts) h) in omega (arith, low, room)
   by false h = let none = ap length (get_past scripts worker (ltb-false worker (length scripts) h)) in omega (arith, none)
+
+pub short_script : (scripts : List (List Call)) (worker : ℕ) → call_count scripts ≤ MAX_CALLS → length (get_or scripts worker []) < 2 ^ 64
+short_script scripts worker room = omega (arith, few_calls scripts worker room)
 
 pub reads_plain : (bytes : List ℕ) (plan : Plan) → Reads bytes plan → AreNumbered (keys_in plan.scripts) → IsPlain plan
 reads_plain bytes plan reads numbered =

@@ -45,7 +45,7 @@ front_added old middle new first rest front is begun added =
 abbrev HasShort : Named → Type 0
 HasShort named = length named.word ≤ 53
 
-name_short : (name : List ℕ) → is_name name ≡ true → length name ≤ 32
+pub name_short : (name : List ℕ) → is_name name ≡ true → length name ≤ 32
 name_short [] h = absurd (false≢true h)
 name_short (first ∷ rest) h =
     let parts = both (nat_le (length (first ∷ rest)) MAX_NAME && is_letter first) (list_all is_name_byte rest) h in

@@ -17,7 +17,7 @@ ghost use Rattle.record_text.specs.Numbers.{is_front};
 ghost use Rattle.record_text.specs.Refused.{IsRecordRefused};
 ghost use Rattle.record_text.specs.Told.{Told, AreItemLines, IsTold, is_short_line, outcome_line};
 ghost use Rattle.record_text.specs.Written.{front_in, item_line};
-ghost use Rattle.record_text.specs.WrittenLines.{record_text};
+ghost use Rattle.record_text.specs.WrittenLines.{has_small_counts, record_text};
 
 use crate::directory::Named;
 use crate::event::JournalKind;
@@ -92,6 +92,12 @@ pub fn an_item_is_read_back_from_its_line()
     ensures only { (plan : Plan) (line : List ℕ) (item : ItemLine) → IsItemLine plan line item → line ≡ item_text plan item }
     ensures lines { (plan : Plan) (items : List ItemLine) → IsReadable plan → list_all (is_item plan) items ≡ true → list_all is_short_line (map (item_text plan) items) ≡ true
         → AreItemLines plan (map (item_text plan) items) items }
+{}
+
+/// The line of an item in range has at most 400 bytes, where what it counts is below 10,000,000: its place in the history or in a
+/// journal, and the numbers of its front. So only who counts further has to look at the lines' lengths.
+pub fn a_line_of_small_counts_is_short()
+    ensures { (plan : Plan) (item : ItemLine) → IsReadable plan → is_item plan item ≡ true → has_small_counts item ≡ true → length (item_text plan item) ≤ MAX_RECORD_LINE }
 {}
 
 /// What is written is read back: the text of a record tells the workload, the items, the misuse and the lines of the report that it was
