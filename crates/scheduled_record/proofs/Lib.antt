@@ -7,6 +7,7 @@ mod CursorRun
 mod CursorShows
 mod Cursors
 mod EndContents
+mod Gaining
 mod InRange
 mod Lists
 mod JoinedLemmas
@@ -17,10 +18,12 @@ mod OnObjects
 mod OnParts
 mod PartJournals
 mod PartLogs
+mod ReportLines
 mod RunEnds
 mod RunInRange
 mod RunLines
 mod RunLists
+mod ShortLines
 mod StartsEnd
 mod StartsLed
 mod StartsOn

@@ -1,11 +1,12 @@
 //! The record of a run by schedule, as a text.
-ghost use Rattle.std.specs.Prelude.{◌≡◌, ◌≤◌, ◌++◌, ◌&&◌, true, false, length, map, vec_capacity, IfOk, None};
+ghost use Rattle.std.specs.Prelude.{◌≡◌, ◌≤◌, ◌++◌, true, false, drop, length, vec_capacity, IfOk, None};
 ghost use Rattle.std.specs.List.{list_all};
 ghost use Rattle.script_calls.specs.Outcome.{shows_to};
 ghost use Rattle.workload.specs.Dialect.{has_variables};
+ghost use Rattle.workload.specs.Lines.{lines_of};
 ghost use Rattle.workload.specs.declared.limits.TheConstants.{MAX_KEYS};
 ghost use Rattle.run_report.specs.ReportText.{report_text};
-ghost use Rattle.record_text.specs.Told.{joined};
+ghost use Rattle.record_text.specs.Told.{is_short_line, joined};
 ghost use Rattle.record_text.specs.WrittenLines.{record_lines};
 ghost use Rattle.step_runner.specs.Traces.{trace_of};
 ghost use Rattle.scheduled_record.specs.Pushed.{Gains, IsWritten, have_few_numbers};
@@ -25,6 +26,19 @@ use step_runner::laws::each_run_has_one_outcome;
 use step_runner::{Trace, TracedRun, traced};
 use workload::Workload;
 use workload_text::{LINE_ROOM, print};
+
+/// Whether the lines of a text from an index on have at most 400 bytes.
+#[tactic(auto, using(crate::proofs::ShortLines::long_lines))]
+fn has_short_lines_from(text: &[u8], start: usize) -> bool
+    requires within { length text.now ≤ MAX_RECORD }
+    requires start { start ≤ length text.now }
+    ensures { result ≡ list_all is_short_line (lines_of (drop start text.now)) }
+{
+    match first_long(&text[start..], 0) {
+        None => true,
+        Some(_) => false,
+    }
+}
 
 /// Adds all that stands behind the workload's text, in the room of a line.
 fn push_in_room(
@@ -48,7 +62,7 @@ fn push_in_room(
     if !push_report(text, workload, outcome, line)? {
         return Ok(false);
     }
-    Ok(first_long(&text[start..], 0).is_none())
+    Ok(has_short_lines_from(text, start))
 }
 
 /// Adds all that stands behind the workload's text.
@@ -120,11 +134,7 @@ pub fn recorded(alloc: Global, workload: &Workload) -> Result<Recorded, AllocErr
 {
     each_run_has_one_outcome();
     workload.workers();
-    let TracedRun {
-        outcome,
-        trace,
-        ..
-    } = traced(alloc, workload)?;
+    let TracedRun { outcome, trace, .. } = traced(alloc, workload)?;
     match &outcome {
         Outcome::Done(_) => match text_of(alloc, workload, &outcome, &trace)? {
             None => Ok(Recorded::TooLong),
