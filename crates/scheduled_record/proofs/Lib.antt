@@ -1,4 +1,5 @@
 mod ActsInRange
+mod Adding
 mod Begun
 mod Contents
 mod ContentsBegin
@@ -9,6 +10,7 @@ mod Cursors
 mod EndContents
 mod Gaining
 mod InRange
+mod LedgerSteps
 mod Lists
 mod JoinedLemmas
 mod Journals
@@ -30,3 +32,5 @@ mod StartsOn
 mod StartsRun
 mod StartsSo
 mod StartsWalk
+mod ToldLemmas
+mod ToldNumbers

@@ -1,5 +1,5 @@
 -- The items of a run by schedule, as lines tell them: out of the same acts as its record, in the order of its turns.
-use Rattle.std.specs.Prelude.{ℕ, List, [], ◌∷◌, ◌++◌, map, length, fold, Option, Some, None}
+use Rattle.std.specs.Prelude.{ℕ, ◌==◌, List, [], ◌∷◌, ◌++◌, map, filter, length, fold, Option, Some, None}
 use Rattle.std.specs.List.{flat_map}
 use Rattle.std.specs.Option.{option_to_list}
 use Rattle.workload.specs.Plan.{Plan}
@@ -58,6 +58,10 @@ told_with (t ∷ told) (act ∷ acts) = record { index = t.index; act = act } �
 -- each act with its place in the history, its front and its number in its journal
 abbrev pub kept_told : Plan → List ToldAct → List ToldAct
 kept_told plan told = told_with told (account_of plan (acts_in told)).acts
+
+-- those of one worker, in its order
+abbrev pub told_by : ℕ → List ToldAct → List ToldAct
+told_by worker told = filter (λ (t : ToldAct). t.act.worker == worker) told
 
 -- the number of an entry in its journal: all entries before it are known to it. Another item has none
 abbrev pub number_of : Made → ℕ

@@ -1,7 +1,8 @@
 //! What is so of the record of a run by schedule that is done. Each law is the contract of a function that does nothing.
-ghost use Rattle.std.specs.Prelude.{◌≡◌, ℕ, ◌+◌, ◌<◌, ◌≤◌, true, false, List, [], length, All, Some, slice_get, slice_index};
+ghost use Rattle.std.specs.Prelude.{◌≡◌, ℕ, ◌+◌, ◌<◌, ◌≤◌, true, false, List, [], length, All, Some, slice_get, slice_index, map};
 ghost use Rattle.std.specs.FinMap.{FinMap};
-ghost use Rattle.std.specs.List.{list_any};
+ghost use Rattle.std.specs.List.{flat_map, list_any};
+ghost use Rattle.std.specs.Option.{option_to_list};
 ghost use Rattle.std.specs.Ordering.{nat_cmp};
 ghost use Rattle.std.specs.Cmp.Lexicographic.{slice_cmp};
 ghost use Rattle.std.specs.Str.{bytes_eq};
@@ -39,11 +40,16 @@ ghost use Rattle.step_runner.specs.declared.turns.object_state.ObjectState.TheVa
 ghost use Rattle.step_runner.specs.Outcomes.{StepsTo};
 ghost use Rattle.step_runner.specs.RunItems.{all_made};
 ghost use Rattle.step_runner.specs.State.{start};
-ghost use Rattle.step_runner.specs.Traces.{trace_of};
+ghost use Rattle.step_runner.specs.Traces.{items_told, trace_of};
 ghost use Rattle.step_runner.specs.Turns.{after_items};
 ghost use Rattle.kept_record.specs.Acts.{AreActsOf, AreAnswered};
 ghost use Rattle.kept_record.specs.Keeping.{record_of};
+ghost use Rattle.scheduled_record.specs.ItemsOf.{AreItemsOf};
+ghost use Rattle.record_text.specs.LawfulItems.{IsNumbered};
+ghost use Rattle.record_text.specs.Told.{items_of};
+ghost use Rattle.record_text.specs.Written.{item_line};
 ghost use Rattle.scheduled_record.specs.RunActs.{acts_of, run_acts, scheduled_record};
+ghost use Rattle.scheduled_record.specs.ToldItems.{ToldAct, acts_in, told_run, kept_told, told_by, number_of, line_in, told_items};
 
 use kept_record::laws as kept;
 use pool_core::laws::keeps_its_parts;
@@ -59,6 +65,14 @@ use sync_types::Name;
 use sync_types::laws::atomics::only_entries_change;
 use sync_types::laws::renaming::maps_with_renamed_keys_answer_the_same;
 use workload::laws::keys_are_numbered_by_first_appearance;
+
+/// All items of a run are of the workload's workers, on objects of the workload: an event on Starts only where some worker waits to be started, and a pool's on a pool.
+pub fn the_items_of_a_run_are_the_workloads()
+    ensures { (plan : Plan) → is_valid plan ≡ true → AreItemsOf plan (items_told (trace_of plan)) }
+{
+    validity();
+    a_trace_tells_what_turns_made();
+}
 
 /// All acts of a run are of the workload's workers, on objects of the workload.
 pub fn the_acts_of_a_run_are_the_workloads()
@@ -247,4 +261,18 @@ pub fn a_record_explains_every_scheduled_run_that_is_done()
     a_step_of_a_scheduled_run_follows_its_begin();
     the_cursors_of_a_scheduled_run_keep_the_range_law();
     the_starts_of_a_scheduled_run_follow_their_machine();
+}
+
+/// The items of a run by schedule are told out of the acts of its record, in their order. Those of one worker are the lines of its list in the
+/// record, one by one: each with the place in the script of the call that it is told to be of, and with its number in its object's journal.
+pub fn the_items_of_a_run_are_lines_of_its_record()
+    ensures acts { (plan : Plan) → acts_in (told_run plan (trace_of plan)) ≡ run_acts plan (trace_of plan) }
+    ensures lists { (plan : Plan) (worker : ℕ) → is_valid plan ≡ true → map (λ t. t.act.made) (told_by worker (kept_told plan (told_run plan (trace_of plan)))) ≡ list_of (scheduled_record plan) worker }
+    ensures lines { (plan : Plan) (worker : ℕ) → items_of (told_items plan) worker ≡ flat_map line_in (told_by worker (kept_told plan (told_run plan (trace_of plan)))) }
+    ensures own { (plan : Plan) (worker place : ℕ) (t : ToldAct) → slice_get (told_by worker (kept_told plan (told_run plan (trace_of plan)))) place ≡ Some t → line_in t ≡ option_to_list (item_line worker t.index (number_of t.act.made) t.act.made) }
+    ensures numbers { (plan : Plan) (worker place : ℕ) (t : ToldAct) → is_valid plan ≡ true → slice_get (told_by worker (kept_told plan (told_run plan (trace_of plan)))) place ≡ Some t
+        → IsNumbered (scheduled_record plan) (number_of t.act.made) t.act.made }
+{
+    the_acts_of_a_run_are_the_workloads();
+    kept::a_record_has_what_was_made();
 }

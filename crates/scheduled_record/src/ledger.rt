@@ -2,9 +2,9 @@
 ghost use Rattle.std.specs.Prelude.{◌≡◌, ◌+◌, ◌<◌, ℕ, List, [], ◌∷◌, ◌++◌, true, cond, map, length, set, None, Some, slice_get, slice_index_or, slice_set, IfOk, OnOk};
 ghost use Rattle.std.specs.FinMap.{empty};
 ghost use Rattle.std.specs.List.{range_with_len};
-ghost use Rattle.sync_types.specs.SequentialAtomic.{is_atomic_entry};
+ghost use Rattle.sync_types.specs.declared.atomic_object.Number.{Number};
+ghost use Rattle.sync_types.specs.SequentialAtomic.{is_atomic_entry, atomic_reply as atomic_answer};
 ghost use Rattle.sync_types.specs.SequentialMap.{is_map_entry, map_after};
-ghost use Rattle.sync_types.specs.SequentialAtomic as atomics;
 ghost use Rattle.sync_model.specs.declared.item.SharedCall.TheVariants as calls;
 ghost use Rattle.sync_model.specs.declared.item.SharedReply.TheVariants as answers;
 ghost use Rattle.run_record.specs.MapKind.{step_showing, cursor_showing};
@@ -13,9 +13,9 @@ ghost use Rattle.workload.specs.Keys.{keys_in, key_number};
 ghost use Rattle.workload.specs.Plan.{Plan};
 ghost use Rattle.record_text.specs.Written.{entry_said};
 ghost use Rattle.sync_model.specs.declared.journal.Deed.TheVariants.{Event};
-ghost use Rattle.kept_record.specs.Keeping.{joined};
+ghost use Rattle.kept_record.specs.Keeping.{given};
 ghost use Rattle.step_runner.specs.Recorded.{made_shared, made_on};
-ghost use Rattle.scheduled_record.specs.Ledgers.{IsKept, IsLedger, Adds, known_in, line_by, IsNoted, IsPlaced};
+ghost use Rattle.scheduled_record.specs.Ledgers.{Adds, adding, waits_in, known_in, IsNoted, IsPlaced, IsEntered, number_in, released_in, learnt_in};
 ghost use Rattle.scheduled_record.specs.RunActs.{acts_by};
 ghost use Rattle.scheduled_record.specs.ToldItems.{ToldAct, told_as};
 
@@ -85,7 +85,7 @@ fn enter_map(maps: &mut Vec<NumberMap>, map: usize, call: &MapCall<u32>) -> Resu
 
 /// Whether a call on an atomic that answers this is an entry of the history.
 fn enters_atomic(call: &AtomicCall, reply: &AtomicReply) -> bool
-    ensures { (held : atomics.Number) → reply.now ≡ atomics.atomic_reply call.now held → result ≡ is_atomic_entry call.now held }
+    ensures { (held : Number) → reply.now ≡ atomic_answer call.now held → result ≡ is_atomic_entry call.now held }
 {
     match call {
         AtomicCall::Load => false,
@@ -168,7 +168,7 @@ impl Ledger {
         reply: MapReply,
     ) -> Result<(), AllocError>
         requires { worker < length self.old.workers.items }
-        ensures { OnOk result ((plan : Plan) → Adds plan (λ told. told ++ told_as index (acts_by worker (made_shared plan (calls.Map map call.now, answers.Map reply) ∷ []))) self.old self.new) }
+        ensures { OnOk result ((plan : Plan) → Adds plan (adding index worker (made_shared plan (calls.Map map call.now, answers.Map reply) ∷ [])) self.old self.new) }
     {
         let enters = enters_map(alloc, &self.maps, map, call);
         let said = Said::Call {
@@ -192,7 +192,7 @@ impl Ledger {
         reply: AtomicReply,
     ) -> Result<(), AllocError>
         requires { worker < length self.old.workers.items }
-        ensures { OnOk result ((plan : Plan) (atomic : ℕ) → Adds plan (λ told. told ++ told_as index (acts_by worker (made_shared plan (calls.Atomic atomic call.now, answers.Atomic reply) ∷ []))) self.old self.new) }
+        ensures { OnOk result ((plan : Plan) (atomic : ℕ) → Adds plan (adding index worker (made_shared plan (calls.Atomic atomic call.now, answers.Atomic reply) ∷ [])) self.old self.new) }
     {
         let said = Said::Call {
             place: self.history,
@@ -203,14 +203,14 @@ impl Ledger {
     }
 
     /// Adds the call that begins a cursor.
-    fn add_begin(
+    pub(crate) fn add_begin(
         &mut self,
         alloc: Global,
         worker: u32,
         index: Option<usize>,
     ) -> Result<(), AllocError>
         requires { worker < length self.old.workers.items }
-        ensures { OnOk result ((plan : Plan) (map : ℕ) → Adds plan (λ told. told ++ told_as index (acts_by worker (made_shared plan (calls.Begin map, answers.Begun) ∷ []))) self.old self.new) }
+        ensures { OnOk result ((plan : Plan) (map : ℕ) → Adds plan (adding index worker (made_shared plan (calls.Begin map, answers.Begun) ∷ [])) self.old self.new) }
     {
         let said = Said::Begin {
             reach: self.history,
@@ -219,7 +219,7 @@ impl Ledger {
     }
 
     /// Adds a step of a cursor.
-    fn add_step(
+    pub(crate) fn add_step(
         &mut self,
         alloc: Global,
         worker: u32,
@@ -227,13 +227,106 @@ impl Ledger {
         shown: Option<(u32, u64)>,
     ) -> Result<(), AllocError>
         requires { worker < length self.old.workers.items }
-        ensures { OnOk result ((plan : Plan) (begin : ℕ) → Adds plan (λ told. told ++ told_as index (acts_by worker (made_shared plan (calls.Next begin, answers.Shown shown) ∷ []))) self.old self.new) }
+        ensures { OnOk result ((plan : Plan) (begin : ℕ) → Adds plan (adding index worker (made_shared plan (calls.Next begin, answers.Shown shown) ∷ [])) self.old self.new) }
     {
         let said = Said::Next {
             reach: self.history,
             shown,
         };
         self.place(alloc, worker, index, false, Some(said))
+    }
+
+    /// What a worker knows.
+    fn known(&self, worker: u32) -> &[u64]
+        requires { worker < length self.now.workers.items }
+        ensures { result.now ≡ known_in self.now worker }
+    {
+        self.workers[worker as usize].front.as_slice()
+    }
+
+    /// Whether a worker waits to be started, and has made nothing yet.
+    pub(crate) fn waits(&self, worker: u32) -> bool
+        requires { worker < length self.now.workers.items }
+        ensures { result ≡ waits_in self.now worker }
+    {
+        self.workers[worker as usize].waits
+    }
+
+    /// What was released on an object.
+    fn released(&self, object: usize) -> &[u64]
+        requires { object < length self.now.journals.items }
+        ensures { result.now ≡ released_in self.now object }
+    {
+        self.journals[object].released.as_slice()
+    }
+
+    /// How many entries an object's journal has.
+    fn number(&self, object: usize) -> u64
+        requires { object < length self.now.journals.items }
+        ensures { result ≡ number_in self.now object }
+    {
+        self.journals[object].entries
+    }
+
+    /// What a worker knows behind an entry of an object's journal: an event that acquires takes in what was released there.
+    fn learn(
+        &self,
+        alloc: Global,
+        worker: u32,
+        object: usize,
+        event: &ObjectEvent,
+        answer: &ObjectReply,
+    ) -> Result<Seq<u64>, AllocError>
+        requires worker { worker < length self.now.workers.items }
+        requires object { object < length self.now.journals.items }
+        ensures { IfOk result (λ knows. knows ≡ learnt_in self.now worker object (Event event.now answer.now)) }
+    {
+        joined_if(
+            alloc,
+            takes(event, answer),
+            self.known(worker),
+            self.released(object),
+        )
+    }
+
+    /// The object's journal behind one entry more, at which its worker knows this: an event that releases adds it.
+    fn give(
+        &self,
+        alloc: Global,
+        object: usize,
+        event: &ObjectEvent,
+        answer: &ObjectReply,
+        knows: &[u64],
+    ) -> Result<JournalState, AllocError>
+        requires { object < length self.now.journals.items }
+        ensures { IfOk result (λ journal. journal ≡ record { entries = number_in self.now object + 1; released = given (Event event.now answer.now) knows.now (released_in self.now object) }) }
+    {
+        let entries = one_more(self.number(object))?;
+        let released = joined_if(alloc, frees(event, answer), self.released(object), knows)?;
+        Ok(JournalState { entries, released })
+    }
+
+    /// Makes an entry of the journal of the object with a number.
+    fn enter(
+        &mut self,
+        alloc: Global,
+        worker: u32,
+        index: Option<usize>,
+        object: usize,
+        event: &ObjectEvent,
+        answer: &ObjectReply,
+    ) -> Result<(), AllocError>
+        requires worker { worker < length self.old.workers.items }
+        requires object { object < length self.old.journals.items }
+        ensures { OnOk result (IsEntered worker index object (Event event.now answer.now) self.old self.new) }
+    {
+        let knows = self.learn(alloc, worker, object, event, answer)?;
+        let journal = self.give(alloc, object, event, answer, knows.as_slice())?;
+        let front = copied(alloc, knows.as_slice())?;
+        let said = entry_said(object, self.number(object), event, answer);
+        self.note(worker, index, knows, front, said)?;
+        self.journals[object] = journal;
+        Ok(())
     }
 
     /// Adds an entry of the journal of the object with a number.
@@ -248,20 +341,8 @@ impl Ledger {
     ) -> Result<(), AllocError>
         requires worker { worker < length self.old.workers.items }
         requires object { object < length self.old.journals.items }
-        ensures { OnOk result ((plan : Plan) → Adds plan (λ told. told ++ told_as index (acts_by worker (made_on plan object worker event.now answer.now ∷ []))) self.old self.new) }
+        ensures { OnOk result ((plan : Plan) → Adds plan (adding index worker (made_on plan object worker event.now answer.now ∷ [])) self.old self.new) }
     {
-        let known = self.workers[worker as usize].front.as_slice();
-        let released = self.journals[object].released.as_slice();
-        let entries = self.journals[object].entries;
-        let knows = joined_if(alloc, takes(event, answer), known, released)?;
-        let released = joined_if(alloc, frees(event, answer), released, knows.as_slice())?;
-        let front = copied(alloc, knows.as_slice())?;
-        let said = entry_said(object, entries, event, answer);
-        self.note(worker, index, knows, front, said)?;
-        self.journals[object] = JournalState {
-            entries: one_more(entries)?,
-            released,
-        };
-        Ok(())
+        self.enter(alloc, worker, index, object, event, answer)
     }
 }

@@ -3,6 +3,7 @@
 
 mod edges;
 mod fronts;
+pub mod items;
 pub mod laws;
 mod ledger;
 mod pieces;
