@@ -11,6 +11,8 @@ mod machines;
 #[cfg(test)]
 mod placed;
 #[cfg(test)]
+mod recorded_runs;
+#[cfg(test)]
 mod texts;
 #[cfg(test)]
 mod written;

@@ -65,8 +65,11 @@ first_fails old new piece next other short more first = record {
 -- ---- many
 
 -- one more of a list
+pub item_at : {X : Type 0} (xs : List X) (i : ℕ) (d : X) → i < length xs → drop i xs ≡ get_or xs i d ∷ drop (i + 1) xs
+item_at xs i d below = drop-cons xs i d below ∙ ap (λ (n : ℕ). get_or xs i d ∷ drop n xs) (sym (add-one i))
+
 pub item_next : {X : Type 0} (xs : List X) (i : ℕ) (x : X) → i < length xs → x ≡ get_or xs i x → drop i xs ≡ x ∷ drop (i + 1) xs
-item_next xs i x below is = drop-cons xs i x below ∙ ap (λ y. y ∷ drop (suc i) xs) (sym is) ∙ ap (λ n. x ∷ drop n xs) (sym (add-one i))
+item_next {X} xs i x below is = item_at xs i x below ∙ ap (λ (y : X). y ∷ drop (i + 1) xs) (sym is)
 
 -- of a whole text this is left, with its lines short or not; what was made so far keeps the limit
 pub record Going (old now whole left : List ℕ) (all rest : Bool) : Type 0 where

@@ -16,6 +16,7 @@ mod JoinedLemmas
 mod Journals
 mod Machines
 mod NoHalts
+mod OneRecord
 mod OnObjects
 mod OnParts
 mod PartJournals
@@ -34,3 +35,4 @@ mod StartsSo
 mod StartsWalk
 mod ToldLemmas
 mod ToldNumbers
+mod WideFronts

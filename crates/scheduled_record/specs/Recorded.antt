@@ -9,7 +9,7 @@ use Rattle.run_report.specs.ReportText.{report_text}
 use Rattle.record_text.specs.declared.item_line.ItemLine.{ItemLine}
 use Rattle.record_text.specs.declared.limits.TheConstants.{MAX_ITEMS, MAX_RECORD}
 use Rattle.record_text.specs.ItemLines.{item_text}
-use Rattle.record_text.specs.Told.{is_short_line}
+use Rattle.record_text.specs.Told.{Told, is_short_line}
 use Rattle.record_text.specs.WrittenLines.{record_text}
 use Rattle.step_runner.specs.Outcomes.{StepsTo}
 use Rattle.scheduled_record.specs.declared.recorded_run.Recorded.{Recorded}
@@ -42,3 +42,15 @@ IsRecorded plan (Text bytes) = (left : Report) × IsDoneWithin plan true left ×
 IsRecorded plan TooLong = (left : Report) × IsDoneWithin plan false left
 IsRecorded plan (Misused misuse) = (left : Report) × StepsTo plan (outcomes.Misused left misuse)
 IsRecorded plan Deadlocked = (left : Report) × StepsTo plan (outcomes.Deadlocked left)
+
+-- what the text of a run that is done tells
+abbrev pub told_done : Plan → Report → Told
+told_done plan left = record { plan = plan; items = told_items plan; misused = None; report = lines_of (done_report plan left) }
+
+-- the same text, or the same reason that there is none
+abbrev pub AreSame : Recorded → Recorded → Type 0
+AreSame (Text bytes) (Text other) = bytes.items ≡ other.items
+AreSame TooLong TooLong = Unit {0}
+AreSame (Misused misuse) (Misused other) = misuse ≡ other
+AreSame Deadlocked Deadlocked = Unit {0}
+AreSame one other = ⊥

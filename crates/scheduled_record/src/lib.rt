@@ -10,7 +10,7 @@ mod pieces;
 mod recorded_run;
 mod recording;
 mod report_pieces;
-mod told;
+pub mod text_laws;
 mod words;
 
 pub use recorded_run::Recorded;

@@ -13,10 +13,11 @@ ghost use Rattle.scheduled_record.specs.Pushed.{Gains, IsWritten, have_few_numbe
 ghost use Rattle.scheduled_record.specs.Recorded.{IsRecorded, has_short_lines};
 ghost use Rattle.scheduled_record.specs.ToldItems.{told_items};
 
+use crate::items::items_of_run;
 use crate::pieces::push_record_lines;
 use crate::recorded_run::Recorded;
 use crate::report_pieces::push_report;
-use crate::told::items_of_run;
+use crate::text_laws::an_item_of_a_run_has_a_number_for_each_worker;
 use record_text::ItemLine;
 use record_text::limits::{MAX_ITEMS, MAX_RECORD};
 use record_text::text::first_long;
@@ -27,14 +28,23 @@ use step_runner::{Trace, TracedRun, traced};
 use workload::Workload;
 use workload_text::{LINE_ROOM, print};
 
-/// Whether the lines of a text from an index on have at most 400 bytes.
-#[tactic(auto, using(crate::proofs::ShortLines::long_lines))]
+/// The text from an index on.
+fn text_from(text: &[u8], start: usize) -> &[u8]
+    requires { start ≤ length text.now }
+    ensures text { result.now ≡ drop start text.now }
+    ensures less { length result.now ≤ length text.now }
+{
+    &text[start..]
+}
+
+/// Whether the lines of a text from an index on have at most 400 bytes each.
 fn has_short_lines_from(text: &[u8], start: usize) -> bool
     requires within { length text.now ≤ MAX_RECORD }
     requires start { start ≤ length text.now }
     ensures { result ≡ list_all is_short_line (lines_of (drop start text.now)) }
 {
-    match first_long(&text[start..], 0) {
+    let report = text_from(text, start);
+    match first_long(report, 0) {
         None => true,
         Some(_) => false,
     }
@@ -120,6 +130,8 @@ fn text_of(
     requires pairs { shows_to MAX_KEYS outcome.now ≡ true }
     ensures { IfOk result (IsWritten workload.now (told_items workload.now) (report_text workload.now outcome.now)) }
 {
+    an_item_of_a_run_has_a_number_for_each_worker();
+    workload.workers();
     let items = items_of_run(alloc, workload, trace)?;
     written(alloc, workload, items.as_slice(), outcome)
 }

@@ -35,4 +35,5 @@ returns c =
     let short = list_all is_short_line (map (item_text plan) items) in
     let first = subst (λ fits. Gains old mid lines short fits) c.if-not-branch.false c.in_ok-push_record_lines.ensures.gains in
     let second = subst (λ fits. Gains mid new report true fits) c.if-not-branch-2.false c.in_ok-push_report.ensures in
-    all_gained old mid new lines report c.deref.result.now short c.has_short_lines_from.result c.len-start.result first second c.len-start.ensures c.deref.ensures.value c.has_short_lines_from.ensures
+    let start : c.len-start.result ≡ length mid = omega (arith, c.len-start.ensures) in
+    all_gained old mid new lines report c.deref.result.now short c.has_short_lines_from.result c.len-start.result first second start c.deref.ensures.value c.has_short_lines_from.ensures
