@@ -8,6 +8,7 @@ mod CursorRun
 mod CursorShows
 mod Cursors
 mod EndContents
+mod Gaining
 mod InRange
 mod LedgerSteps
 mod Lists
@@ -15,14 +16,17 @@ mod JoinedLemmas
 mod Journals
 mod Machines
 mod NoHalts
+mod OneRecord
 mod OnObjects
 mod OnParts
 mod PartJournals
 mod PartLogs
+mod ReportLines
 mod RunEnds
 mod RunInRange
 mod RunLines
 mod RunLists
+mod ShortLines
 mod StartsEnd
 mod StartsLed
 mod StartsOn
@@ -32,3 +36,4 @@ mod StartsWalk
 mod ToldLemmas
 mod ToldNumbers
 mod ToldPlaces
+mod WideFronts

@@ -1,4 +1,6 @@
 pub mod ItemsOf
 pub mod Ledgers
+pub mod Pushed
+pub mod Recorded
 pub mod RunActs
 pub mod ToldItems

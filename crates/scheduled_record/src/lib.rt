@@ -1,4 +1,4 @@
-//! The record of a run by schedule, as a function of its trace: what explains the outcome of a run that is done.
+//! The record of a run by schedule, as a function of its trace: what explains the outcome of a run that is done, and its text.
 #![tactic(auto)]
 
 mod edges;
@@ -6,4 +6,12 @@ mod fronts;
 pub mod items;
 pub mod laws;
 mod ledger;
+mod pieces;
+mod recorded_run;
+mod recording;
+mod report_pieces;
+pub mod text_laws;
 mod words;
+
+pub use recorded_run::Recorded;
+pub use recording::recorded;
