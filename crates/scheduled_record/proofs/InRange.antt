@@ -1,11 +1,9 @@
 -- What a turn makes is made by its worker, on objects that are there.
 use Rattle.std.proofs.Common.{◌≡◌, ℕ, ℤ, zero, suc, ◌+◌, ◌*◌, ◌%◌, ◌<◌, nat_lt, Bool, true, false, if◌then◌else◌, List, [], ◌∷◌, ◌++◌, length, set, Option, Some, None, Result, Ok, slice_get, refl, sym, ◌∙◌, subst, arith, mod-lt}
-use Rattle.std.specs.List.{AllByRecursion, list_any}
+use Rattle.std.specs.List.{AllByRecursion}
 use Rattle.std.specs.Option.{option_map_or}
-use Rattle.std.specs.Str.{bytes_eq}
 use Rattle.std.proofs.lemmas.List.{length-set}
 use Rattle.std.proofs.lemmas.Option.{slice_get_within}
-use Rattle.sync_types.specs.Renaming.{is_call_at}
 use Rattle.sync_types.specs.declared.atomic_object.AtomicCall.TheVariants.{Load, Add}
 use Rattle.sync_types.specs.declared.atomic_object.Number.{Number}
 use Rattle.sync_types.specs.declared.atomic_object.Number.TheVariants as numbers
@@ -18,7 +16,6 @@ use Rattle.script_calls.specs.declared.call.Operation.TheVariants as operations
 use Rattle.script_calls.specs.declared.call.Reply.{Reply}
 use Rattle.pool_core.specs.Looks.{look}
 use Rattle.pool_core.specs.PoolMachine as pool
-use Rattle.pool_core.specs.declared.pool_event.PoolEvent.{PoolEvent}
 use Rattle.pool_core.specs.declared.pool_event.PoolEvent.TheVariants as pool_events
 use Rattle.mutex_core.specs.MutexMachine as mutex
 use Rattle.rw_core.specs.RwMachine as rw
@@ -35,9 +32,6 @@ use Rattle.protocols.specs.declared.once.OnceOutcome.{OnceOutcome}
 use Rattle.protocols.specs.declared.once.OnceOutcome.TheVariants.{Ended}
 use Rattle.protocols.specs.declared.pool.PoolStage.{PoolStage}
 use Rattle.run_record.specs.PoolKind.{stage_of}
-use Rattle.workload.specs.declared.object.ObjectKind.TheVariants as kinds
-use Rattle.workload.specs.declared.object.ObjectLine.{ObjectLine}
-use Rattle.workload.specs.Draft.{all_keys}
 use Rattle.workload.specs.Plan.{Plan, has_dormant, reference_of}
 use Rattle.run_record.specs.declared.entered.ObjectEvent.{ObjectEvent}
 use Rattle.run_record.specs.declared.entered.ObjectEvent.TheVariants as events
@@ -45,8 +39,6 @@ use Rattle.run_record.specs.declared.entered.ObjectReply.{ObjectReply}
 use Rattle.run_record.specs.declared.entered.ObjectReply.TheVariants as answered
 use Rattle.step_runner.specs.declared.turns.answer.Answer.{Answer}
 use Rattle.step_runner.specs.declared.turns.answer.Answer.TheVariants as answers
-use Rattle.step_runner.specs.declared.turns.item.Deed.{Deed}
-use Rattle.step_runner.specs.declared.turns.item.Deed.TheVariants as deeds
 use Rattle.step_runner.specs.declared.turns.item.Item.{Item}
 use Rattle.step_runner.specs.declared.turns.object_state.ObjectState.{ObjectState}
 use Rattle.step_runner.specs.declared.turns.object_state.ObjectState.TheVariants as states
@@ -56,7 +48,7 @@ use Rattle.step_runner.specs.Objects.{kind_of}
 use Rattle.step_runner.specs.PoolTurn.{looked}
 use Rattle.step_runner.specs.TurnAtObjects.{with_both, turn_on, turn_on_both, turn_by, turn_at, once_made}
 use Rattle.step_runner.specs.TurnWithin.{wait_on, load_of, add_one, is_met, unless_last_items, unless_met_items, look_items as looks_at, behind_wait_items, wait_for_items, start_item, start_items, items_by_operation, items_within}
-use Rattle.scheduled_record.specs.ItemsOf.{NamesPart, HasPool, IsEventOn, is_key, has_key, AreItemsOf}
+use Rattle.scheduled_record.specs.ItemsOf.{NamesPart, HasPool, IsEventOn, has_key, AreItemsOf}
 
 pub both : (plan : Plan) (items more : List Item) → AreItemsOf plan items → AreItemsOf plan more → AreItemsOf plan (items ++ more)
 both plan [] more first second = second

@@ -1,6 +1,6 @@
 -- One act more in a ledger.
-use Rattle.std.proofs.Common.{◌≡◌, ◌≢◌, ◌⊎◌, ℕ, zero, suc, ◌+◌, ◌<◌, ◌==◌, ◌&&◌, Bool, true, false, cond, List, [], ◌∷◌, ◌++◌, map, flat_map, fold, length, get_or, set, Option, Some, None, slice_get, slice_set, inl, inr, refl, sym, ap, ◌∙◌, subst, append-nil, arith}
-use Rattle.std.specs.Option.{option_map_or, option_to_list}
+use Rattle.std.proofs.Common.{◌≡◌, ◌≢◌, ◌⊎◌, ℕ, zero, suc, ◌+◌, ◌<◌, ◌==◌, ◌&&◌, Bool, true, false, cond, List, [], ◌∷◌, ◌++◌, map, flat_map, fold, length, get_or, set, Option, Some, slice_get, slice_set, inl, inr, refl, sym, ap, ◌∙◌, subst, append-nil, arith}
+use Rattle.std.specs.Option.{option_map_or}
 use Rattle.std.proofs.lemmas.Bool.Decides.{eqb_tells}
 use Rattle.std.proofs.lemmas.Bool.{eq-eqb, ne_eqb}
 use Rattle.std.proofs.lemmas.List.{map-append, length-map, length-append, length-set, length-replicate, get_or-set_same, get_or-set_other}
@@ -9,12 +9,10 @@ use Rattle.std.proofs.lemmas.Grind.{flat_map-append}
 use Rattle.std.proofs.lemmas.Option.{none-some, same_Some, slice_get-get_or}
 use Rattle.std.specs.Prelude.{Result, Ok, Err, OnOk}
 use Rattle.sync_model.specs.declared.item.Item.{Item}
-use Rattle.sync_model.specs.Journal.{is_such}
 use Rattle.sync_model.specs.SharedHistory.{Contents, is_entry, shared_after}
 use Rattle.workload.specs.Plan.{Plan, is_dormant}
 use Rattle.run_record.specs.declared.made.Made.{Made}
 use Rattle.run_record.specs.declared.made.Made.TheVariants.{Shared, Entered}
-use Rattle.run_record.specs.Edges.{frees, takes}
 use Rattle.run_record.specs.Objects.{contents_of, object_count}
 use Rattle.run_record.specs.Record.{ObjectEntry, entries_in}
 use Rattle.record_text.specs.declared.item_line.ItemLine.{ItemLine}

@@ -10,15 +10,16 @@ mod Cursors
 mod EndContents
 mod Gaining
 mod InRange
-mod LedgerSteps
-mod Lists
+mod InRangeLines
 mod JoinedLemmas
 mod Journals
+mod LedgerSteps
+mod Lists
 mod Machines
 mod NoHalts
-mod OneRecord
 mod OnObjects
 mod OnParts
+mod OneRecord
 mod PartJournals
 mod PartLogs
 mod ReportLines
@@ -35,4 +36,5 @@ mod StartsSo
 mod StartsWalk
 mod ToldLemmas
 mod ToldNumbers
+mod ToldPlaces
 mod WideFronts

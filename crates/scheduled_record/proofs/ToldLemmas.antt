@@ -1,5 +1,5 @@
 -- The items that are told of a run, and the lists of its record.
-use Rattle.std.proofs.Common.{◌≡◌, ℕ, zero, suc, ◌+◌, ◌==◌, Bool, true, false, cond, List, [], ◌∷◌, ◌++◌, map, filter, flat_map, fold, length, Option, Some, None, slice_get, refl, sym, ap, ◌∙◌, subst, append-nil, arith}
+use Rattle.std.proofs.Common.{◌≡◌, ℕ, zero, suc, ◌==◌, Bool, true, false, cond, List, [], ◌∷◌, ◌++◌, map, filter, flat_map, length, Option, Some, None, slice_get, refl, sym, ap, ◌∙◌, subst, arith}
 use Rattle.std.specs.Option.{option_to_list, option_map}
 use Rattle.std.proofs.lemmas.Bool.{eqb-true}
 use Rattle.std.proofs.lemmas.List.{length-map}
@@ -10,9 +10,9 @@ use Rattle.run_record.specs.declared.made.Made.{Made}
 use Rattle.record_text.specs.declared.item_line.ItemLine.{ItemLine}
 use Rattle.record_text.specs.declared.item_line.Said.{Said}
 use Rattle.record_text.specs.Told.{items_of}
-use Rattle.record_text.specs.Written.{item_line, made_said, front_in}
+use Rattle.record_text.specs.Written.{made_said, front_in}
 use Rattle.kept_record.specs.Keeping.{Act, made_by, account_of}
-use Rattle.scheduled_record.specs.ToldItems.{ToldAct, acts_in, told_with, kept_told, told_by, number_of, line_in, lines_told}
+use Rattle.scheduled_record.specs.ToldItems.{ToldAct, acts_in, told_with, kept_told, told_by, number_of, line_in}
 use Rattle.scheduled_record.proofs.LedgerSteps.{acts_long}
 
 -- ---- lists

@@ -1,5 +1,5 @@
 -- What is kept of a run while its items are told, and how it stands for the account of the run's record.
-use Rattle.std.specs.Prelude.{◌≡◌, ℕ, ◌+◌, Bool, true, false, cond, List, [], ◌∷◌, ◌++◌, length, set, Option, Some, slice_get}
+use Rattle.std.specs.Prelude.{◌≡◌, ℕ, ◌+◌, Bool, true, false, cond, List, [], ◌++◌, length, set, Option, Some, slice_get}
 use Rattle.std.specs.Option.{option_map, option_map_or, option_to_list}
 use Rattle.sync_model.specs.declared.journal.Deed.{Deed}
 use Rattle.workload.specs.Plan.{Plan, is_dormant}

@@ -1,5 +1,5 @@
 //! What is so of the record of a run by schedule that is done. Each law is the contract of a function that does nothing.
-ghost use Rattle.std.specs.Prelude.{◌≡◌, ℕ, ◌+◌, ◌<◌, ◌≤◌, true, false, List, [], length, All, Some, slice_get, slice_index, map};
+ghost use Rattle.std.specs.Prelude.{◌≡◌, ℕ, ◌+◌, ◌<◌, ◌≤◌, true, false, List, [], length, All, Some, slice_get, slice_index, map, get_or};
 ghost use Rattle.std.specs.FinMap.{FinMap};
 ghost use Rattle.std.specs.List.{flat_map, list_any};
 ghost use Rattle.std.specs.Option.{option_to_list};
@@ -45,6 +45,7 @@ ghost use Rattle.step_runner.specs.Turns.{after_items};
 ghost use Rattle.kept_record.specs.Acts.{AreActsOf, AreAnswered};
 ghost use Rattle.kept_record.specs.Keeping.{record_of};
 ghost use Rattle.scheduled_record.specs.ItemsOf.{AreItemsOf};
+ghost use Rattle.record_text.specs.ItemLines.{is_index};
 ghost use Rattle.record_text.specs.LawfulItems.{IsNumbered};
 ghost use Rattle.record_text.specs.Told.{items_of};
 ghost use Rattle.record_text.specs.Written.{item_line};
@@ -264,7 +265,7 @@ pub fn a_record_explains_every_scheduled_run_that_is_done()
 }
 
 /// The items of a run by schedule are told out of the acts of its record, in their order. Those of one worker are the lines of its list in the
-/// record, one by one: each with the place in the script of the call that it is told to be of, and with its number in its object's journal.
+/// record, one by one: each with the place of a call in the script, or with none, and with its number in its object's journal.
 pub fn the_items_of_a_run_are_lines_of_its_record()
     ensures acts { (plan : Plan) → acts_in (told_run plan (trace_of plan)) ≡ run_acts plan (trace_of plan) }
     ensures lists { (plan : Plan) (worker : ℕ) → is_valid plan ≡ true → map (λ t. t.act.made) (told_by worker (kept_told plan (told_run plan (trace_of plan)))) ≡ list_of (scheduled_record plan) worker }
@@ -272,7 +273,10 @@ pub fn the_items_of_a_run_are_lines_of_its_record()
     ensures own { (plan : Plan) (worker place : ℕ) (t : ToldAct) → slice_get (told_by worker (kept_told plan (told_run plan (trace_of plan)))) place ≡ Some t → line_in t ≡ option_to_list (item_line worker t.index (number_of t.act.made) t.act.made) }
     ensures numbers { (plan : Plan) (worker place : ℕ) (t : ToldAct) → is_valid plan ≡ true → slice_get (told_by worker (kept_told plan (told_run plan (trace_of plan)))) place ≡ Some t
         → IsNumbered (scheduled_record plan) (number_of t.act.made) t.act.made }
+    ensures places { (plan : Plan) (worker place : ℕ) (t : ToldAct) → is_valid plan ≡ true → slice_get (told_by worker (kept_told plan (told_run plan (trace_of plan)))) place ≡ Some t
+        → is_index (length (get_or plan.scripts worker [])) t.index ≡ true }
 {
     the_acts_of_a_run_are_the_workloads();
+    a_trace_tells_what_turns_made();
     kept::a_record_has_what_was_made();
 }

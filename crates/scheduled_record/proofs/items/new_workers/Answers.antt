@@ -1,6 +1,5 @@
 use Rattle.std.proofs.Common.{◌≡◌, ℕ, Bool, List, [], ◌∷◌, ◌++◌, map, replicate, sym, ap, ◌∙◌}
 use Rattle.std.specs.List.{range_with_len}
-use Rattle.workload.specs.Plan.{is_dormant}
 use Rattle.scheduled_record.specs.declared.ledger.WorkerState.{WorkerState}
 use Rattle.scheduled_record.proofs.Adding.{first_worker, over_more}
 use Rattle.scheduled_record.proofs.items.new_workers.Goals as goal

@@ -1,7 +1,6 @@
 use Rattle.std.proofs.Common.{◌≡◌, map, replicate}
 use Rattle.std.specs.List.{range_with_len}
 use Rattle.workload.specs.Plan.{is_dormant}
-use Rattle.scheduled_record.specs.declared.ledger.WorkerState.{WorkerState}
 use Rattle.scheduled_record.proofs.items.new_workers.Given as goal
 
 abbrev pub invariant-loop-worker : goal.invariant-loop-worker

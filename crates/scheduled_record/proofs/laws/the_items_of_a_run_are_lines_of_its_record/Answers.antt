@@ -1,6 +1,9 @@
-use Rattle.std.proofs.Common.{◌≡◌, ℕ, true, List, slice_get, sym, ap, ◌∙◌}
+use Rattle.std.proofs.Common.{◌≡◌, ℕ, true, List, ◌++◌, slice_get, sym, ap, ◌∙◌}
 use Rattle.std.specs.Option.{option_to_list}
 use Rattle.workload.specs.Plan.{Plan, is_valid}
+use Rattle.workload.specs.declared.turn.Turn.{Turn}
+use Rattle.step_runner.specs.declared.trace.TraceItem.{TraceItem}
+use Rattle.step_runner.specs.Outcomes.{rounds}
 use Rattle.run_record.specs.declared.made.Made.{Made}
 use Rattle.run_record.specs.declared.made.Made.TheVariants.{Shared, Entered}
 use Rattle.run_record.specs.Record.{ObjectEntry}
@@ -12,6 +15,7 @@ use Rattle.scheduled_record.specs.RunActs.{run_acts, scheduled_record}
 use Rattle.scheduled_record.specs.ToldItems.{acts_in, told_run, kept_told, number_of}
 use Rattle.scheduled_record.proofs.Adding.{run_told}
 use Rattle.scheduled_record.proofs.ToldLemmas.{kept_lists, worker_lines, own_worker}
+use Rattle.scheduled_record.proofs.ToldPlaces.{told_there}
 use Rattle.scheduled_record.proofs.ToldNumbers.{StandsIn, stands}
 use Rattle.scheduled_record.proofs.laws.the_items_of_a_run_are_lines_of_its_record.Goals as goal
 
@@ -39,3 +43,13 @@ module _ (c : goal.After-a_record_has_what_was_made) (plan : Plan) (valid : is_v
 
 pub returns-clause-numbers : goal.returns-clause-numbers
 returns-clause-numbers c plan worker place t valid at = numbered c plan valid t.act.made (stands plan worker (told_run plan (trace_of plan)) place t at)
+
+pub returns-clause-places : goal.returns-clause-places
+returns-clause-places c plan worker place t valid at =
+    let whole = c.a_trace_tells_what_turns_made.ensures.whole plan in
+    let turns : List Turn = plan.schedule ++ rounds whole.0 plan.workers in
+    told_there plan (trace_of plan)
+    (λ number one at_one.
+    let here = ap (λ (trace : List TraceItem). slice_get trace number) (sym whole.1) ∙ at_one in
+    (c.a_trace_tells_what_turns_made.ensures.places plan turns number one here, c.a_trace_tells_what_turns_made.ensures.callers plan turns number one here))
+    (c.a_record_has_what_was_made.ensures.acts plan (acts_in (told_run plan (trace_of plan)))) worker place t at

@@ -1,8 +1,8 @@
-use Rattle.std.proofs.Common.{◌≡◌, ℕ, ◌<◌, List, map, take, length, sym, ap, ◌∙◌, subst, refl}
+use Rattle.std.proofs.Common.{ℕ, ◌<◌, List, length, sym, ap, ◌∙◌, subst, refl}
 use Rattle.std.proofs.lemmas.List.{take_all}
 use Rattle.std.proofs.lemmas.Option.{slice_get_read}
-use Rattle.workload.specs.Keys.{keys_in, key_number}
-use Rattle.scheduled_record.specs.Ledgers.{IsLedgerOf, Adds, adding}
+use Rattle.workload.specs.Keys.{key_number}
+use Rattle.scheduled_record.specs.Ledgers.{Adds, adding}
 use Rattle.scheduled_record.proofs.Adding.{steps_of, steps_more}
 use Rattle.scheduled_record.proofs.ledger.Ledger.add_steps.Goals as goal
 

@@ -1,4 +1,4 @@
-use Rattle.std.proofs.Common.{length, refl, ap, ◌∙◌}
+use Rattle.std.proofs.Common.{length, refl}
 use Rattle.std.proofs.lemmas.Option.{slice_get_read}
 use Rattle.scheduled_record.specs.ToldItems.{with_told_item}
 use Rattle.scheduled_record.proofs.Adding.{folds_more, item_lengthens}
