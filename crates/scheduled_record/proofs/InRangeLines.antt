@@ -1,9 +1,9 @@
 -- The items that are told of a run that is done are in range, where their numbers have 64 bits.
-use Rattle.std.proofs.Common.{◌≡◌, ℕ, zero, suc, ◌==◌, ◌&&◌, Bool, true, false, cond, List, [], ◌∷◌, ◌++◌, map, filter, flat_map, length, Option, Some, None, slice_get, refl, sym, ap, ◌∙◌, subst, eq-eqb}
+use Rattle.std.proofs.Common.{◌≡◌, ℕ, zero, suc, ◌==◌, ◌&&◌, Bool, true, false, cond, List, [], ◌∷◌, ◌++◌, flat_map, length, Option, Some, None, slice_get, refl, sym, ap, ◌∙◌, subst, eq-eqb}
 use Rattle.std.specs.List.{AllByRecursion, list_all}
 use Rattle.std.specs.Option.{option_to_list, option_map}
 use Rattle.std.proofs.lemmas.List.Folds.{list_all-append}
-use Rattle.std.proofs.lemmas.Option.{none-some, same_Some}
+use Rattle.std.proofs.lemmas.Option.{same_Some}
 use Rattle.workload.specs.Plan.{Plan}
 use Rattle.run_record.specs.Record.{front_of}
 use Rattle.record_text.specs.declared.item_line.ItemLine.{ItemLine}
@@ -29,11 +29,6 @@ each_told P (t ∷ told) all = (all t.act.worker 0 t here, each_told P told late
     chosen : (b : Bool) → (t.act.worker == worker) ≡ b → P u
     chosen true is = all worker (suc i) u (ap (λ (b : Bool). slice_get (cond b (t ∷ told_by worker told) (told_by worker told)) (suc i)) is ∙ at)
     chosen false is = all worker i u (ap (λ (b : Bool). slice_get (cond b (t ∷ told_by worker told) (told_by worker told)) i) is ∙ at)
-
-pub map_at : {A B : Type 0} (f : A → B) (xs : List A) (i : ℕ) (x : A) → slice_get xs i ≡ Some x → slice_get (map f xs) i ≡ Some (f x)
-map_at f [] i x at = absurd (none-some x at)
-map_at f (y ∷ xs) zero x at = ap (option_map f) at
-map_at f (y ∷ xs) (suc i) x at = map_at f xs i x at
 
 -- the line of an item, where it has one, which is in range where its numbers have 64 bits
 abbrev pub HasLine : Plan → ℕ → ToldAct → Type 0

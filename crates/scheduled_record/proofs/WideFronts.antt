@@ -31,7 +31,7 @@ each_act P (act ∷ acts) all = (all act.worker 0 act.made here, each_act P acts
 abbrev pub is_wide : ℕ → ItemLine → Bool
 is_wide workers item = length item.front == workers
 
-same_front : (made : Made) → front_in made ≡ front_of made
+pub same_front : (made : Made) → front_in made ≡ front_of made
 same_front (Shared x) = refl
 same_front (Entered object entry) = refl
 

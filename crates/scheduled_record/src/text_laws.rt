@@ -18,9 +18,7 @@ use crate::laws::{
 };
 use crate::recorded_run::Recorded;
 use kept_record::laws::{a_front_has_a_number_for_each_worker, a_record_has_what_was_made};
-use record_text::laws::{
-    a_written_text_tells_what_was_written, each_item_of_a_record_has_a_line,
-};
+use record_text::laws::{a_written_text_tells_what_was_written, each_item_of_a_record_has_a_line};
 use step_runner::laws::each_run_has_one_outcome;
 
 /// Each item that is told of a run by schedule has a front with a number for each worker.
