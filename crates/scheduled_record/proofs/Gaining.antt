@@ -1,5 +1,5 @@
 -- A text that is made piece by piece within a limit.
-use Rattle.std.proofs.Common.{◌≡◌, ℕ, ◌+◌, ◌<◌, ◌≤◌, Bool, true, false, ◌&&◌, nat_le, List, [], ◌∷◌, ◌++◌, length, drop, get_or, suc, add-one, refl, sym, ap, ◌∙◌, arith, append_assoc, append-nil, length-append, inl, inr, le-leb, leb-true}
+use Rattle.std.proofs.Common.{◌≡◌, ℕ, ◌+◌, ◌<◌, ◌≤◌, Bool, true, false, ◌&&◌, nat_le, List, [], ◌∷◌, ◌++◌, length, drop, get_or, add-one, refl, sym, ap, ◌∙◌, arith, append_assoc, append-nil, length-append, le-leb, leb-true}
 use Rattle.std.proofs.Math.Seq.{drop-cons}
 use Rattle.std.proofs.lemmas.Bool.{false≢true}
 use Rattle.record_text.specs.declared.limits.TheConstants.{MAX_RECORD}
