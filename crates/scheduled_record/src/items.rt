@@ -1,12 +1,10 @@
 //! The items of a run by schedule, as lines tell them.
-ghost use Rattle.std.specs.Prelude.{◌≡◌, ◌+◌, ◌^◌, ◌<◌, ℕ, List, [], ◌∷◌, ◌++◌, true, false, not, cond, map, filter, flat_map, get_or, length, fold, replicate, count_by, None, IfOk, OnOk};
+ghost use Rattle.std.specs.Prelude.{◌≡◌, ◌+◌, ◌^◌, ◌<◌, ℕ, [], ◌++◌, true, false, not, cond, map, filter, flat_map, get_or, length, fold, replicate, count_by, None, IfOk, OnOk};
 ghost use Rattle.std.specs.FinMap.{empty};
 ghost use Rattle.std.specs.List.{range_with_len};
-ghost use Rattle.sync_model.specs.declared.item.SharedReply.TheVariants as answers;
-ghost use Rattle.sync_model.specs.declared.item.SharedCall.TheVariants as calls;
 ghost use Rattle.pool_core.specs.declared.pool_event.PoolEvent.TheVariants as pool_events;
 ghost use Rattle.workload.specs.Keys.{keys_in, key_number};
-ghost use Rattle.workload.specs.Plan.{Plan, has_dormant, is_dormant};
+ghost use Rattle.workload.specs.Plan.{has_dormant, is_dormant};
 ghost use Rattle.run_record.specs.declared.entered.ObjectEvent.TheVariants as events;
 ghost use Rattle.run_record.specs.MapKind.{step_showing, cursor_showing};
 ghost use Rattle.run_record.specs.Objects.{is_map, object_count, first_part};
@@ -17,7 +15,7 @@ ghost use Rattle.step_runner.specs.Traces.{items_told, trace_of};
 ghost use Rattle.scheduled_record.specs.ItemsOf.{HasPool, NamesPart, IsEventOn, IsDeedOn, IsItemOf, AreItemsOf};
 ghost use Rattle.scheduled_record.specs.Ledgers.{IsLedgerOf, IsKept, Adds, adding, waits_in};
 ghost use Rattle.scheduled_record.specs.RunActs.{acts_by, going_acts};
-ghost use Rattle.scheduled_record.specs.ToldItems.{ToldAct, acts_in, told_as, told_items, with_told_item, with_told_turn, closed_told};
+ghost use Rattle.scheduled_record.specs.ToldItems.{acts_in, told_as, told_items, with_told_item, with_told_turn, closed_told};
 
 use crate::fronts::none_known;
 use crate::laws::{

@@ -1,23 +1,17 @@
 //! What is kept of a run while its items are told: fronts, the history's length, journals, and the lines so far.
-ghost use Rattle.std.specs.Prelude.{◌≡◌, ◌+◌, ◌<◌, ℕ, List, [], ◌∷◌, ◌++◌, true, cond, map, length, set, None, Some, slice_get, slice_index_or, slice_set, IfOk, OnOk};
+ghost use Rattle.std.specs.Prelude.{◌≡◌, ◌+◌, ◌<◌, ℕ, [], ◌∷◌, true, map, length, None, Some, slice_index_or, slice_set, IfOk, OnOk};
 ghost use Rattle.std.specs.FinMap.{empty};
-ghost use Rattle.std.specs.List.{range_with_len};
 ghost use Rattle.sync_types.specs.declared.atomic_object.Number.{Number};
 ghost use Rattle.sync_types.specs.SequentialAtomic.{is_atomic_entry, atomic_reply as atomic_answer};
 ghost use Rattle.sync_types.specs.SequentialMap.{is_map_entry, map_after};
 ghost use Rattle.sync_model.specs.declared.item.SharedCall.TheVariants as calls;
 ghost use Rattle.sync_model.specs.declared.item.SharedReply.TheVariants as answers;
-ghost use Rattle.run_record.specs.MapKind.{step_showing, cursor_showing};
-ghost use Rattle.run_record.specs.Objects.{object_count};
-ghost use Rattle.workload.specs.Keys.{keys_in, key_number};
 ghost use Rattle.workload.specs.Plan.{Plan};
 ghost use Rattle.record_text.specs.Written.{entry_said};
 ghost use Rattle.sync_model.specs.declared.journal.Deed.TheVariants.{Event};
 ghost use Rattle.kept_record.specs.Keeping.{given};
 ghost use Rattle.step_runner.specs.Recorded.{made_shared, made_on};
 ghost use Rattle.scheduled_record.specs.Ledgers.{Adds, adding, waits_in, known_in, IsNoted, IsPlaced, IsEntered, number_in, released_in, learnt_in};
-ghost use Rattle.scheduled_record.specs.RunActs.{acts_by};
-ghost use Rattle.scheduled_record.specs.ToldItems.{ToldAct, told_as};
 
 use crate::edges::{frees, takes};
 use crate::fronts::{copied, counted, joined_if, one_more};
