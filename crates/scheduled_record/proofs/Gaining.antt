@@ -1,5 +1,5 @@
 -- A text that is made piece by piece within a limit.
-use Rattle.std.proofs.Common.{◌≡◌, ℕ, ◌+◌, ◌<◌, ◌≤◌, Bool, true, false, ◌&&◌, nat_le, List, [], ◌∷◌, ◌++◌, length, drop, get_or, suc, add-one, refl, sym, ap, ◌∙◌, arith, append_assoc, append-nil, length-append, inl, inr, le-leb, leb-true}
+use Rattle.std.proofs.Common.{◌≡◌, ℕ, ◌+◌, ◌<◌, ◌≤◌, Bool, true, false, ◌&&◌, nat_le, List, [], ◌∷◌, ◌++◌, length, drop, get_or, add-one, refl, sym, ap, ◌∙◌, arith, append_assoc, append-nil, length-append, le-leb, leb-true}
 use Rattle.std.proofs.Math.Seq.{drop-cons}
 use Rattle.std.proofs.lemmas.Bool.{false≢true}
 use Rattle.record_text.specs.declared.limits.TheConstants.{MAX_RECORD}
@@ -40,13 +40,6 @@ together old mid piece next short more here is =
     let both = placed old piece short here in
     ap (λ n. nat_le n MAX_RECORD && more) long ∙ ap (λ b. nat_le (length old + length (piece ++ next)) MAX_RECORD && (b && more)) (sym both.1)
 
--- where one doesn't fit, it doesn't fit with more behind it either
-apart : (old piece next : List ℕ) (short more : Bool) → has_place old piece short ≡ false → has_place old (piece ++ next) (short && more) ≡ false
-apart old piece next short more here = not_true _ (λ all.
-    let both = placed old (piece ++ next) (short && more) all in
-    let fit : length old + length piece ≤ MAX_RECORD = omega (arith, both.0, length-append piece next) in
-    false≢true (sym here ∙ has_place_where old piece short fit (and_true short more both.1).0))
-
 pub gains_both : (old mid new piece next : List ℕ) (short more all : Bool) → Gains old mid piece short true → Gains mid new next more all → Gains old new (piece ++ next) (short && more) all
 gains_both old mid new piece next short more all first second =
     let mid_is : mid ≡ old ++ piece = first.gained refl in
@@ -54,13 +47,6 @@ gains_both old mid new piece next short more all first second =
       is = second.is ∙ together old mid piece next short more (sym first.is) mid_is;
       gained = λ yes. second.gained yes ∙ ap (λ t. t ++ next) mid_is ∙ append_assoc old piece next;
     }
-
--- the first of two doesn't fit
-pub first_fails : (old new piece next other : List ℕ) (short more : Bool) → Gains old new piece short false → Gains old other (piece ++ next) (short && more) false
-first_fails old new piece next other short more first = record {
-  is = sym (apart old piece next short more (sym first.is));
-  gained = λ yes. absurd (false≢true yes);
-}
 
 -- ---- many
 
@@ -76,20 +62,6 @@ pub record Going (old now whole left : List ℕ) (all rest : Bool) : Type 0 wher
   pub text : now ++ left ≡ old ++ whole
   pub short : all ≡ rest
   pub kept : length now ≤ MAX_RECORD
-
-pub goes_from : (old whole : List ℕ) (all : Bool) → length old ≤ MAX_RECORD → Going old old whole whole all all
-goes_from old whole all kept = record { text = refl; short = refl; kept = kept }
-
--- one more piece
-pub goes_on : (old now new whole left piece after : List ℕ) (all rest short more : Bool) → left ≡ piece ++ after → rest ≡ (short && more) → Gains now new piece short true → Going old now whole left all rest → Going old new whole after all more
-goes_on old now new whole left piece after all rest short more cut is gains goes =
-    let new_is : new ≡ now ++ piece = gains.gained refl in
-    let both = placed now piece short (sym gains.is) in
-    record {
-      text = ap (λ t. t ++ after) new_is ∙ append_assoc now piece after ∙ ap (λ t. now ++ t) (sym cut) ∙ goes.text;
-      short = goes.short ∙ is ∙ ap (λ b. b && more) both.1;
-      kept = omega (arith, both.0, ap length new_is, length-append now piece);
-    }
 
 -- a piece that doesn't fit
 pub goes_wrong : (old now new whole left piece after other : List ℕ) (all rest short more fits : Bool) → fits ≡ false → left ≡ piece ++ after → rest ≡ (short && more) → Gains now new piece short fits → Going old now whole left all rest → Gains old other whole all false

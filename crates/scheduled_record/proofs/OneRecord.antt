@@ -1,5 +1,5 @@
 -- A workload has one record by its schedule.
-use Rattle.std.proofs.Common.{◌≡◌, ℕ, true, false, Option, Some, None, sym, ap, ◌∙◌, arith}
+use Rattle.std.proofs.Common.{◌≡◌, ℕ, Option, Some, None, sym, ap, ◌∙◌, arith}
 use Rattle.std.proofs.lemmas.Bool.{false≢true}
 use Rattle.std.proofs.lemmas.Option.{same_Some}
 use Rattle.sync_types.specs.declared.misuse.Misuse.{Misuse}
@@ -15,12 +15,12 @@ use Rattle.scheduled_record.specs.Recorded.{AreSame, IsRecorded, done_report, do
 use Rattle.scheduled_record.specs.ToldItems.{told_items}
 
 -- which of the three ways a run ended, and by which misuse
-way : Outcome → ℕ
+abbrev way : Outcome → ℕ
 way (outcomes.Done left) = 0
 way (outcomes.Misused left misuse) = 1
 way (outcomes.Deadlocked left) = 2
 
-misuse_of : Outcome → Option Misuse
+abbrev misuse_of : Outcome → Option Misuse
 misuse_of (outcomes.Done left) = None
 misuse_of (outcomes.Misused left misuse) = Some misuse
 misuse_of (outcomes.Deadlocked left) = None

@@ -1,6 +1,5 @@
 -- The report of a run, line by line.
-use Rattle.std.proofs.Common.{◌≡◌, ℕ, zero, suc, ◌+◌, ◌<◌, ◌≤◌, Bool, true, false, ◌&&◌, List, [], ◌∷◌, ◌++◌, length, get_or, drop, refl, sym, ap, ◌∙◌, add-one, arith, inl, inr}
-use Rattle.std.specs.List.{list_all}
+use Rattle.std.proofs.Common.{◌≡◌, ℕ, ◌+◌, ◌<◌, ◌≤◌, true, false, List, [], ◌∷◌, ◌++◌, length, get_or, drop, refl, sym, ap, ◌∙◌, add-one, inl, inr}
 use Rattle.std.proofs.Math.Dec.{ltb}
 use Rattle.std.proofs.Math.Seq.{drop-cons}
 use Rattle.std.proofs.lemmas.Bool.{cases_lt, eqb-true, false≢true, lt-ltb, ltb-true}
@@ -28,14 +27,6 @@ calls_next plan worker place i script replies call reply after over some call_is
     ∙ ap (λ (cs : List Call). line ++ calls_text plan worker (place + 1 + passes) cs (drop (i + 1) replies)) (over script place passes)
     ∙ ap (λ (n : ℕ). line ++ calls_text plan worker n (drop n script) (drop (i + 1) replies)) (sym is)
 
--- no call is left
-pub calls_none : (plan : Plan) (worker place : ℕ) (script : List Call) (replies : List (Reply ℕ)) → script ≡ [] → calls_text plan worker place script replies ≡ []
-calls_none plan worker place script replies e = ap (λ (cs : List Call). calls_text plan worker place cs replies) e ∙ none replies
-  where
-    none : (rs : List (Reply ℕ)) → calls_text plan worker place [] rs ≡ []
-    none [] = refl
-    none (r ∷ rs) = refl
-
 -- one more worker
 pub workers_next : (plan : Plan) (i : ℕ) (replies : List (List (Reply ℕ))) (completed : List (Reply ℕ))
     → i < length plan.scripts → ltb i (length replies) ≡ true → completed ≡ get_or replies i completed
@@ -51,12 +42,6 @@ workers_none plan worker scripts replies e = ap (workers_text plan worker script
     none : (ss : List (List Call)) → workers_text plan worker ss [] ≡ []
     none [] = refl
     none (s ∷ ss) = refl
-
--- what each item of a list passes, the one at an index does
-pub all_at : {X : Type 0} (p : X → Bool) (xs : List X) (i : ℕ) (x : X) → list_all p xs ≡ true → i < length xs → x ≡ get_or xs i x → p x ≡ true
-all_at p [] i x all lt e = absurd (omega arith)
-all_at p (y ∷ xs) zero x all lt e = ap p e ∙ (and_true (p y) (list_all p xs) all).0
-all_at p (y ∷ xs) (suc i) x all lt e = all_at p xs i x (and_true (p y) (list_all p xs) all).1 (omega arith) e
 
 -- an index that isn't below
 pub not_below : (i n : ℕ) → ltb i n ≡ false → n ≤ i

@@ -1,9 +1,8 @@
 -- The items that are told of a run have a front with a number for each worker.
-use Rattle.std.proofs.Common.{◌≡◌, ℕ, zero, suc, ◌≤◌, ◌==◌, ◌&&◌, Bool, true, false, cond, nat_le, List, [], ◌∷◌, ◌++◌, flat_map, length, Option, Some, None, slice_get, refl, sym, ap, ◌∙◌, subst, le-leb, eqb-true, eq-eqb, arith}
+use Rattle.std.proofs.Common.{◌≡◌, ℕ, suc, ◌≤◌, ◌==◌, ◌&&◌, Bool, true, false, cond, nat_le, List, [], ◌∷◌, flat_map, length, Option, Some, None, slice_get, refl, ap, ◌∙◌, le-leb, eqb-true, eq-eqb, arith}
 use Rattle.std.specs.List.{AllByRecursion, list_all}
 use Rattle.std.specs.Option.{option_to_list, option_map}
 use Rattle.std.proofs.lemmas.List.Folds.{list_all-append}
-use Rattle.workload.specs.Plan.{Plan}
 use Rattle.run_record.specs.declared.made.Made.{Made}
 use Rattle.run_record.specs.declared.made.Made.TheVariants.{Shared, Entered}
 use Rattle.run_record.specs.Record.{front_of}
@@ -31,7 +30,7 @@ each_act P (act ∷ acts) all = (all act.worker 0 act.made here, each_act P acts
 abbrev pub is_wide : ℕ → ItemLine → Bool
 is_wide workers item = length item.front == workers
 
-same_front : (made : Made) → front_in made ≡ front_of made
+pub same_front : (made : Made) → front_in made ≡ front_of made
 same_front (Shared x) = refl
 same_front (Entered object entry) = refl
 

@@ -1,5 +1,5 @@
 -- A text that is made piece by piece, and never gets longer than that of a record may be.
-use Rattle.std.specs.Prelude.{◌≡◌, ℕ, ◌+◌, Bool, true, false, ◌&&◌, nat_le, List, ◌++◌, length, map, None, Option, MatchOption}
+use Rattle.std.specs.Prelude.{◌≡◌, ℕ, ◌+◌, Bool, true, false, ◌&&◌, nat_le, List, ◌++◌, length, None, Option, MatchOption}
 use Rattle.std.specs.List.{list_all}
 use Rattle.std.specs.declared.vec.Vec.{Vec}
 use Rattle.workload.specs.Plan.{Plan}

@@ -9,6 +9,8 @@ use Rattle.run_report.specs.ReportText.{report_text}
 use Rattle.record_text.specs.declared.item_line.ItemLine.{ItemLine}
 use Rattle.record_text.specs.declared.limits.TheConstants.{MAX_ITEMS, MAX_RECORD}
 use Rattle.record_text.specs.ItemLines.{item_text}
+use Rattle.record_text.specs.LawfulItems.{has_numbers}
+use Rattle.record_text.specs.Numbers.{has_64_bits}
 use Rattle.record_text.specs.Told.{Told, is_short_line}
 use Rattle.record_text.specs.WrittenLines.{record_text}
 use Rattle.step_runner.specs.Outcomes.{StepsTo}
@@ -42,6 +44,10 @@ IsRecorded plan (Text bytes) = (left : Report) × IsDoneWithin plan true left ×
 IsRecorded plan TooLong = (left : Report) × IsDoneWithin plan false left
 IsRecorded plan (Misused misuse) = (left : Report) × StepsTo plan (outcomes.Misused left misuse)
 IsRecorded plan Deadlocked = (left : Report) × StepsTo plan (outcomes.Deadlocked left)
+
+-- all numbers of an item have 64 bits, as those of a program have
+abbrev pub is_in_64_bits : ItemLine → Bool
+is_in_64_bits item = has_numbers item.said && list_all has_64_bits item.front
 
 -- what the text of a run that is done tells
 abbrev pub told_done : Plan → Report → Told

@@ -1,21 +1,24 @@
 //! What is so of the text of a run's record. Each law is the contract of a function that does nothing.
 ghost use Rattle.std.specs.Prelude.{◌≡◌, ◌==◌, true, false, length};
 ghost use Rattle.std.specs.List.{list_all};
+ghost use Rattle.script_calls.specs.declared.outcome.Outcome.TheVariants as outcomes;
 ghost use Rattle.script_calls.specs.declared.outcome.Report.{Report};
 ghost use Rattle.workload.specs.Dialect.{has_variables};
 ghost use Rattle.workload.specs.Plan.{Plan, is_valid};
 ghost use Rattle.workload.specs.Readable.{IsReadable};
 ghost use Rattle.record_text.specs.ItemLines.{is_item};
 ghost use Rattle.record_text.specs.Told.{IsTold};
-ghost use Rattle.scheduled_record.specs.Recorded.{AreSame, IsRecorded, done_report, done_text, is_within, told_done};
+ghost use Rattle.step_runner.specs.Outcomes.{StepsTo};
+ghost use Rattle.scheduled_record.specs.Recorded.{AreSame, IsDoneWithin, IsRecorded, done_text, is_in_64_bits, told_done};
 ghost use Rattle.scheduled_record.specs.ToldItems.{told_items};
 
 use crate::laws::{
-    the_acts_of_a_run_are_the_workloads, the_items_of_a_run_are_lines_of_its_record,
+    a_record_explains_every_scheduled_run_that_is_done, the_acts_of_a_run_are_the_workloads,
+    the_fronts_of_a_scheduled_run_never_fall, the_items_of_a_run_are_lines_of_its_record,
 };
 use crate::recorded_run::Recorded;
 use kept_record::laws::{a_front_has_a_number_for_each_worker, a_record_has_what_was_made};
-use record_text::laws::a_written_text_tells_what_was_written;
+use record_text::laws::{a_written_text_tells_what_was_written, each_item_of_a_record_has_a_line};
 use step_runner::laws::each_run_has_one_outcome;
 
 /// Each item that is told of a run by schedule has a front with a number for each worker.
@@ -28,12 +31,23 @@ pub fn an_item_of_a_run_has_a_number_for_each_worker()
     a_front_has_a_number_for_each_worker();
 }
 
-/// The text of the record of a run that is done tells the run: it is read back as the workload, the items, an outcome that is done, and the
-/// lines of the report. This is so where the items are in range.
-pub fn the_text_of_a_run_tells_its_record()
-    ensures { (plan : Plan) (left : Report) → IsReadable plan → has_variables plan ≡ false → list_all (is_item plan) (told_items plan) ≡ true → is_within plan (told_items plan) (done_report plan left) ≡ true
-        → IsTold (done_text plan left) (told_done plan left) }
+/// Each item that is told of a run that is done is in range, where its numbers have 64 bits, as those of a program have.
+pub fn the_items_of_a_run_are_in_range()
+    ensures { (plan : Plan) (left : Report) → IsReadable plan → has_variables plan ≡ false → StepsTo plan (outcomes.Done left) → list_all is_in_64_bits (told_items plan) ≡ true
+        → list_all (is_item plan) (told_items plan) ≡ true }
 {
+    the_items_of_a_run_are_lines_of_its_record();
+    the_fronts_of_a_scheduled_run_never_fall();
+    a_record_explains_every_scheduled_run_that_is_done();
+    each_item_of_a_record_has_a_line();
+}
+
+/// The text of the record of a run that is done tells the run: it is read back as the workload, the items, an outcome that is done, and the
+/// lines of the report. This is so where the numbers of the items have 64 bits, as those of a program have.
+pub fn the_text_of_a_run_tells_its_record()
+    ensures { (plan : Plan) (left : Report) → IsReadable plan → has_variables plan ≡ false → list_all is_in_64_bits (told_items plan) ≡ true → IsDoneWithin plan true left → IsTold (done_text plan left) (told_done plan left) }
+{
+    the_items_of_a_run_are_in_range();
     a_written_text_tells_what_was_written();
 }
 

@@ -1,4 +1,4 @@
-use Rattle.std.proofs.Common.{◌+◌, ◌++◌, ◌∷◌, [], ◌&&◌, map, drop, ap}
+use Rattle.std.proofs.Common.{◌+◌, ◌++◌, ◌∷◌, [], map, drop, ap}
 use Rattle.std.specs.List.{list_all}
 use Rattle.record_text.specs.ItemLines.{item_text}
 use Rattle.record_text.specs.Told.{is_short_line, joined}

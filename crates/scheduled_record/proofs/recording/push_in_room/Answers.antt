@@ -1,4 +1,4 @@
-use Rattle.std.proofs.Common.{◌≡◌, ◌≤◌, ◌+◌, ◌++◌, true, None, length, map, sym, ap, subst, ◌∙◌, arith, length-append, refl}
+use Rattle.std.proofs.Common.{◌≡◌, ◌≤◌, true, None, length, map, sym, ap, subst, arith, length-append, refl}
 use Rattle.std.specs.List.{list_all}
 use Rattle.run_report.specs.ReportText.{report_text}
 use Rattle.record_text.specs.declared.limits.TheConstants.{MAX_RECORD}

@@ -1,4 +1,4 @@
-use Rattle.std.proofs.Common.{◌≡◌, ◌+◌, true, false, drop, sym, ap, arith, refl, subst, ◌∙◌}
+use Rattle.std.proofs.Common.{◌+◌, true, false, drop, sym, ap, refl, subst, ◌∙◌}
 use Rattle.script_calls.specs.Runs.{passed_over}
 use Rattle.workload_text.specs.ReportLines.{completed_line}
 use Rattle.run_report.specs.ReportText.{calls_text}

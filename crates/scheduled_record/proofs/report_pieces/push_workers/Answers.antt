@@ -1,4 +1,4 @@
-use Rattle.std.proofs.Common.{◌<◌, ◌+◌, [], true, length, get_or, drop, sym, ap, arith, refl, subst, ◌∙◌}
+use Rattle.std.proofs.Common.{◌<◌, ◌+◌, [], true, length, get_or, drop, sym, ap, arith, refl, subst}
 use Rattle.std.proofs.Math.ListN.{drop_of_length-le}
 use Rattle.run_report.specs.ReportText.{calls_text, workers_text}
 use Rattle.scheduled_record.specs.Pushed.{Gains}

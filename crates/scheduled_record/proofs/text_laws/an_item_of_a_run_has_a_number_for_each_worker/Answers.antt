@@ -1,4 +1,4 @@
-use Rattle.std.proofs.Common.{◌≡◌, List, Some, length, slice_get, sym, ap, subst, ◌∙◌}
+use Rattle.std.proofs.Common.{◌≡◌, List, Some, length, slice_get, sym, subst}
 use Rattle.run_record.specs.declared.made.Made.{Made}
 use Rattle.run_record.specs.Record.{front_of}
 use Rattle.kept_record.specs.Acts.{AreActsOf}

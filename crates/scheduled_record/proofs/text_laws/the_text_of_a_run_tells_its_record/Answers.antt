@@ -10,10 +10,11 @@ use Rattle.scheduled_record.proofs.Gaining.{and_true}
 use Rattle.scheduled_record.proofs.text_laws.the_text_of_a_run_tells_its_record.Goals as goal
 
 pub returns : goal.returns
-returns c plan left readable plain in_range within =
+returns c plan left readable plain fit is =
+    let in_range = c.the_items_of_a_run_are_in_range.ensures plan left readable plain is.done fit in
     let items = told_items plan in
     let report = done_report plan left in
-    let few = and_true (nat_le (length items) MAX_ITEMS) _ within in
+    let few = and_true (nat_le (length items) MAX_ITEMS) _ is.limits in
     let all = and_true (nat_le (length (done_text plan left)) MAX_RECORD) (has_short_lines plan items report) few.1 in
     let short = and_true (list_all is_short_line (map (item_text plan) items)) (list_all is_short_line (lines_of report)) all.1 in
     c.a_written_text_tells_what_was_written.ensures plan items None report readable plain in_range short.0 (leb-true (length items) MAX_ITEMS few.0) short.1 (leb-true (length (done_text plan left)) MAX_RECORD all.0)
