@@ -76,10 +76,10 @@ pub fn gosync<
     // The workload of a seed comes to the five lines of the seed, whatever the interleaving.
     ensures make { (seed : ℕ) → AskToMake (map string_bytes words.now) seed → MakesTo seed (P.ran spawner.old) (P.ran spawner.new) (O.contents out.old) (O.contents out.new) result }
 
-    // And one whose record is asked for: where it is done, to the text of the record that explains it.
+    // And one whose record is asked for: where it is done, to the text of its record.
     ensures trace { (file : List ℕ) → AskFor (map string_bytes words.now) modes.Trace file → TracesTo (S.contents src.old file) (O.contents out.old) (O.contents out.new) result }
 
-    // The text of a record comes to its one verdict: yes where the record explains its run, else the first clause that fails.
+    // The text of a record comes to its one verdict: yes where all clauses hold of what it tells, else the first that fails.
     ensures check { (file : List ℕ) → AskToCheck (map string_bytes words.now) file → JudgesTo (S.contents src.old file) (O.contents out.old) (O.contents out.new) result }
 
     // What the words ask for.

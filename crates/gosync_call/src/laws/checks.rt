@@ -38,8 +38,8 @@ pub fn a_status_tells_the_verdict()
 {}
 
 /// Where the bytes are told, a yes says that some record explains an outcome of the workload that stands at their beginning, that it ends as
-/// their outcome line says, and that the report behind it is that of the outcome. A no says that of no record whose items are those lines the
-/// clause holds with all before it.
+/// their outcome line says, and that the report behind it is that of the outcome. A no says that of nothing that the text
+/// tells the clause holds with all before it.
 pub fn a_verdict_is_on_the_record_of_the_text()
     ensures yes { (bytes : List ℕ) (text : Told) (old new : Option (List ℕ)) → IsTold bytes text → JudgesTo (Some bytes) old new (statuses.Judged verdicts.Yes)
         → (r : Record) × (left : Report) × Explains text.plan (outcome_by text.misused left) r × (joined text.report ≡ report_text text.plan (outcome_by text.misused left)) }
