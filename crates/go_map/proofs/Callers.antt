@@ -1,5 +1,5 @@
 -- A call leaves a caller a caller.
-use Rattle.std.proofs.Common.{◌≡◌, Option, Some, IsSome, refl, sym, subst}
+use Rattle.std.proofs.Common.{Option, IsSome, refl, sym, subst}
 use Rattle.sync_model.specs.declared.item.SharedCall.{SharedCall}
 use Rattle.sync_model.specs.declared.item.SharedReply.{SharedReply}
 use Rattle.sync_model.specs.Note.{SameHome}

@@ -1,3 +1,4 @@
 pub mod Maps
 pub mod Ranges
 pub mod Tries
+pub mod Values

@@ -1,5 +1,5 @@
 //! Walks over the pairs of a map, as `Range` makes them.
-ghost use Rattle.std.specs.Prelude.{◌≡◌, ℕ, None};
+ghost use Rattle.std.specs.Prelude.{◌≡◌, ℕ, ◌^◌, ◌<◌, None, IfSome};
 ghost use Rattle.sync_model.specs.declared.item.SharedCall.TheVariants as calls;
 ghost use Rattle.sync_model.specs.declared.item.SharedReply.TheVariants as replies;
 ghost use Rattle.sync_model.specs.Shared.{IsCallerAt};
@@ -49,6 +49,7 @@ impl Cursor {
             → StandsFor map.now.table.now self.new map.now.number begin caller.new.note }
         ensures range { (begin : ℕ) → StandsFor map.now.table.now self.old map.now.number begin caller.old.note
             → KeepsRangeLaw map.now.table.now map.now.number begin caller.new.note }
+        ensures found { IfSome result (λ pair. pair.1 < 2 ^ 63) }
         ensures passed { result ≡ None → HasPassedAll self.new.walk }
         ensures ended { HasPassedAll self.old.walk → result ≡ None }
     {

@@ -1,10 +1,12 @@
 //! Maps, as `sync.Map` has them.
-ghost use Rattle.std.specs.Prelude.{◌≡◌, ◌+◌, ◌<◌, ◌≤◌, ◌^◌, Some, MatchOption};
+ghost use Rattle.std.specs.Prelude.{◌≡◌, ◌+◌, ◌<◌, ◌≤◌, ◌^◌, Some, IfSome, MatchOption};
 ghost use Rattle.sync_types.specs.SequentialMap.{map_key};
 ghost use Rattle.sync_model.specs.Shared.{IsCallerAt, cost_of};
 ghost use Rattle.shared_table.specs.Notes.{own_by, IsNoteOf};
 ghost use Rattle.shared_table.specs.Tables.{maps_of};
+ghost use Rattle.table_rule.specs.Values.{HasSmallValues};
 ghost use Rattle.go_map.specs.Maps.{MakesCall, HasSpare};
+ghost use Rattle.go_map.specs.Values.{IsSmallReply};
 
 use crate::reply::{compared_in, found_in, settled_in};
 use shared_table::{SharedNote, SharedTable, Steps};
@@ -14,7 +16,8 @@ use sync_model::Caller;
 use sync_types::{MapCall, MapReply};
 
 /// One map of a shared table. Each call has one place in the history that all callers share, and is answered there as by the
-/// map of one thread. What a call observes synchronizes before it. No call takes memory.
+/// map of one thread. What a call observes synchronizes before it. No call takes memory. Values are below 2^63, also those that a call
+/// finds.
 ///
 /// Each call but `load` takes one of its caller's spare units, whatever it answers, and may wait while another caller has the
 /// lock of the node where the key belongs, or of a node above one that the call empties, or clears the map. A call that changes the map is placed at its one write.
@@ -47,6 +50,7 @@ impl<'a> Map<'a> {
         requires { IsCallerAt IsNoteOf own_by self.now.table.now caller.old }
         ensures caller { IsCallerAt IsNoteOf own_by self.now.table.now caller.new }
         ensures called { MakesCall self.now.table.now self.now.number (MapCall.Load key) (MapReply.Found result) caller.old.note caller.new.note }
+        ensures found { IfSome result (λ value. value < 2 ^ 63) }
         ensures cost { steps.new ≤ steps.old + 11 }
         ensures least { MatchOption result (steps.old + 2 ≤ steps.new) (λ value. steps.old + 4 ≤ steps.new) }
     {
@@ -65,8 +69,10 @@ impl<'a> Map<'a> {
         requires caller { IsCallerAt IsNoteOf own_by self.now.table.now caller.old }
         requires spare { HasSpare caller.old.note }
         requires call { (map_key call ≡ Some key) × (cost_of call ≡ 1) }
+        requires values { HasSmallValues call }
         ensures caller { IsCallerAt IsNoteOf own_by self.now.table.now caller.new }
         ensures called { MakesCall self.now.table.now self.now.number call result caller.old.note caller.new.note }
+        ensures found { IsSmallReply result }
     {
         self.table
             .change_map(rt, &mut caller.note, self.number, key, call)
@@ -96,6 +102,7 @@ impl<'a> Map<'a> {
         requires value { value < 2 ^ 63 }
         ensures caller { IsCallerAt IsNoteOf own_by self.now.table.now caller.new }
         ensures called { MakesCall self.now.table.now self.now.number (MapCall.Swap key value) (MapReply.Found result) caller.old.note caller.new.note }
+        ensures found { IfSome result (λ value. value < 2 ^ 63) }
     {
         found_in(self.change(rt, caller, key, MapCall::Swap { key, value }))
     }
@@ -113,6 +120,7 @@ impl<'a> Map<'a> {
         requires value { value < 2 ^ 63 }
         ensures caller { IsCallerAt IsNoteOf own_by self.now.table.now caller.new }
         ensures called { MakesCall self.now.table.now self.now.number (MapCall.LoadOrStore key value) (MapReply.Settled result.0 result.1) caller.old.note caller.new.note }
+        ensures found { result.0 < 2 ^ 63 }
     {
         settled_in(self.change(rt, caller, key, MapCall::LoadOrStore { key, value }))
     }
@@ -128,6 +136,7 @@ impl<'a> Map<'a> {
         requires spare { HasSpare caller.old.note }
         ensures caller { IsCallerAt IsNoteOf own_by self.now.table.now caller.new }
         ensures called { MakesCall self.now.table.now self.now.number (MapCall.LoadAndDelete key) (MapReply.Found result) caller.old.note caller.new.note }
+        ensures found { IfSome result (λ value. value < 2 ^ 63) }
     {
         found_in(self.change(rt, caller, key, MapCall::LoadAndDelete { key }))
     }

@@ -1,5 +1,5 @@
 //! The typed atomics of Go's `sync/atomic`: atomics of a table, and the callers that threads use them by.
-ghost use Rattle.std.specs.Prelude.{◌≡◌, ◌+◌, ◌<◌, ◌≤◌, All, IfOk, Some, slice_get, MatchOption, vec_len};
+ghost use Rattle.std.specs.Prelude.{◌≡◌, ◌+◌, ◌<◌, ◌≤◌, All, IfOk, IfSome, Some, slice_get, MatchOption, vec_len};
 ghost use Rattle.sync_model.specs.Shared.{IsCallerAt};
 ghost use Rattle.shared_table.specs.CallerProps.{caller_prop};
 ghost use Rattle.shared_table.specs.Notes.{own_by, IsNoteOf};
@@ -21,6 +21,7 @@ pub fn new_atomic<V: AtomicValue>(
     requires threads { (0 < threads) × (threads ≤ 64) }
     ensures kind { IfOk result (λ made. slice_get (kinds_of made.0) 0 ≡ Some V.kind) }
     ensures callers { IfOk result (λ made. All (IsCallerAt IsNoteOf own_by made.0) made.1.items) }
+    ensures count { IfOk result (λ made. vec_len made.1 ≡ threads) }
 {
     let rooms = Vec::from_elem(alloc, 0, threads as usize)?;
     let (table, callers) = SharedTable::new(alloc, &[V::kind()], 0, 0, &rooms)?;
@@ -36,7 +37,8 @@ pub fn atomic_callers<'a, V: AtomicValue>(
 ) -> Result<Vec<AtomicCaller<'a, V>>, AllocError>
     requires kind { slice_get (kinds_of table.now) number ≡ Some V.kind }
     requires callers { All (IsCallerAt IsNoteOf own_by table.now) callers.items }
-    ensures { IfOk result (λ members. vec_len members ≡ vec_len callers) }
+    ensures count { IfOk result (λ members. vec_len members ≡ vec_len callers) }
+    ensures each { IfOk result (λ members. All (λ member. (member.atomic.table.now ≡ table.now) × (member.atomic.number ≡ number)) members.items) }
 {
     let mut members = Vec::with_capacity(alloc, callers.len())?;
     while let Some(member) = AtomicCaller::last(table, number, &mut callers) {
@@ -63,6 +65,7 @@ impl<'a, V: AtomicValue> AtomicCaller<'a, V> {
         requires callers { All (IsCallerAt IsNoteOf own_by table.now) callers.old.items }
         ensures callers { All (IsCallerAt IsNoteOf own_by table.now) callers.new.items }
         ensures count { MatchOption result (vec_len callers.old ≡ 0) (λ _. vec_len callers.new + 1 ≡ vec_len callers.old) }
+        ensures at { IfSome result (λ member. (member.atomic.table.now ≡ table.now) × (member.atomic.number ≡ number)) }
     {
         let caller = callers.pop()?;
         Some(AtomicCaller {

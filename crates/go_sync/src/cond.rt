@@ -1,5 +1,5 @@
 //! Go's `sync.Cond`: a cond, and the callers that threads wait and signal by.
-ghost use Rattle.std.specs.Prelude.{◌≡◌, ◌+◌, ◌<◌, ◌≤◌, All, IfOk, MatchOption, vec_len};
+ghost use Rattle.std.specs.Prelude.{◌≡◌, ◌+◌, ◌<◌, ◌≤◌, All, IfOk, IfSome, MatchOption, vec_len};
 ghost use Rattle.go_waits.specs.Conds.{IsPassOf};
 
 mod calls;
@@ -31,7 +31,8 @@ pub fn cond_callers<'a, C: Clock>(
     mut passes: CondPasses,
 ) -> Result<Vec<CondCaller<'a, C>>, AllocError>
     requires { All (IsPassOf cond.now) passes.items }
-    ensures { IfOk result (λ callers. vec_len callers ≡ vec_len passes) }
+    ensures count { IfOk result (λ callers. vec_len callers ≡ vec_len passes) }
+    ensures each { IfOk result (λ callers. All (λ caller. caller.cond.now ≡ cond.now) callers.items) }
 {
     let mut callers = Vec::with_capacity(alloc, passes.len())?;
     while let Some(caller) = CondCaller::last(cond, clock, &mut passes) {
@@ -57,6 +58,7 @@ impl<'a, C: Clock> CondCaller<'a, C> {
         requires { All (IsPassOf cond.now) passes.old.items }
         ensures passes { All (IsPassOf cond.now) passes.new.items }
         ensures count { MatchOption result (vec_len passes.old ≡ 0) (λ _. vec_len passes.new + 1 ≡ vec_len passes.old) }
+        ensures at { IfSome result (λ caller. caller.cond.now ≡ cond.now) }
     {
         let pass = passes.pop()?;
         Some(CondCaller { cond, clock, pass })

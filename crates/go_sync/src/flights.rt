@@ -1,5 +1,5 @@
 //! Flights, after Go's `golang.org/x/sync/singleflight`, and the callers that threads come to them by.
-ghost use Rattle.std.specs.Prelude.{◌≡◌, ◌+◌, ◌<◌, ◌≤◌, All, IfOk, MatchOption, vec_len};
+ghost use Rattle.std.specs.Prelude.{◌≡◌, ◌+◌, ◌<◌, ◌≤◌, All, IfOk, IfSome, MatchOption, vec_len};
 ghost use Rattle.single_flight.specs.Flights.{IsPassOf};
 
 mod calls;
@@ -37,7 +37,8 @@ pub fn flight_callers<'a, C: Clock>(
     mut passes: FlightPasses,
 ) -> Result<Vec<FlightCaller<'a, C>>, AllocError>
     requires { All (IsPassOf flights.now) passes.items }
-    ensures { IfOk result (λ callers. vec_len callers ≡ vec_len passes) }
+    ensures count { IfOk result (λ callers. vec_len callers ≡ vec_len passes) }
+    ensures each { IfOk result (λ callers. All (λ caller. caller.flights.now ≡ flights.now) callers.items) }
 {
     let mut callers = Vec::with_capacity(alloc, passes.len())?;
     while let Some(caller) = FlightCaller::last(flights, clock, &mut passes) {
@@ -63,6 +64,7 @@ impl<'a, C: Clock> FlightCaller<'a, C> {
         requires { All (IsPassOf flights.now) passes.old.items }
         ensures passes { All (IsPassOf flights.now) passes.new.items }
         ensures count { MatchOption result (vec_len passes.old ≡ 0) (λ _. vec_len passes.new + 1 ≡ vec_len passes.old) }
+        ensures at { IfSome result (λ caller. caller.flights.now ≡ flights.now) }
     {
         let pass = passes.pop()?;
         Some(FlightCaller {

@@ -1,5 +1,5 @@
 //! Go's `WaitGroup.Go`: a wait group whose workers wait to be started, and the callers that threads use it by.
-ghost use Rattle.std.specs.Prelude.{◌≡◌, ◌+◌, ◌<◌, ◌≤◌, All, IfOk, MatchOption, vec_len};
+ghost use Rattle.std.specs.Prelude.{◌≡◌, ◌+◌, ◌<◌, ◌≤◌, All, IfOk, IfSome, MatchOption, vec_len};
 ghost use Rattle.go_waits.specs.Groups.{IsPassOf};
 ghost use Rattle.go_waits.specs.Startings as startings;
 ghost use Rattle.ruled_object.specs.Passes.{number_of};
@@ -54,7 +54,8 @@ impl GoGroup {
         requires members { All (IsPassOf self.now.group) passes.members.items }
         requires workers { All (startings.IsPassOf self.now.starts) passes.workers.items }
         requires count { vec_len passes.members ≡ vec_len passes.workers }
-        ensures { IfOk result (λ callers. vec_len callers ≡ vec_len passes.members) }
+        ensures count { IfOk result (λ callers. vec_len callers ≡ vec_len passes.members) }
+        ensures each { IfOk result (λ callers. All (λ caller. (caller.member.group.now ≡ self.now.group) × (caller.starts.now ≡ self.now.starts)) callers.items) }
     {
         let mut callers = Vec::with_capacity(alloc, passes.members.len())?;
         while let Some(caller) = GoCaller::last(self, clock, &mut passes) {
@@ -86,6 +87,7 @@ impl<'a, C: Clock> GoCaller<'a, C> {
         ensures workers { All (startings.IsPassOf group.now.starts) passes.new.workers.items }
         ensures count { vec_len passes.new.members ≡ vec_len passes.new.workers }
         ensures less { MatchOption result (vec_len passes.old.members ≡ 0) (λ _. vec_len passes.new.members + 1 ≡ vec_len passes.old.members) }
+        ensures at { IfSome result (λ caller. (caller.member.group.now ≡ group.now.group) × (caller.starts.now ≡ group.now.starts)) }
     {
         let pass = passes.workers.pop()?;
         let member = GroupCaller::last(&group.group, clock, &mut passes.members)?;

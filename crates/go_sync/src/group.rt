@@ -1,5 +1,5 @@
 //! Go's `sync.WaitGroup`: a wait group, and the callers that threads use it by.
-ghost use Rattle.std.specs.Prelude.{◌≡◌, ◌+◌, ◌<◌, ◌≤◌, ◌≤ℤ◌, pos, All, IfOk, MatchOption, vec_len};
+ghost use Rattle.std.specs.Prelude.{◌≡◌, ◌+◌, ◌<◌, ◌≤◌, ◌≤ℤ◌, pos, All, IfOk, IfSome, MatchOption, vec_len};
 ghost use Rattle.go_waits.specs.Groups.{IsPassOf};
 
 mod calls;
@@ -37,7 +37,8 @@ pub fn group_callers<'a, C: Clock>(
     mut passes: GroupPasses,
 ) -> Result<Vec<GroupCaller<'a, C>>, AllocError>
     requires { All (IsPassOf group.now) passes.items }
-    ensures { IfOk result (λ callers. vec_len callers ≡ vec_len passes) }
+    ensures count { IfOk result (λ callers. vec_len callers ≡ vec_len passes) }
+    ensures each { IfOk result (λ callers. All (λ caller. caller.group.now ≡ group.now) callers.items) }
 {
     let mut callers = Vec::with_capacity(alloc, passes.len())?;
     while let Some(caller) = GroupCaller::last(group, clock, &mut passes) {
@@ -67,6 +68,7 @@ impl<'a, C: Clock> GroupCaller<'a, C> {
         requires { All (IsPassOf group.now) passes.old.items }
         ensures passes { All (IsPassOf group.now) passes.new.items }
         ensures count { MatchOption result (vec_len passes.old ≡ 0) (λ _. vec_len passes.new + 1 ≡ vec_len passes.old) }
+        ensures at { IfSome result (λ caller. caller.group.now ≡ group.now) }
     {
         let pass = passes.pop()?;
         Some(GroupCaller { group, clock, pass })

@@ -47,7 +47,8 @@ impl<T: Drop> Guarded<T> {
         mut passes: MutexPasses,
     ) -> Result<Vec<GuardedCaller<'a, T, C>>, AllocError>
         requires { All (IsPassOfMutex self.now.mutex) passes.items }
-        ensures { IfOk result (λ callers. vec_len callers ≡ vec_len passes) }
+        ensures count { IfOk result (λ callers. vec_len callers ≡ vec_len passes) }
+        ensures each { IfOk result (λ callers. All (λ caller. caller.caller.mutex.now ≡ self.now.mutex) callers.items) }
     {
         let mut callers = Vec::with_capacity(alloc, passes.len())?;
         while let Some(caller) = MutexCaller::last(&self.mutex, clock, &mut passes) {

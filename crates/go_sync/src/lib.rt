@@ -1,7 +1,8 @@
 //! Go's `sync` as a program uses it: each thread has one value for each object, its *caller*, which carries all that a call needs.
 //!
-//! A call has no condition and never runs out; it answers as Go's call of that name does. An object is made for a number of threads,
-//! 64 at most, and gives a caller to each. A program moves the callers into its threads. `docs/library.md` has a page for each type.
+//! A call answers as Go's call of that name does. It has no condition but that a map's values are below 2^63, and that a function which
+//! it is handed may be called. It never runs out, but for the room of a map. An object is made for a number of threads, 64 at most, and
+//! gives a caller to each. A program moves the callers into its threads. `docs/library.md` has a page for each type.
 #![tactic(auto)]
 
 pub mod atomic;

@@ -1,5 +1,5 @@
 //! Go's `sync.Map`: maps of a table, and the callers that threads use them by.
-ghost use Rattle.std.specs.Prelude.{◌≡◌, ◌+◌, ◌<◌, ◌≤◌, ◌*◌, All, IfOk, MatchOption, vec_len};
+ghost use Rattle.std.specs.Prelude.{◌≡◌, ◌+◌, ◌<◌, ◌≤◌, ◌*◌, All, IfOk, IfSome, MatchOption, vec_len};
 ghost use Rattle.std.specs.Option.{ForSome};
 ghost use Rattle.sync_model.specs.Shared.{IsCallerAt};
 ghost use Rattle.shared_table.specs.CallerProps.{caller_prop};
@@ -28,6 +28,7 @@ pub fn new_map(
     requires room { threads * room ≤ 1000000 }
     ensures map { IfOk result (λ made. 0 < maps_of made.0) }
     ensures callers { IfOk result (λ made. All (IsCallerAt IsNoteOf own_by made.0) made.1.items) }
+    ensures count { IfOk result (λ made. vec_len made.1 ≡ threads) }
 {
     let rooms = Vec::from_elem(alloc, room, threads as usize)?;
     let (table, callers) = SharedTable::new(alloc, &[], 1, 0, &rooms)?;
@@ -43,7 +44,8 @@ pub fn map_callers<'a>(
 ) -> Result<Vec<MapCaller<'a>>, AllocError>
     requires number { number < maps_of table.now }
     requires callers { All (IsCallerAt IsNoteOf own_by table.now) callers.items }
-    ensures { IfOk result (λ members. vec_len members ≡ vec_len callers) }
+    ensures count { IfOk result (λ members. vec_len members ≡ vec_len callers) }
+    ensures each { IfOk result (λ members. All (λ member. (member.map.table.now ≡ table.now) × (member.map.number ≡ number)) members.items) }
 {
     let mut members = Vec::with_capacity(alloc, callers.len())?;
     while let Some(member) = MapCaller::last(table, number, &mut callers) {
@@ -73,6 +75,7 @@ impl<'a> MapCaller<'a> {
         requires callers { All (IsCallerAt IsNoteOf own_by table.now) callers.old.items }
         ensures callers { All (IsCallerAt IsNoteOf own_by table.now) callers.new.items }
         ensures count { MatchOption result (vec_len callers.old ≡ 0) (λ _. vec_len callers.new + 1 ≡ vec_len callers.old) }
+        ensures at { IfSome result (λ member. (member.map.table.now ≡ table.now) × (member.map.number ≡ number)) }
     {
         let caller = callers.pop()?;
         Some(MapCaller {

@@ -1,5 +1,5 @@
 //! Go's `sync.Mutex`: a mutex, and the callers that threads lock it by.
-ghost use Rattle.std.specs.Prelude.{◌≡◌, ◌+◌, ◌<◌, ◌≤◌, All, IfOk, MatchOption, vec_len};
+ghost use Rattle.std.specs.Prelude.{◌≡◌, ◌+◌, ◌<◌, ◌≤◌, All, IfOk, IfSome, MatchOption, vec_len};
 ghost use Rattle.go_locks.specs.Mutexes.{IsPassOfMutex};
 
 mod calls;
@@ -32,7 +32,8 @@ pub fn mutex_callers<'a, C: Clock>(
     mut passes: MutexPasses,
 ) -> Result<Vec<MutexCaller<'a, C>>, AllocError>
     requires { All (IsPassOfMutex mutex.now) passes.items }
-    ensures { IfOk result (λ callers. vec_len callers ≡ vec_len passes) }
+    ensures count { IfOk result (λ callers. vec_len callers ≡ vec_len passes) }
+    ensures each { IfOk result (λ callers. All (λ caller. caller.mutex.now ≡ mutex.now) callers.items) }
 {
     let mut callers = Vec::with_capacity(alloc, passes.len())?;
     while let Some(caller) = MutexCaller::last(mutex, clock, &mut passes) {
@@ -59,6 +60,7 @@ impl<'a, C: Clock> MutexCaller<'a, C> {
         requires { All (IsPassOfMutex mutex.now) passes.old.items }
         ensures passes { All (IsPassOfMutex mutex.now) passes.new.items }
         ensures count { MatchOption result (vec_len passes.old ≡ 0) (λ _. vec_len passes.new + 1 ≡ vec_len passes.old) }
+        ensures at { IfSome result (λ caller. caller.mutex.now ≡ mutex.now) }
     {
         let pass = passes.pop()?;
         Some(MutexCaller { mutex, clock, pass })

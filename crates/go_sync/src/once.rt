@@ -1,5 +1,5 @@
 //! Go's `sync.Once`: a once, and the callers that threads come to it by.
-ghost use Rattle.std.specs.Prelude.{◌≡◌, ◌+◌, ◌<◌, ◌≤◌, All, IfOk, MatchOption, vec_len};
+ghost use Rattle.std.specs.Prelude.{◌≡◌, ◌+◌, ◌<◌, ◌≤◌, All, IfOk, IfSome, MatchOption, vec_len};
 ghost use Rattle.go_waits.specs.Onces.{IsPassOf};
 
 mod calls;
@@ -31,7 +31,8 @@ pub fn once_callers<'a, C: Clock>(
     mut passes: OncePasses,
 ) -> Result<Vec<OnceCaller<'a, C>>, AllocError>
     requires { All (IsPassOf once.now) passes.items }
-    ensures { IfOk result (λ callers. vec_len callers ≡ vec_len passes) }
+    ensures count { IfOk result (λ callers. vec_len callers ≡ vec_len passes) }
+    ensures each { IfOk result (λ callers. All (λ caller. caller.once.now ≡ once.now) callers.items) }
 {
     let mut callers = Vec::with_capacity(alloc, passes.len())?;
     while let Some(caller) = OnceCaller::last(once, clock, &mut passes) {
@@ -57,6 +58,7 @@ impl<'a, C: Clock> OnceCaller<'a, C> {
         requires { All (IsPassOf once.now) passes.old.items }
         ensures passes { All (IsPassOf once.now) passes.new.items }
         ensures count { MatchOption result (vec_len passes.old ≡ 0) (λ _. vec_len passes.new + 1 ≡ vec_len passes.old) }
+        ensures at { IfSome result (λ caller. caller.once.now ≡ once.now) }
     {
         let pass = passes.pop()?;
         Some(OnceCaller { once, clock, pass })

@@ -1,5 +1,5 @@
 //! Go's `sync.OnceFunc` and `sync.OnceValue`: a once that keeps what its function came to, and the callers that threads come to it by.
-ghost use Rattle.std.specs.Prelude.{◌≡◌, ◌+◌, ◌<◌, ◌≤◌, All, IfOk, MatchOption, vec_len};
+ghost use Rattle.std.specs.Prelude.{◌≡◌, ◌+◌, ◌<◌, ◌≤◌, All, IfOk, IfSome, MatchOption, vec_len};
 ghost use Rattle.go_waits.specs.Onces.{IsPassOf};
 
 mod calls;
@@ -37,7 +37,8 @@ pub fn once_value_callers<'a, T: Copy, C: Clock>(
     mut passes: OnceValuePasses<T>,
 ) -> Result<Vec<OnceValueCaller<'a, T, C>>, AllocError>
     requires { All (IsPassOf once.now) passes.items }
-    ensures { IfOk result (λ callers. vec_len callers ≡ vec_len passes) }
+    ensures count { IfOk result (λ callers. vec_len callers ≡ vec_len passes) }
+    ensures each { IfOk result (λ callers. All (λ caller. caller.once.now ≡ once.now) callers.items) }
 {
     let mut callers = Vec::with_capacity(alloc, passes.len())?;
     while let Some(caller) = OnceValueCaller::last(once, clock, &mut passes) {
@@ -70,6 +71,7 @@ impl<'a, T: Copy, C: Clock> OnceValueCaller<'a, T, C> {
         requires { All (IsPassOf once.now) passes.old.items }
         ensures passes { All (IsPassOf once.now) passes.new.items }
         ensures count { MatchOption result (vec_len passes.old ≡ 0) (λ _. vec_len passes.new + 1 ≡ vec_len passes.old) }
+        ensures at { IfSome result (λ caller. caller.once.now ≡ once.now) }
     {
         let pass = passes.pop()?;
         Some(OnceValueCaller { once, clock, pass })

@@ -1,5 +1,5 @@
 //! Go's `sync.Pool`, of numbers: a pool, and the callers that threads put and get by.
-ghost use Rattle.std.specs.Prelude.{◌≡◌, ◌+◌, ◌<◌, ◌≤◌, All, IfOk, MatchOption, vec_len};
+ghost use Rattle.std.specs.Prelude.{◌≡◌, ◌+◌, ◌<◌, ◌≤◌, All, IfOk, IfSome, MatchOption, vec_len};
 ghost use Rattle.std.proofs.Props.{props};
 ghost use Rattle.go_pool.specs.Pools.{ArePasses, IsPassOf};
 ghost use Rattle.go_sync.specs.PassProps.{follows_prop};
@@ -42,7 +42,8 @@ pub fn pool_callers<'a, C: Clock>(
     mut passes: PoolPasses,
 ) -> Result<Vec<PoolCaller<'a, C>>, AllocError>
     requires { ArePasses pool.now passes.items }
-    ensures { IfOk result (λ callers. vec_len callers ≡ vec_len passes) }
+    ensures count { IfOk result (λ callers. vec_len callers ≡ vec_len passes) }
+    ensures each { IfOk result (λ callers. All (λ caller. caller.pool.now ≡ pool.now) callers.items) }
 {
     let mut callers = Vec::with_capacity(alloc, passes.len())?;
     while let Some(caller) = PoolCaller::last(pool, clock, &mut passes) {
@@ -68,6 +69,7 @@ impl<'a, C: Clock> PoolCaller<'a, C> {
         requires { ArePasses pool.now passes.old.items }
         ensures passes { ArePasses pool.now passes.new.items }
         ensures count { MatchOption result (vec_len passes.old ≡ 0) (λ _. vec_len passes.new + 1 ≡ vec_len passes.old) }
+        ensures at { IfSome result (λ caller. caller.pool.now ≡ pool.now) }
     {
         let pass = passes.pop()?;
         Some(PoolCaller { pool, clock, pass })

@@ -42,7 +42,8 @@ impl<T: Drop> RwGuarded<T> {
         mut passes: RwPasses,
     ) -> Result<Vec<RwGuardedCaller<'a, T, C>>, AllocError>
         requires { All (IsPassOfRwMutex self.now.lock) passes.items }
-        ensures { IfOk result (λ callers. vec_len callers ≡ vec_len passes) }
+        ensures count { IfOk result (λ callers. vec_len callers ≡ vec_len passes) }
+        ensures each { IfOk result (λ callers. All (λ caller. caller.caller.lock.now ≡ self.now.lock) callers.items) }
     {
         let mut callers = Vec::with_capacity(alloc, passes.len())?;
         while let Some(caller) = RwCaller::last(&self.lock, clock, &mut passes) {

@@ -1,5 +1,5 @@
 //! Go's `sync.RWMutex`: a reader/writer lock, and the callers that threads lock it by.
-ghost use Rattle.std.specs.Prelude.{◌≡◌, ◌+◌, ◌<◌, ◌≤◌, All, IfOk, MatchOption, vec_len};
+ghost use Rattle.std.specs.Prelude.{◌≡◌, ◌+◌, ◌<◌, ◌≤◌, All, IfOk, IfSome, MatchOption, vec_len};
 ghost use Rattle.go_locks.specs.RwMutexes.{IsPassOfRwMutex};
 
 mod calls;
@@ -31,7 +31,8 @@ pub fn rw_callers<'a, C: Clock>(
     mut passes: RwPasses,
 ) -> Result<Vec<RwCaller<'a, C>>, AllocError>
     requires { All (IsPassOfRwMutex lock.now) passes.items }
-    ensures { IfOk result (λ callers. vec_len callers ≡ vec_len passes) }
+    ensures count { IfOk result (λ callers. vec_len callers ≡ vec_len passes) }
+    ensures each { IfOk result (λ callers. All (λ caller. caller.lock.now ≡ lock.now) callers.items) }
 {
     let mut callers = Vec::with_capacity(alloc, passes.len())?;
     while let Some(caller) = RwCaller::last(lock, clock, &mut passes) {
@@ -58,6 +59,7 @@ impl<'a, C: Clock> RwCaller<'a, C> {
         requires { All (IsPassOfRwMutex lock.now) passes.old.items }
         ensures passes { All (IsPassOfRwMutex lock.now) passes.new.items }
         ensures count { MatchOption result (vec_len passes.old ≡ 0) (λ _. vec_len passes.new + 1 ≡ vec_len passes.old) }
+        ensures at { IfSome result (λ caller. caller.lock.now ≡ lock.now) }
     {
         let pass = passes.pop()?;
         Some(RwCaller { lock, clock, pass })

@@ -1,5 +1,5 @@
 //! The weighted semaphore of Go's `golang.org/x/sync/semaphore`, without contexts, and the callers that threads use it by.
-ghost use Rattle.std.specs.Prelude.{◌≡◌, ◌+◌, ◌<◌, ◌≤◌, All, IfOk, MatchOption, vec_len};
+ghost use Rattle.std.specs.Prelude.{◌≡◌, ◌+◌, ◌<◌, ◌≤◌, All, IfOk, IfSome, MatchOption, vec_len};
 ghost use Rattle.weighted_sema.specs.Semas.{IsPassOf, size_of};
 
 mod calls;
@@ -42,7 +42,8 @@ impl Semaphore {
         mut passes: SemaPasses,
     ) -> Result<Vec<SemaCaller<'a, C>>, AllocError>
         requires { All (IsPassOf self.now.sema) passes.items }
-        ensures { IfOk result (λ callers. vec_len callers ≡ vec_len passes) }
+        ensures count { IfOk result (λ callers. vec_len callers ≡ vec_len passes) }
+        ensures each { IfOk result (λ callers. All (λ caller. caller.semaphore.now ≡ self.now) callers.items) }
     {
         let mut callers = Vec::with_capacity(alloc, passes.len())?;
         while let Some(caller) = SemaCaller::last(self, clock, &mut passes) {
@@ -70,6 +71,7 @@ impl<'a, C: Clock> SemaCaller<'a, C> {
         requires { All (IsPassOf semaphore.now.sema) passes.old.items }
         ensures passes { All (IsPassOf semaphore.now.sema) passes.new.items }
         ensures count { MatchOption result (vec_len passes.old ≡ 0) (λ _. vec_len passes.new + 1 ≡ vec_len passes.old) }
+        ensures at { IfSome result (λ caller. caller.semaphore.now ≡ semaphore.now) }
     {
         let pass = passes.pop()?;
         Some(SemaCaller {

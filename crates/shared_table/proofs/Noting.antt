@@ -20,6 +20,7 @@ use Rattle.shared_table.specs.NewCallers.{AreNewCallers}
 use Rattle.shared_table.specs.Notes.{own_by, IsNoteOf, IsLawfulFor}
 use Rattle.table_rule.specs.Shape.{start_of}
 use Rattle.shared_table.specs.Tables.{first_of}
+use Rattle.table_rule.specs.Values.{AreInRange}
 use Rattle.table_rule.specs.Views.{held_in, most, joined, IsIdle, Looks}
 
 pub nobody : (n : ℕ) (owns : List Own) → held_in n owns ≡ None → owns ≡ []
@@ -73,6 +74,7 @@ lawful_for table note before begin looks =
       none_else = subst (λ (k : Begin). (c : ℕ) → callers_of k ≤ c → looks.calls c ≡ []) begin looks.none_else;
       mine = subst (λ (u : View). (holding : Holding) → held_in u.number u.owns ≡ Some holding → looks.calls holding.number ≡ holding.items) same (mine before.owns refl);
       made = subst (λ (u : View). (c : ℕ) → slice_index u.front c ≤ length (looks.calls c)) same looks.made;
+      values = subst (λ (u : View). AreInRange u.seen) same looks.values;
     }
   where
     mine : (owns : List Own) → before.owns ≡ owns → (holding : Holding) → held_in before.number owns ≡ Some holding → looks.calls holding.number ≡ holding.items

@@ -44,6 +44,7 @@ may_remove k v call m key node level next x p after free is =
         on = p.on ∙ ap (λ n. Some n) key_is;
         costs = p.costs;
         is_entry = ap (λ n. is_key_entry call (leaf_value v.leaf n)) p.at.0 ∙ p.is_entry;
+        values = p.values;
         writes = inl (record { is = is; after = ap (λ n. key_after call (leaf_value v.leaf n)) p.at.0 ∙ after; draft = p.draft; free = λ e e_is. free e e_is ∙ key_is });
       },
     )
@@ -149,6 +150,7 @@ module _ (k : Begin) (first me : Me (Unit {0}) View) (call : MapCall ℕ) (m key
       on = p.on ∙ ap (λ n. Some n) key_is;
       costs = p.costs;
       is_entry = ap (is_key_entry call) held_as ∙ p.is_entry;
+      values = p.values;
       writes = writes;
     },
   )

@@ -28,4 +28,5 @@ module _ (v w : View) (walk : Option Walk) (leaf : Option Leaf) (lock upper : Op
         owned = looks.owned;
         made = looks.made;
         long = looks.long;
+        values = looks.values;
       }

@@ -24,6 +24,7 @@ use Rattle.table_rule.specs.Making.{leaf_value, HasLeaf, found_lock, Makes, bare
 use Rattle.shared_table.specs.Drafts.{IsPoised}
 use Rattle.shared_table.specs.MapCalls.{StillLocked, IsPoisedAt, MadeLocked}
 use Rattle.table_rule.specs.Shape.{start_of}
+use Rattle.table_rule.specs.Values.{HasSmallValues}
 use Rattle.table_rule.specs.Views.{MayPay, view_state}
 use Rattle.table_rule.specs.Walking.{standing, walk_at, given_by, HasWords, Answers, IsAlong, Affords, AtEntry}
 use Rattle.table_rule.specs.Writing.{holding, lock_at}
@@ -35,7 +36,7 @@ unit_pays owns next cost unit one = subst (λ c. Affords c owns) (sym one) (λ o
     let same : unit.0 ≡ own = same_Some unit.0 own (ap (λ o. slice_get o 0) (sym unit.2) ∙ at) in
     subst (MayPay 1) same (refl, unit.5, unit.3))
 
-module _ (k : Begin) (me after : Me (Unit {0}) View) (call : MapCall ℕ) (m key node level next since up : ℕ) (on : map_key call ≡ Some key) (costs : cost_of call ≡ 1) (unit : HasUnit me.0.owns next) (stands : StandsLocked k me (walk_at m key node level since) up) where
+module _ (k : Begin) (me after : Me (Unit {0}) View) (call : MapCall ℕ) (m key node level next since up : ℕ) (on : map_key call ≡ Some key) (costs : cost_of call ≡ 1) (small : HasSmallValues call) (unit : HasUnit me.0.owns next) (stands : StandsLocked k me (walk_at m key node level since) up) where
   abbrev w : Walk
   w = walk_at m key node level since
 
@@ -93,6 +94,7 @@ module _ (k : Begin) (me after : Me (Unit {0}) View) (call : MapCall ℕ) (m key
             on = on;
             costs = costs;
             is_entry = entry;
+            values = small;
           };
           leaf_is = ap (λ (z : View). z.leaf) whole;
           lock = lock word;

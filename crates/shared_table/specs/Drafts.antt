@@ -11,6 +11,7 @@ use Rattle.table_rule.specs.declared.view.View.{View}
 use Rattle.trie_nodes.specs.declared.slot.Slot.{Slot}
 use Rattle.sync_types.specs.KeyCalls.{is_key_entry}
 use Rattle.table_rule.specs.Making.{leaf_value, IsLockAt, Sees}
+use Rattle.table_rule.specs.Values.{HasSmallValues}
 
 -- a seat that has drafted nothing knows, under the lock of a node, that its call is an entry of the history
 pub record IsPoised (k : Begin) (v : View) (call : MapCall ℕ) (m key node level next : ℕ) : Type 0 where
@@ -25,6 +26,7 @@ pub record IsPoised (k : Begin) (v : View) (call : MapCall ℕ) (m key node leve
   pub on : map_key call ≡ Some key
   pub costs : cost_of call ≡ 1
   pub is_entry : is_key_entry call (leaf_value v.leaf key) ≡ true
+  pub values : HasSmallValues call
 
 -- the first caller's room holds this
 abbrev pub with_draft : List Own → List ℕ → List Own

@@ -18,6 +18,7 @@ use Rattle.table_rule.specs.declared.view.Own.{Own}
 use Rattle.table_rule.specs.Operations.{IsOperation}
 use Rattle.shared_table.specs.Tables.{kinds_of, caller_count, first_of}
 use Rattle.table_words.specs.Seats.{begin_of, IsSeatOf}
+use Rattle.table_rule.specs.Values.{AreInRange}
 use Rattle.table_rule.specs.Views.{held_in, IsIdle}
 
 -- for each caller the number of its shared calls that are known
@@ -65,3 +66,4 @@ pub record IsLawfulFor (table : SharedTable) (note : SharedNote) : Type 0 where
   pub none_else : (c : ℕ) → caller_count table ≤ c → calls c ≡ []
   pub mine : (holding : Holding) → own_by note ≡ Some holding → calls holding.number ≡ holding.items
   pub made : (c : ℕ) → slice_index (counts_by note) c ≤ length (calls c)
+  pub values : AreInRange (seen_by note)

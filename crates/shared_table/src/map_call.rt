@@ -12,6 +12,7 @@ ghost use Rattle.sync_model.specs.Note.{SameHome};
 ghost use Rattle.sync_model.specs.Shared.{Called, cost_of, state_of};
 ghost use Rattle.shared_table.specs.Notes.{front_by, own_by, seen_by, IsLawfulFor, IsNoteOf};
 ghost use Rattle.table_rule.specs.Making.{HasUnit, leaf_value, Publishes, StandsLocked};
+ghost use Rattle.table_rule.specs.Values.{HasSmallValues};
 ghost use Rattle.table_words.specs.Seats.{begin_of, IsSeatOf};
 ghost use Rattle.shared_table.specs.Drafts.{IsPoised};
 ghost use Rattle.shared_table.specs.MapCalls.{AnswersAndPrunes, IsEnd, IsReached, IsSight, IsWriting, MadeLocked, MakesAndPrunes, MayHaveMade, StillLocked};
@@ -93,6 +94,7 @@ impl SharedTable {
         requires note { IsNoteOf self.now note.old × IsSome (own_by note.old) }
         requires map { map < maps_of self.now }
         requires call { (map_key call ≡ Some key) × (cost_of call ≡ 1) }
+        requires values { HasSmallValues call }
         requires spare { ForSome (own_by note.old) (λ holding. cost_of call ≤ holding.spare) }
         ensures home { SameHome IsNoteOf note.old note.new }
         ensures called { Called (first_of self.now) (calls.Map map call) (replies.Map result) (cost_of call) (state_of own_by front_by seen_by note.old) (state_of own_by front_by seen_by note.new) }
@@ -117,6 +119,7 @@ impl SharedTable {
     ) -> Sight
         requires table { IsSeatOf self.now.words seat.old }
         requires call { (map_key call ≡ Some key) × (cost_of call ≡ 1) }
+        requires values { HasSmallValues call }
         requires unit { HasUnit seat.old.me.0.owns _next }
         requires stands { (up : ℕ) × StandsLocked (begin_of self.now.words) seat.old.me (walk_at map key node level (length seat.old.me.0.seen)) up }
         requires words { HasWords seat.old.me.0 node 18 }
@@ -186,6 +189,7 @@ impl SharedTable {
     ) -> Option<Paid>
         requires table { IsSeatOf self.now.words seat.old }
         requires call { (map_key call ≡ Some key) × (cost_of call ≡ 1) }
+        requires values { HasSmallValues call }
         requires unit { HasUnit seat.old.me.0.owns next }
         requires stands { (up : ℕ) × StandsLocked (begin_of self.now.words) seat.old.me (walk_at map key node level (length seat.old.me.0.seen)) up }
         requires words { HasWords seat.old.me.0 node 18 }
@@ -272,6 +276,7 @@ impl SharedTable {
     ) -> Option<Paid>
         requires table { IsSeatOf self.now.words seat.old }
         requires call { (map_key call ≡ Some key) × (cost_of call ≡ 1) }
+        requires values { HasSmallValues call }
         requires unit { HasUnit seat.old.me.0.owns next }
         requires writer { IsWriter (begin_of self.now.words) seat.old.me (walk_at map key node level (length seat.old.me.0.seen)) × (seat.old.me.0.leaf ≡ None) }
         requires words { HasWords seat.old.me.0 node 18 }
@@ -352,6 +357,7 @@ impl SharedTable {
     ) -> Paid
         requires table { IsSeatOf self.now.words seat.old }
         requires call { (map_key call ≡ Some key) × (cost_of call ≡ 1) }
+        requires values { HasSmallValues call }
         requires unit { HasUnit seat.old.me.0.owns next }
         requires writing { IsWriting (begin_of self.now.words) seat.old.me map }
         requires map { map < maps_of self.now }
@@ -389,6 +395,7 @@ impl SharedTable {
     ) -> Paid
         requires table { IsSeatOf self.now.words seat.old }
         requires call { (map_key call ≡ Some key) × (cost_of call ≡ 1) }
+        requires values { HasSmallValues call }
         requires unit { HasUnit seat.old.me.0.owns next }
         requires free { IsFree (begin_of self.now.words) seat.old.me × (length seat.old.me.0.owns ≤ 1) }
         requires map { map < maps_of self.now }

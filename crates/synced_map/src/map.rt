@@ -1,5 +1,5 @@
 //! A map, a mutex and a wait group that hand on what callers know of the map.
-ghost use Rattle.std.specs.Prelude.{◌≡◌, ◌+◌, ◌<◌, ◌≤◌, ◌*◌, ◌≤ℤ◌, pos, All, IfOk, IfSome, vec_len};
+ghost use Rattle.std.specs.Prelude.{◌≡◌, ◌+◌, ◌<◌, ◌≤◌, ◌*◌, ◌≤ℤ◌, pos, All, IfOk, IfSome, MatchOption, vec_len};
 ghost use Rattle.std.specs.Option.{ForSome};
 ghost use Rattle.sync_model.specs.Shared.{IsCallerAt};
 ghost use Rattle.shared_table.specs.CallerProps.{caller_prop};
@@ -56,6 +56,7 @@ impl SyncedMap {
         ensures callers { IfOk result (λ made. All (IsCallerAt IsNoteOf own_by made.0.table) made.1.callers.items) }
         ensures locks { IfOk result (λ made. All (IsPassOfMutex made.0.mutex) made.1.locks.items) }
         ensures members { IfOk result (λ made. All (IsPassOf made.0.group) made.1.members.items) }
+        ensures count { IfOk result (λ made. (vec_len made.1.callers ≡ threads) × (vec_len made.1.locks ≡ threads) × (vec_len made.1.members ≡ threads)) }
     {
         let rooms = Vec::from_elem(alloc, room, threads as usize)?;
         let (table, mut callers) = SharedTable::new(alloc, &[], 1, 0, &rooms)?;
@@ -89,6 +90,9 @@ impl SyncedMap {
         requires callers { All (IsCallerAt IsNoteOf own_by self.now.table) passes.callers.items }
         requires locks { All (IsPassOfMutex self.now.mutex) passes.locks.items }
         requires members { All (IsPassOf self.now.group) passes.members.items }
+        requires count { (vec_len passes.locks ≡ vec_len passes.callers) × (vec_len passes.members ≡ vec_len passes.callers) }
+        ensures count { IfOk result (λ callers. vec_len callers ≡ vec_len passes.callers) }
+        ensures each { IfOk result (λ callers. All (λ caller. caller.map.now ≡ self.now) callers.items) }
     {
         let mut callers = Vec::with_capacity(alloc, passes.callers.len())?;
         while let Some(caller) = SyncedMapCaller::last(self, clock, &mut passes) {
@@ -131,10 +135,13 @@ impl<'a, C: Clock> SyncedMapCaller<'a, C> {
         requires callers { All (IsCallerAt IsNoteOf own_by map.now.table) passes.old.callers.items }
         requires locks { All (IsPassOfMutex map.now.mutex) passes.old.locks.items }
         requires members { All (IsPassOf map.now.group) passes.old.members.items }
+        requires count { (vec_len passes.old.locks ≡ vec_len passes.old.callers) × (vec_len passes.old.members ≡ vec_len passes.old.callers) }
         ensures callers { All (IsCallerAt IsNoteOf own_by map.now.table) passes.new.callers.items }
         ensures locks { All (IsPassOfMutex map.now.mutex) passes.new.locks.items }
         ensures members { All (IsPassOf map.now.group) passes.new.members.items }
-        ensures less { IfSome result (λ _. vec_len passes.new.callers + 1 ≡ vec_len passes.old.callers) }
+        ensures count { MatchOption result (vec_len passes.old.callers ≡ 0) (λ _. vec_len passes.new.callers + 1 ≡ vec_len passes.old.callers) }
+        ensures at { IfSome result (λ caller. caller.map.now ≡ map.now) }
+        ensures same { (vec_len passes.new.locks ≡ vec_len passes.new.callers) × (vec_len passes.new.members ≡ vec_len passes.new.callers) }
     {
         let caller = passes.callers.pop()?;
         let lock_pass = passes.locks.pop()?;

@@ -2,6 +2,7 @@ pub mod Layout
 pub mod Ledger
 pub mod Shape
 pub mod Unused
+pub mod Values
 pub mod Gates
 pub mod Owed
 pub mod Rule

@@ -27,6 +27,7 @@ use Rattle.sync_types.specs.KeyCalls.{is_key_entry, key_reply, key_after}
 use Rattle.table_rule.specs.Layout.{size_of}
 use Rattle.table_rule.specs.Shape.{start_of}
 use Rattle.table_rule.specs.Units.{link_at, unit_word}
+use Rattle.table_rule.specs.Values.{HasSmallValues}
 use Rattle.table_rule.specs.Views.{with_item, paid, called_view, view_state, Looks}
 use Rattle.table_rule.specs.Walking.{given_by, FindsIn}
 use Rattle.table_rule.specs.Writing.{holding, lock_at, HasRoomWithin}
@@ -111,6 +112,7 @@ pub record MayPublish (k : Begin) (v : View) (call : MapCall ℕ) (m : ℕ) (l :
   pub on : map_key call ≡ Some l.key
   pub costs : cost_of call ≡ 1
   pub is_entry : is_key_entry call (leaf_value v.leaf l.key) ≡ true
+  pub values : HasSmallValues call
   pub writes : Removes own v.leaf l call x ⊎ (Stores own v.leaf l call x ⊎ Expands k own v.leaf l call x)
 
 -- a lock of which nothing is known any more

@@ -16,6 +16,7 @@ use Rattle.table_rule.specs.Shape.{Shape, start_of, Fine}
 use Rattle.table_rule.specs.Gates.{Gated}
 use Rattle.table_rule.specs.Owed.{Suits}
 use Rattle.table_rule.specs.Unused.{IsUnused}
+use Rattle.table_rule.specs.Values.{AreInRange}
 
 -- a table without slots
 abbrev pub TableState : Type 0
@@ -31,6 +32,7 @@ pub record Kept (k : Begin) (s : TableState) : Type 0 where
   pub lawful : Lawful (start_of k) log calls
   pub none_else : (c : ℕ) → callers_of k ≤ c → calls c ≡ []
   pub keys : HasKeysBelow (2 ^ 32) (contents_after (start_of k) log)
+  pub values : AreInRange log
   pub fine : Fine k shape log s.words
   pub gates : (m : ℕ) → m < k.maps → Gated k shape s.words m
   pub unused : (i : ℕ) → IsUnused k shape s.views i → slice_index s.words i ≡ 0

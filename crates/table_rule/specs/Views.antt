@@ -13,6 +13,7 @@ use Rattle.table_rule.specs.declared.view.View.{View}
 use Rattle.trie_nodes.specs.Layout.{unit_words}
 use Rattle.table_rule.specs.Layout.{first_room, callers_of}
 use Rattle.table_rule.specs.Shape.{start_of}
+use Rattle.table_rule.specs.Values.{AreInRange}
 
 -- callers that made no call, each with its room behind the one before
 abbrev pub new_owns : ℕ → List ℕ → List Own
@@ -157,6 +158,7 @@ pub record Looks (v w : View) : Type 0 where
   pub owned : (i : ℕ) (own : Own) → slice_get v.owns i ≡ Some own → (v.number + i < callers_of v.begin) × (calls (v.number + i) ≡ own.items)
   pub made : (c : ℕ) → slice_index v.front c ≤ length (calls c)
   pub long : length v.front ≡ callers_of v.begin
+  pub values : AreInRange log
 
 -- how many units of room the first caller has, and where the room begins; this number, where there is no caller
 abbrev pub spare_in : ℕ → List Own → ℕ

@@ -1,3 +1,2 @@
 mod AllCallers
-mod Pairs
 mod Walkers

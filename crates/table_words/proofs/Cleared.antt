@@ -32,10 +32,11 @@ use Rattle.table_rule.specs.Owed.{HasRoom, AtGate, IsCutOff, Suits, HoldsLock}
 use Rattle.table_rule.specs.Pruning.{having_cut}
 use Rattle.table_rule.specs.Rule.{TableState, Kept}
 use Rattle.table_rule.specs.Shape.{Shape, start_of}
+use Rattle.table_rule.specs.Values.{AreInRange}
 use Rattle.table_rule.specs.Views.{called_view, with_item, spend, spend_own, view_state}
 use Rattle.table_words.proofs.Closing.{at_gate, not_inside}
 use Rattle.table_words.proofs.Frames.{Later, Apart, cut_on, room_on}
-use Rattle.table_words.proofs.Ledgers.{longer, MayPlace, with_one, adds_one, lawful_after, history_on, grows_on, none_after, fits_after, called, first, contents_on}
+use Rattle.table_words.proofs.Ledgers.{longer, MayPlace, with_one, adds_one, lawful_after, history_on, grows_on, none_after, fits_after, called, first, contents_on, more_in_range}
 use Rattle.table_words.proofs.Lists.{past_end, in_more, words_at, words_at-index}
 use Rattle.table_words.proofs.Looking.{looks_so}
 use Rattle.table_words.proofs.Moves.{Keeps, moves}
@@ -208,6 +209,9 @@ module _ (k : Begin) (laws : HistoryLaws) (s : TableState) (r : Kept k s) (id : 
     | inr other ↦ r.keys n q x (sym (empties.others n q other) ∙ at)
   ]
 
+  in_range : AreInRange (history_with r.log me.0.number item)
+  in_range = more_in_range r.log me.0.number item r.values tt
+
   fits_now : Fits (callers_of k) (history_with r.log me.0.number item) (with_one r.calls me.0.number item) r.claim id view_after
   fits_now = let f = fits_after k laws r.log r.calls (callers_of k) r.claim id r.lawful me.0 own owns is fits item may own_after refl in record { seen = f.seen; heard = f.heard; long = f.long; front = f.front; owns = f.owns }
 
@@ -220,6 +224,7 @@ module _ (k : Begin) (laws : HistoryLaws) (s : TableState) (r : Kept k s) (id : 
     lawful = lawful_after k laws r.log r.calls (callers_of k) r.claim id r.lawful me.0 own owns is fits item may;
     none_else = none_after k laws r.log r.calls (callers_of k) r.claim id r.lawful me.0 own owns is fits item may r.none_else;
     keys = keys_after;
+    values = in_range;
     fine = fine_rooted k r.shape r.log (history_with r.log me.0.number item) s.words m own.next laws ground empties;
     gates = λ n below. gates_rooted k r.shape r.log (history_with r.log me.0.number item) s.words m own.next laws ground empties n below (r.gates n below);
     later = later;
@@ -251,7 +256,7 @@ module _ (k : Begin) (laws : HistoryLaws) (s : TableState) (r : Kept k s) (id : 
     called = subst (λ b. Called (start_of b) (calls.Map m Clear) (replies.Map Done) 1 (view_state me.0) (view_state view_after)) (sym has.begin)
         (called k laws r.log r.calls (callers_of k) r.claim id r.lawful me.0 own owns is fits item may own_after refl 1 (let left = spare in omega arith));
     looks = looks_so k (history_with r.log me.0.number item) (with_one r.calls me.0.number item) r.claim id view_after (lawful_after k laws r.log r.calls (callers_of k) r.claim id r.lawful me.0 own owns is fits item may)
-        (none_after k laws r.log r.calls (callers_of k) r.claim id r.lawful me.0 own owns is fits item may r.none_else) fits_now has.begin;
+        (none_after k laws r.log r.calls (callers_of k) r.claim id r.lawful me.0 own owns is fits item may r.none_else) fits_now in_range has.begin;
   }
 
 -- a seat that has closed a map's gate, and knows that no writer is inside, may write a new root

@@ -19,6 +19,7 @@ use Rattle.table_rule.specs.declared.view.View.{View}
 use Rattle.table_words.specs.Laws.{HistoryLaws}
 use Rattle.table_rule.specs.Ledger.{Owned, Fits}
 use Rattle.table_rule.specs.Shape.{start_of}
+use Rattle.table_rule.specs.Values.{IsInRange, AreInRange}
 use Rattle.table_rule.specs.Views.{held_in, view_state, called_view}
 use Rattle.table_words.proofs.Lists.{item_on}
 
@@ -217,3 +218,15 @@ contents_on laws k log c x entry = by_entry x.entry entry
     by_entry : (b : Bool) → b ≡ is_entry x.call (contents_after (start_of k) log) → contents_after (start_of k) (cond b (log ++ entry_of c x ∷ []) log) ≡ shared_after x.call (contents_after (start_of k) log)
     by_entry true e = laws.contents_both (start_of k) log (entry_of c x ∷ [])
     by_entry false e = sym (laws.unchanged x.call (contents_after (start_of k) log) (sym e))
+
+-- one more call in range leaves the history so
+pub more_in_range : (log : List SharedEntry) (c : ℕ) (x : Item) → AreInRange log → IsInRange x.call → AreInRange (history_with log c x)
+more_in_range log c x all now = by_entry x.entry
+  where
+    behind : (entries : List SharedEntry) → AreInRange entries → AreInRange (entries ++ entry_of c x ∷ [])
+    behind [] before = (now, tt)
+    behind (entry ∷ later) before = (before.0, behind later before.1)
+
+    by_entry : (b : Bool) → AreInRange (cond b (log ++ entry_of c x ∷ []) log)
+    by_entry true = behind log all
+    by_entry false = all

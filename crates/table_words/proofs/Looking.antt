@@ -15,6 +15,7 @@ use Rattle.table_rule.specs.Ledger.{Fits}
 use Rattle.table_rule.specs.Owed.{Suits}
 use Rattle.table_rule.specs.Rule.{TableState, Kept}
 use Rattle.table_rule.specs.Shape.{start_of}
+use Rattle.table_rule.specs.Values.{AreInRange}
 use Rattle.table_rule.specs.Views.{Looks}
 use Rattle.table_words.proofs.Ledgers.{longer}
 use Rattle.table_words.proofs.Moves.{with_view}
@@ -52,8 +53,8 @@ module _ (k : Begin) (laws : HistoryLaws) (s : TableState) (r : Kept k s) (id : 
   kept_seen = with_view k s r id v (record v { seen = r.log }) at_me live refl fits_seen suits_seen
 
 -- what it then knows
-pub looks_so : (k : Begin) (log : List SharedEntry) (calls : ℕ → List Item) (claim : ℕ → ℕ) (id : ℕ) (v : View) → Lawful (start_of k) log calls → ((c : ℕ) → callers_of k ≤ c → calls c ≡ []) → Fits (callers_of k) log calls claim id v → v.begin ≡ k → Looks v (record v { seen = log })
-looks_so k log calls claim id v lawful none_else f begin = record {
+pub looks_so : (k : Begin) (log : List SharedEntry) (calls : ℕ → List Item) (claim : ℕ → ℕ) (id : ℕ) (v : View) → Lawful (start_of k) log calls → ((c : ℕ) → callers_of k ≤ c → calls c ≡ []) → Fits (callers_of k) log calls claim id v → AreInRange log → v.begin ≡ k → Looks v (record v { seen = log })
+looks_so k log calls claim id v lawful none_else f values begin = record {
   log = log;
   calls = calls;
   is = refl;
@@ -64,10 +65,11 @@ looks_so k log calls claim id v lawful none_else f begin = record {
   owned = λ i own at. let o = f.owns i own at in (subst (λ (b : Begin). v.number + i < callers_of b) (sym begin) o.below, o.items);
   made = f.front.made;
   long = subst (λ (b : Begin). length v.front ≡ callers_of b) (sym begin) f.long;
+  values = values;
 }
 
 pub looked : (k : Begin) (s : TableState) (r : Kept k s) (id : ℕ) (v : View) → get_elem? s.views id ≡ some v → v.live ≡ true → v.begin ≡ k → Looks v (record v { seen = r.log })
-looked k s r id v at_me live begin = looks_so k r.log r.calls r.claim id v r.lawful r.none_else (r.fits id v at_me live) begin
+looked k s r id v at_me live begin = looks_so k r.log r.calls r.claim id v r.lawful r.none_else (r.fits id v at_me live) r.values begin
 
 pub looks : (k : Begin) → HistoryLaws → (id : ℕ) (me : Me (Unit {0}) View) (word : ℕ) → me.0.live ≡ true → me.0.begin ≡ k → Allows (Kept k) 0 id me word (λ n. n) (λ found after. (after.1 ≡ me.1) × Looks me.0 after.0)
 looks k laws id me word live begin s r one at_me bounded =

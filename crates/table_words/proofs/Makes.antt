@@ -121,14 +121,14 @@ module _ (k : Begin) (laws : HistoryLaws) (tries : TrieLaws) (s : TableState) (r
         let item = published.item k laws tries s r id v at_me may.own may.owns l m sees.word nodes ready call may.on is_entry in
         let called = published.is_called k laws tries s r id v at_me may.own may.owns l m sees.word nodes ready call may.on is_entry in (
           view_after,
-          published.kept_published k laws tries s r id v at_me may.own may.owns l m sees.word nodes ready call may.on is_entry x fine,
+          published.kept_published k laws tries s r id v at_me may.own may.owns l m sees.word nodes ready call may.on is_entry may.values x fine,
           record {
             item = item;
             seen = stores.log k laws tries s r id v at_me may.own may.owns l m sees.word nodes ready call may.on is_entry;
             is = ap (λ o. record (called_view v o (stores.log k laws tries s r id v at_me may.own may.owns l m sees.word nodes ready call may.on is_entry)) { walk = None; leaf = None; lock = Some (bare l) })
                 (ap (λ o. spend (2 + 18 * nodes) (with_item o item)) (sym sees.is) ∙ ap (λ n. spend n (with_item v.owns item)) used ∙ sym (paid_is (cost_of call) (used_in v.owns) (with_item v.owns item) may.costs));
             called = subst (λ (z : Begin × Option ℕ × ℕ). Called (start_of z.0) (calls.Map m call) (replies.Map (key_reply call z.1)) z.2 (view_state v) (view_state view_after)) (λ i. (sym sees.begin i, held_is i, sym may.costs i)) called;
-            looks = published.looks_then k laws tries s r id v at_me may.own may.owns l m sees.word nodes ready call may.on is_entry sees.begin;
+            looks = published.looks_then k laws tries s r id v at_me may.own may.owns l m sees.word nodes ready call may.on is_entry may.values sees.begin;
           },
         )
 

@@ -18,6 +18,7 @@ use Rattle.table_rule.specs.Owed.{Suits}
 use Rattle.table_rule.specs.Rule.{TableState, Kept}
 use Rattle.table_rule.specs.Shape.{Shape, start_of, Fine}
 use Rattle.table_rule.specs.Unused.{IsUnused}
+use Rattle.table_rule.specs.Values.{AreInRange}
 use Rattle.table_words.proofs.Frames.{Later, Apart, suits_on, fits_on}
 use Rattle.table_words.proofs.Lists.{each_after}
 use Rattle.table_words.proofs.Unused.{LeavesUnused, was_unused, no_word}
@@ -31,6 +32,7 @@ pub record Keeps (k : Begin) (s : TableState) (r : Kept k s) (id c : ℕ) (words
   pub lawful : Lawful (start_of k) log calls
   pub none_else : (d : ℕ) → callers_of k ≤ d → calls d ≡ []
   pub keys : HasKeysBelow (2 ^ 32) (contents_after (start_of k) log)
+  pub values : AreInRange log
   pub fine : Fine k shape log words
   pub gates : (m : ℕ) → m < k.maps → Gated k shape words m
   pub later : Later r.shape shape r.log log s.words words
@@ -60,6 +62,7 @@ moves k laws s r id c words w step = record {
   lawful = step.lawful;
   none_else = step.none_else;
   keys = step.keys;
+  values = step.values;
   fine = step.fine;
   gates = step.gates;
   unused = λ i u. step.leaves.same i u ∙ r.unused i (was_unused k step.shape s.views id step.old w step.at_old step.live r.shape step.later.node step.later.entry i (step.leaves.drafts i u) u);
@@ -83,6 +86,7 @@ with_views k s r claim views unused fits suits = record {
   lawful = r.lawful;
   none_else = r.none_else;
   keys = r.keys;
+  values = r.values;
   fine = r.fine;
   gates = r.gates;
   unused = λ i u. r.unused i (unused i u);

@@ -273,6 +273,7 @@ module _ (k : Begin) (begin : IsBegin k) (ws : List ℕ) (is_blank : IsBlank k w
     begin = begin;
     lawful = laws.start (start_of k);
     none_else = λ c past. refl;
+    values = tt;
     keys = λ m key value at. let none_there : FinMap nat_cmp ℕ = empty in absurd (none-some value (sym (ap (λ held. get held key) (same_for_all k.maps m none_there) ∙ get-empty nat_cmp key) ∙ at));
     fine = blank_fine;
     gates = blank_gates;

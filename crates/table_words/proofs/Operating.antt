@@ -31,7 +31,7 @@ use Rattle.table_rule.specs.Shape.{start_of, IsNumber}
 use Rattle.table_rule.specs.Views.{with_item, called_view, view_state, Looks}
 use Rattle.table_words.proofs.Frames.{suits_on}
 use Rattle.table_words.proofs.KeyBounds.{keys_on}
-use Rattle.table_words.proofs.Ledgers.{longer, bound_at_end, MayPlace, with_one, adds_one, lawful_after, history_on, grows_on, none_after, fits_after, called, contents_on, first}
+use Rattle.table_words.proofs.Ledgers.{longer, bound_at_end, MayPlace, with_one, adds_one, lawful_after, history_on, grows_on, none_after, fits_after, called, contents_on, first, more_in_range}
 use Rattle.table_words.proofs.Looking.{looks_so}
 use Rattle.table_words.proofs.Moves.{Keeps, moves}
 use Rattle.table_rule.specs.Unused.{IsUndrafted}
@@ -85,7 +85,7 @@ module _ (k : Begin) (laws : HistoryLaws) (s : TableState) (r : Kept k s) (id : 
   -- the seat has then seen the whole history, and the call lies at its end
   pub looks_then : v.begin ≡ k → Looks view_after view_after
   looks_then begin = looks_so k (history_with r.log v.number item) (with_one r.calls v.number item) r.claim id view_after (lawful_after k laws r.log r.calls (callers_of k) r.claim id r.lawful v own owns is fits item may)
-      (none_after k laws r.log r.calls (callers_of k) r.claim id r.lawful v own owns is fits item may r.none_else) fits_now begin
+      (none_after k laws r.log r.calls (callers_of k) r.claim id r.lawful v own owns is fits item may r.none_else) fits_now (more_in_range r.log v.number item r.values tt) begin
 
   pub at_end : IsAtEnd (view_state view_after)
   at_end = record {
@@ -174,6 +174,7 @@ module _ (k : Begin) (laws : HistoryLaws) (s : TableState) (r : Kept k s) (id : 
       lawful = lawful_after k laws r.log r.calls (callers_of k) r.claim id r.lawful v own owns is fits item may;
       none_else = none_after k laws r.log r.calls (callers_of k) r.claim id r.lawful v own owns is fits item may r.none_else;
       keys = keys_on laws k r.log v.number item refl (λ m key other is. absurd (cc)) r.keys;
+      values = more_in_range r.log v.number item r.values tt;
       fine = fine_on k laws r.shape r.log (history_with r.log v.number item) s.words a (f found) kind at r.fine history (atomic_after call held) (ap (λ contents. contents.maps) contents_are) (ap (λ contents. contents.numbers) contents_are) after_number;
       gates = λ m inside. gates_on k laws r.shape r.log (history_with r.log v.number item) s.words a (f found) kind at r.fine m inside (r.gates m inside);
       later = later_on k laws r.shape r.log (history_with r.log v.number item) s.words a (f found) kind at r.fine history;

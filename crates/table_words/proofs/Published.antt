@@ -33,10 +33,11 @@ use Rattle.table_rule.specs.Rule.{TableState, Kept}
 use Rattle.table_rule.specs.Shape.{Shape, start_of, Fine}
 use Rattle.table_words.specs.TrieLaws.{TrieLaws}
 use Rattle.table_rule.specs.Units.{link_at, with_unit}
+use Rattle.table_rule.specs.Values.{HasSmallValues}
 use Rattle.table_rule.specs.Views.{called_view, spend_own, view_state, Looks}
 use Rattle.table_words.proofs.Frames.{Later, Apart, cut_on, room_on, stands_on}
 use Rattle.table_words.proofs.KeyCalls.{IsOn, ChangesKey, changes_key}
-use Rattle.table_words.proofs.Ledgers.{longer, MayPlace, with_one, adds_one, lawful_after, history_on, grows_on, none_after, fits_after, called, first}
+use Rattle.table_words.proofs.Ledgers.{longer, MayPlace, with_one, adds_one, lawful_after, history_on, grows_on, none_after, fits_after, called, first, more_in_range}
 use Rattle.table_words.proofs.Lists.{past_end}
 use Rattle.table_words.proofs.Looking.{looks_so}
 use Rattle.table_words.proofs.Moves.{Keeps, moves}
@@ -163,11 +164,11 @@ module _ (k : Begin) (laws : HistoryLaws) (tries : TrieLaws) (s : TableState) (r
     fits_now = let f = fits_after k laws r.log r.calls (callers_of k) r.claim id r.lawful v own owns ready.is fits item may own_after refl in record { seen = f.seen; heard = f.heard; long = f.long; front = f.front; owns = f.owns }
 
     -- the seat has then seen the whole history
-    pub looks_then : v.begin ≡ k → Looks view_after view_after
-    looks_then begin = looks_so k (history_with r.log v.number item) (with_one r.calls v.number item) r.claim id view_after (lawful_after k laws r.log r.calls (callers_of k) r.claim id r.lawful v own owns ready.is fits item may)
-        (none_after k laws r.log r.calls (callers_of k) r.claim id r.lawful v own owns ready.is fits item may r.none_else) fits_now begin
+    pub looks_then : HasSmallValues call → v.begin ≡ k → Looks view_after view_after
+    looks_then small begin = looks_so k (history_with r.log v.number item) (with_one r.calls v.number item) r.claim id view_after (lawful_after k laws r.log r.calls (callers_of k) r.claim id r.lawful v own owns ready.is fits item may)
+        (none_after k laws r.log r.calls (callers_of k) r.claim id r.lawful v own owns ready.is fits item may r.none_else) fits_now (more_in_range r.log v.number item r.values small) begin
 
-    module _ (x : ℕ) (fine : Fine k (with_unit r.shape k.seed m l.level l.key own.next nodes) (history_with r.log v.number item) (set s.words (slot_word l.node (nibble l.key k.seed l.level)) x)) where
+    module _ (small : HasSmallValues call) (x : ℕ) (fine : Fine k (with_unit r.shape k.seed m l.level l.key own.next nodes) (history_with r.log v.number item) (set s.words (slot_word l.node (nibble l.key k.seed l.level)) x)) where
       abbrev words : List ℕ
       words = set s.words (slot_word l.node (nibble l.key k.seed l.level)) x
 
@@ -288,6 +289,7 @@ module _ (k : Begin) (laws : HistoryLaws) (tries : TrieLaws) (s : TableState) (r
         lawful = lawful_after k laws r.log r.calls (callers_of k) r.claim id r.lawful v own owns ready.is fits item may;
         none_else = none_after k laws r.log r.calls (callers_of k) r.claim id r.lawful v own owns ready.is fits item may r.none_else;
         keys = keys_after;
+        values = more_in_range r.log v.number item r.values small;
         fine = fine;
         gates = λ n below. publishing.gates_published k r.shape r.log (history_with r.log v.number item) s.words m l.node l.level l.key x own.next nodes (key_after call (value_at (contents_after (start_of k) r.log) m l.key)) laws tries site changes n below (r.gates n below);
         later = later;

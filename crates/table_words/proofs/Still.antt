@@ -57,6 +57,7 @@ module _ (k : Begin) (laws : HistoryLaws) (s : TableState) (r : Kept k s) (id : 
     lawful = r.lawful;
     none_else = r.none_else;
     keys = r.keys;
+    values = r.values;
     fine = fine;
     gates = gates;
     later = later;

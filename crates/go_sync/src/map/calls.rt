@@ -1,5 +1,5 @@
 //! The calls of a map's caller.
-ghost use Rattle.std.specs.Prelude.{◌≡◌, ◌↔◌, ◌<◌, ◌^◌, true};
+ghost use Rattle.std.specs.Prelude.{◌≡◌, ◌↔◌, ◌<◌, ◌^◌, true, IfSome};
 ghost use Rattle.go_map.specs.Maps.{HasSpare};
 ghost use Rattle.go_sync.specs.MapCallers.{Makes, MakesIf, MakesSome};
 
@@ -13,7 +13,8 @@ use sync_types::{MapCall, MapReply};
 impl MapCaller<'_> {
     /// Go's `Load`: the value of the key, or `None` where it has none. It waits for nobody.
     pub fn get<R: Wait>(&mut self, rt: &R, key: u32) -> Option<u64>
-        ensures { Makes (MapCall.Load key) (MapReply.Found result) self.old self.new }
+        ensures called { Makes (MapCall.Load key) (MapReply.Found result) self.old self.new }
+        ensures found { IfSome result (λ value. value < 2 ^ 63) }
     {
         self.load::<_, Brand>(rt, key, Blank::new(1))
     }
@@ -21,7 +22,8 @@ impl MapCaller<'_> {
     // The same. The words that it reads are counted, and nobody asks for the count.
     fn load<R: Wait, L: Ledger>(&mut self, rt: &R, key: u32, blank: Blank) -> Option<u64>
         requires { (blank.name ≡ L.name) × (blank.parts ≡ L.parts) × (0 < L.parts) }
-        ensures { Makes (MapCall.Load key) (MapReply.Found result) self.old self.new }
+        ensures called { Makes (MapCall.Load key) (MapReply.Found result) self.old self.new }
+        ensures found { IfSome result (λ value. value < 2 ^ 63) }
     {
         self.map
             .load(&mut self.caller, key, &mut Steps::<L>::new(rt, blank))
@@ -51,7 +53,8 @@ impl MapCaller<'_> {
     /// `None` where the caller has no room left, and nothing was done.
     pub fn load_or_store<R: Wait>(&mut self, rt: &R, key: u32, value: u64) -> Option<(u64, bool)>
         requires { value < 2 ^ 63 }
-        ensures { MakesSome (MapCall.LoadOrStore key value) (λ found. MapReply.Settled found.0 found.1) self.old result self.new }
+        ensures called { MakesSome (MapCall.LoadOrStore key value) (λ found. MapReply.Settled found.0 found.1) self.old result self.new }
+        ensures found { IfSome result (λ found. found.0 < 2 ^ 63) }
     {
         if !self.has_room() {
             return None;
@@ -63,7 +66,8 @@ impl MapCaller<'_> {
     /// where the caller has no room left, and nothing was done.
     pub fn swap<R: Wait>(&mut self, rt: &R, key: u32, value: u64) -> Option<Option<u64>>
         requires { value < 2 ^ 63 }
-        ensures { MakesSome (MapCall.Swap key value) MapReply.Found self.old result self.new }
+        ensures called { MakesSome (MapCall.Swap key value) MapReply.Found self.old result self.new }
+        ensures found { IfSome result (λ held. IfSome held (λ value. value < 2 ^ 63)) }
     {
         if !self.has_room() {
             return None;
@@ -107,7 +111,8 @@ impl MapCaller<'_> {
     /// Go's `LoadAndDelete`: removes the key, and answers the value that it had, or `None` where it was absent. `None` outside
     /// where the caller has no room left, and nothing was done.
     pub fn load_and_delete<R: Wait>(&mut self, rt: &R, key: u32) -> Option<Option<u64>>
-        ensures { MakesSome (MapCall.LoadAndDelete key) MapReply.Found self.old result self.new }
+        ensures called { MakesSome (MapCall.LoadAndDelete key) MapReply.Found self.old result self.new }
+        ensures found { IfSome result (λ held. IfSome held (λ value. value < 2 ^ 63)) }
     {
         if !self.has_room() {
             return None;

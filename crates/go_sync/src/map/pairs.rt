@@ -1,5 +1,5 @@
 //! What a map has, by one walk.
-ghost use Rattle.std.specs.Prelude.{◌≡◌};
+ghost use Rattle.std.specs.Prelude.{◌≡◌, ◌<◌, ◌^◌, All, IfOk};
 ghost use Rattle.sync_model.specs.Shared.{IsCallerAt};
 ghost use Rattle.shared_table.specs.Notes.{own_by, IsNoteOf};
 
@@ -13,7 +13,8 @@ use sync_model::Caller;
 impl MapCaller<'_> {
     /// Go's `Range`, whose pairs are gathered: no key twice, each with a value that it had at some moment of the walk.
     pub fn pairs<R: Wait>(&mut self, rt: &R, alloc: Global) -> Result<Vec<(u32, u64)>, AllocError>
-        ensures { self.new.map ≡ self.old.map }
+        ensures map { self.new.map ≡ self.old.map }
+        ensures found { IfOk result (λ pairs. All (λ pair. pair.1 < 2 ^ 63) pairs.items) }
     {
         walked(rt, alloc, &self.map, &mut self.caller)
     }
@@ -27,7 +28,8 @@ fn walked<R: Wait>(
     caller: &mut Caller<SharedNote>,
 ) -> Result<Vec<(u32, u64)>, AllocError>
     requires { IsCallerAt IsNoteOf own_by map.now.table.now caller.old }
-    ensures { IsCallerAt IsNoteOf own_by map.now.table.now caller.new }
+    ensures caller { IsCallerAt IsNoteOf own_by map.now.table.now caller.new }
+    ensures found { IfOk result (λ pairs. All (λ pair. pair.1 < 2 ^ 63) pairs.items) }
 {
     let mut pairs = Vec::new(alloc);
     let mut cursor = Cursor::begin(map, caller);

@@ -1,5 +1,5 @@
 //! The calls on a synced map itself.
-ghost use Rattle.std.specs.Prelude.{◌≡◌, ◌↔◌, ◌<◌, ◌^◌, true};
+ghost use Rattle.std.specs.Prelude.{◌≡◌, ◌↔◌, ◌<◌, ◌^◌, true, IfSome};
 ghost use Rattle.go_map.specs.Maps.{HasSpare};
 ghost use Rattle.synced_map.specs.SyncedCalls.{Calls, CallsIf, CallsSome};
 ghost use Rattle.synced_map.specs.Telling.{FindsWhatWasTold};
@@ -19,6 +19,7 @@ impl<C: Clock> SyncedMapCaller<'_, C> {
     /// unlock and each done that its caller knows of, or what was stored later.
     pub fn get<R: Wait>(&mut self, rt: &R, key: u32) -> Option<u64>
         ensures made { Calls (MapCall.Load key) (MapReply.Found result) self.old self.new }
+        ensures found { IfSome result (λ value. value < 2 ^ 63) }
         ensures finds { FindsWhatWasTold self.old.map.now.table key result self.old.caller.note self.new.caller.note }
     {
         a_get_finds_what_was_told();
@@ -28,7 +29,8 @@ impl<C: Clock> SyncedMapCaller<'_, C> {
     // The load. The words that it reads are counted, and nobody asks for the count.
     fn load<R: Wait, L: Ledger>(&mut self, rt: &R, key: u32, blank: Blank) -> Option<u64>
         requires { (blank.name ≡ L.name) × (blank.parts ≡ L.parts) × (0 < L.parts) }
-        ensures { Calls (MapCall.Load key) (MapReply.Found result) self.old self.new }
+        ensures made { Calls (MapCall.Load key) (MapReply.Found result) self.old self.new }
+        ensures found { IfSome result (λ value. value < 2 ^ 63) }
     {
         let map = Map::at(&self.map.table, 0);
         map.load(&mut self.caller, key, &mut Steps::<L>::new(rt, blank))
@@ -59,7 +61,8 @@ impl<C: Clock> SyncedMapCaller<'_, C> {
     /// false. `None` outside where the caller has no room left, and nothing was done.
     pub fn load_or_store<R: Wait>(&mut self, rt: &R, key: u32, value: u64) -> Option<(u64, bool)>
         requires { value < 2 ^ 63 }
-        ensures { CallsSome (MapCall.LoadOrStore key value) (λ found. MapReply.Settled found.0 found.1) self.old result self.new }
+        ensures made { CallsSome (MapCall.LoadOrStore key value) (λ found. MapReply.Settled found.0 found.1) self.old result self.new }
+        ensures found { IfSome result (λ found. found.0 < 2 ^ 63) }
     {
         if !self.has_room() {
             return None;
@@ -72,7 +75,8 @@ impl<C: Clock> SyncedMapCaller<'_, C> {
     /// where the caller has no room left, and nothing was done.
     pub fn swap<R: Wait>(&mut self, rt: &R, key: u32, value: u64) -> Option<Option<u64>>
         requires { value < 2 ^ 63 }
-        ensures { CallsSome (MapCall.Swap key value) MapReply.Found self.old result self.new }
+        ensures made { CallsSome (MapCall.Swap key value) MapReply.Found self.old result self.new }
+        ensures found { IfSome result (λ held. IfSome held (λ value. value < 2 ^ 63)) }
     {
         if !self.has_room() {
             return None;
@@ -116,7 +120,8 @@ impl<C: Clock> SyncedMapCaller<'_, C> {
     /// Go's `LoadAndDelete`: removes the key, and answers the value that it had, or `None` where it was absent. `None` outside
     /// where the caller has no room left, and nothing was done.
     pub fn load_and_delete<R: Wait>(&mut self, rt: &R, key: u32) -> Option<Option<u64>>
-        ensures { CallsSome (MapCall.LoadAndDelete key) MapReply.Found self.old result self.new }
+        ensures made { CallsSome (MapCall.LoadAndDelete key) MapReply.Found self.old result self.new }
+        ensures found { IfSome result (λ held. IfSome held (λ value. value < 2 ^ 63)) }
     {
         if !self.has_room() {
             return None;

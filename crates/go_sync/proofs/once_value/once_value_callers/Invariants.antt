@@ -3,7 +3,7 @@ use Rattle.go_waits.specs.Onces.{IsPassOf}
 use Rattle.go_sync.proofs.once_value.once_value_callers.Given as goal
 
 abbrev pub invariant-loop-caller : goal.invariant-loop-caller
-invariant-loop-caller g l = All (IsPassOf l.once) l.passes.items × (vec_len l.callers + vec_len l.passes ≡ vec_len l.fn.passes)
+invariant-loop-caller g l = All (IsPassOf l.once) l.passes.items × (vec_len l.callers + vec_len l.passes ≡ vec_len l.fn.passes) × All (λ caller. caller.once.now ≡ l.once) l.callers.items
 
 abbrev pub decreases-loop-caller : goal.decreases-loop-caller
 decreases-loop-caller g l = vec_len l.passes

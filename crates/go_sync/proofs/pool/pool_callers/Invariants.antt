@@ -1,9 +1,9 @@
-use Rattle.std.proofs.Common.{◌≡◌, ◌+◌, vec_len}
+use Rattle.std.proofs.Common.{◌≡◌, ◌+◌, All, vec_len}
 use Rattle.go_pool.specs.Pools.{ArePasses}
 use Rattle.go_sync.proofs.pool.pool_callers.Given as goal
 
 abbrev pub invariant-loop-caller : goal.invariant-loop-caller
-invariant-loop-caller g l = ArePasses l.pool l.passes.items × (vec_len l.callers + vec_len l.passes ≡ vec_len l.fn.passes)
+invariant-loop-caller g l = ArePasses l.pool l.passes.items × (vec_len l.callers + vec_len l.passes ≡ vec_len l.fn.passes) × All (λ caller. caller.pool.now ≡ l.pool) l.callers.items
 
 abbrev pub decreases-loop-caller : goal.decreases-loop-caller
 decreases-loop-caller g l = vec_len l.passes

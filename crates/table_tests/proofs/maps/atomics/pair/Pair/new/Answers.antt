@@ -1,18 +1,12 @@
-use Rattle.std.proofs.Common.{◌≡◌, [], ◌∷◌, ◌++◌, length, slice_get, ap, ◌∙◌}
-use Rattle.table_tests.proofs.Pairs.{is_caller, within, at_last}
+use Rattle.std.proofs.Common.{Some}
+use Rattle.std.proofs.lemmas.List.Elements.{All-pop}
+use Rattle.sync_model.specs.Shared.{IsCallerAt}
+use Rattle.shared_table.specs.Notes.{own_by, IsNoteOf}
 use Rattle.table_tests.proofs.maps.atomics.pair.Pair.new.Goals as goal
 
 pub returns : goal.returns
 returns c =
-    let new = c.in_ok-table.ensures.callers in
-    let rest = c.pop.new.self.items in
-    let start = c.pop-2.new.self.items in
-    let second = c.in-Some.second in
-    let first = c.in-Some-pop.first in
-    let whole : c.in_ok-table.callers.items ≡ rest ++ second ∷ [] = c.in-Some.ensures.items in
-    let less : rest ≡ start ++ first ∷ [] = c.in-Some-pop.ensures.items in
-    record {
-      types = c.in_ok-table.ensures.table.0;
-      is_first = is_caller _ _ _ new (length start) first (ap (λ l. slice_get l (length start)) (whole ∙ ap (λ l. l ++ second ∷ []) less) ∙ within start (second ∷ []) first);
-      is_second = is_caller _ _ _ new (length rest) second (ap (λ l. slice_get l (length rest)) whole ∙ at_last rest second);
-    }
+    let P = IsCallerAt IsNoteOf own_by c.in_ok-table.table in
+    let second = All-pop P c.in_ok-table.callers.items c.pop.new.self.items (Some c.in-Some.second) c.in-Some.ensures.items c.in_ok-table.ensures.each in
+    let first = All-pop P c.pop.new.self.items c.pop-2.new.self.items (Some c.in-Some-pop.first) c.in-Some-pop.ensures.items second.0 in
+    record { types = c.in_ok-table.ensures.table.0; is_first = first.1; is_second = second.1 }
