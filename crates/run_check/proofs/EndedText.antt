@@ -11,9 +11,6 @@ use Rattle.run_check.specs.Rest.{is_ended}
 abbrev pub with_feed : List ℕ → List ℕ
 with_feed text = cond (is_ended text) text (text ++ 10 ∷ [])
 
-onto_joined : (byte : ℕ) (line : List ℕ) (lines : List (List ℕ)) → joined (onto_first byte (line ∷ lines)) ≡ byte ∷ joined (line ∷ lines)
-onto_joined byte line lines = refl
-
 cons_cond : (b : Bool) (byte : ℕ) (text : List ℕ) → byte ∷ cond b text (text ++ 10 ∷ []) ≡ cond b (byte ∷ text) (byte ∷ (text ++ 10 ∷ []))
 cons_cond true byte text = refl
 cons_cond false byte text = refl

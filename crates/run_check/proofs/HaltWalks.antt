@@ -18,7 +18,7 @@ use Rattle.list_checks.specs.SpellLines.{line_end}
 use Rattle.object_checks.specs.declared.journals.row.Row.{Row}
 use Rattle.object_checks.specs.JournalItems.{entries_in_row}
 use Rattle.record_clauses.specs.Lists.{is_halt}
-use Rattle.run_check.specs.Found.{are_no_halts, begins_with_halt}
+use Rattle.run_check.specs.Found.{are_no_halts}
 
 -- ---- a journal
 
@@ -52,16 +52,7 @@ drop_all [] (suc n) past = refl
 drop_all (x ∷ xs) zero past = absurd (omega (arith, past))
 drop_all (x ∷ xs) (suc n) past = drop_all xs n (omega (arith, past))
 
-pub nowhere : (journal : List Row) (n : ℕ) → length journal ≤ n → Behind journal n → None ≡ halt_of (entries_in_row journal)
-nowhere journal n past behind = sym (behind ∙ ap (λ (rows : List Row). halt_of (entries_in_row rows)) (drop_all journal n past))
-
 -- ---- a list
-
-drop_item : (list : List Made) (n : ℕ) (x : Made) → n < length list → x ≡ get_or list n x → drop n list ≡ x ∷ drop (n + 1) list
-drop_item list n x inside is = drop-cons list n x inside ∙ ap (λ y. y ∷ drop (suc n) list) (sym is) ∙ ap (λ (k : ℕ). x ∷ drop k list) (sym (add-one n))
-
-pub begins_here : (list : List Made) (n : ℕ) (x : Made) → n < length list → x ≡ get_or list n x → is_halt x ≡ true → begins_with_halt (drop n list) ≡ true
-begins_here list n x inside is halt = ap begins_with_halt (drop_item list n x inside is) ∙ halt
 
 none_more : (list : List Made) (n : ℕ) (x : Made) → slice_get list n ≡ Some x → is_halt x ≡ false → are_no_halts (take n list) ≡ true → are_no_halts (take (suc n) list) ≡ true
 none_more [] n x at halt none = absurd cc
@@ -73,17 +64,6 @@ none_more (y ∷ list) (suc n) x at halt none = more (is_halt y) none (λ h. non
 
 pub one_more : (list : List Made) (n : ℕ) (x : Made) → slice_get list n ≡ Some x → is_halt x ≡ false → are_no_halts (take n list) ≡ true → are_no_halts (take (n + 1) list) ≡ true
 one_more list n x at halt none = ap (λ (k : ℕ). are_no_halts (take k list)) (add-one n) ∙ none_more list n x at halt none
-
-pub ends_there : (list : List Made) (n : ℕ) → length list ≤ n → are_no_halts (take n list) ≡ true → are_no_halts (take (length list) list) ≡ true
-ends_there list n past none = ap are_no_halts (all list (length list) (omega arith) ∙ sym (all list n past)) ∙ none where
-  all : (list : List Made) (n : ℕ) → length list ≤ n → take n list ≡ list
-  all [] zero past = refl
-  all [] (suc n) past = refl
-  all (x ∷ list) zero past = absurd (omega (arith, past))
-  all (x ∷ list) (suc n) past = ap (λ xs. x ∷ xs) (all list n (omega (arith, past)))
-
-pub nothing_there : (list : List Made) → begins_with_halt (drop (length list) list) ≡ true
-nothing_there list = ap begins_with_halt (drop_all list (length list) (omega arith))
 
 pub left_none : (list : List Made) (from : ℕ) → from ≡ length list → drop from list ≡ []
 left_none list from is = drop_all list from (omega (arith, is))

@@ -111,9 +111,6 @@ items_split line =
     sym (append_assoc made line.last line.halts) ∙ ap (λ xs. (made ++ xs) ++ line.halts) (sym (nothing_behind line.last)) in
     ap (λ xs. line.first ++ xs) tail_is ∙ sym (append_assoc line.first (made ++ (line.last ++ [])) line.halts)
 
-with_halts : Line → List Made → Line
-with_halts line later = record line { halts = later }
-
 -- lines with halts behind them
 record Fuller (old : List Line) (lists : List (List Made)) (new : List Line) : Type 0 where
   before : map before_halts new ≡ map before_halts old

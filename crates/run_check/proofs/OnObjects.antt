@@ -197,7 +197,7 @@ get_right [] ys i = ap (slice_get ys) (let same : 0 + i ≡ i = omega arith in s
 get_right (z ∷ xs) ys i = ap (slice_get (z ∷ (xs ++ ys))) (let same : suc (length xs) + i ≡ suc (length xs + i) = omega arith in same) ∙ get_right xs ys i
 
 -- the type of an atomic stands at its number
-type_at : (objects : List ObjectLine) (place : ℕ) (object : ObjectLine) (type : AtomicKind) → slice_get objects place ≡ Some object → object.kind ≡ kinds.Atomic type
+pub type_at : (objects : List ObjectLine) (place : ℕ) (object : ObjectLine) (type : AtomicKind) → slice_get objects place ≡ Some object → object.kind ≡ kinds.Atomic type
     → slice_get (flat_map (λ (o : ObjectLine). types_of o.kind) objects) (atomic_number objects place) ≡ Some type
 type_at [] place object type at is = absurd cc
 type_at (first ∷ objects) zero object type at is =
@@ -208,14 +208,14 @@ type_at (first ∷ objects) (suc place) object type at is =
     let where_is : atomic_number (first ∷ objects) (suc place) ≡ length (types_of first.kind) + atomic_number objects place = omega (arith, taken, count) in
     ap (slice_get (flat_map (λ (o : ObjectLine). types_of o.kind) (first ∷ objects))) where_is ∙ get_right (types_of first.kind) _ (atomic_number objects place) ∙ type_at objects place object type at is
 
-zero_kind : (type : AtomicKind) → kind_of (zero_of type) ≡ type
+pub zero_kind : (type : AtomicKind) → kind_of (zero_of type) ≡ type
 zero_kind types.Int32 = refl
 zero_kind types.Int64 = refl
 zero_kind types.Uint32 = refl
 zero_kind types.Uint64 = refl
 zero_kind types.Bool = refl
 
-get_map : {X Y : Type 0} (f : X → Y) (xs : List X) (i : ℕ) (x : X) → slice_get xs i ≡ Some x → slice_get (map f xs) i ≡ Some (f x)
+pub get_map : {X Y : Type 0} (f : X → Y) (xs : List X) (i : ℕ) (x : X) → slice_get xs i ≡ Some x → slice_get (map f xs) i ≡ Some (f x)
 get_map f [] i x at = absurd cc
 get_map f (z ∷ xs) zero x at = ap (λ y. Some (f y)) (get_cons z xs x at)
 get_map f (z ∷ xs) (suc i) x at = get_map f xs i x at
@@ -342,15 +342,15 @@ module _ (plan : Plan) where
       places_on start _ items (map_on place object at is, steps_on begin shown ((calls.Next begin, answers.Shown None) ∷ []) (tt, tt)) places
 
   -- the object to which another refers
-  referred : (target : ObjectKind → Bool) (found : Option ObjectLine) → option_map_or (λ (o : ObjectLine). target o.kind) found false ≡ true → (object : ObjectLine) × (found ≡ Some object) × (target object.kind ≡ true)
+  pub referred : (target : ObjectKind → Bool) (found : Option ObjectLine) → option_map_or (λ (o : ObjectLine). target o.kind) found false ≡ true → (object : ObjectLine) × (found ≡ Some object) × (target object.kind ≡ true)
   referred target None h = absurd (false≢true h)
   referred target (Some object) h = (object, refl, h)
 
-  int64 : (atomic : ℕ) (delta : ℤ) (kind : ObjectKind) → is_target (kinds.Once atomic delta) kind ≡ true → kind ≡ kinds.Atomic types.Int64
+  pub int64 : (atomic : ℕ) (delta : ℤ) (kind : ObjectKind) → is_target (kinds.Once atomic delta) kind ≡ true → kind ≡ kinds.Atomic types.Int64
   int64 atomic delta (kinds.Atomic types.Int64) h = refl
   int64 atomic delta kind h = absurd cc
 
-  an_atomic : (value : Number) (kind : ObjectKind) → may_hold value kind ≡ true → (type : AtomicKind) × (kind ≡ kinds.Atomic type)
+  pub an_atomic : (value : Number) (kind : ObjectKind) → may_hold value kind ≡ true → (type : AtomicKind) × (kind ≡ kinds.Atomic type)
   an_atomic value (kinds.Atomic type) h = (type, refl)
   an_atomic value kind h = absurd cc
 
@@ -391,7 +391,7 @@ module _ (plan : Plan) where
   both true false h = absurd (false≢true h)
   both false y h = absurd (false≢true h)
 
-  all_at : {X : Type 0} (p : X → Bool) (xs : List X) (i : ℕ) (x : X) → list_all p xs ≡ true → slice_get xs i ≡ Some x → p x ≡ true
+  pub all_at : {X : Type 0} (p : X → Bool) (xs : List X) (i : ℕ) (x : X) → list_all p xs ≡ true → slice_get xs i ≡ Some x → p x ≡ true
   all_at p [] i x all at = absurd cc
   all_at p (y ∷ xs) zero x all at = ap p (sym (get_cons y xs x at)) ∙ (both (p y) (list_all p xs) all).0
   all_at p (y ∷ xs) (suc i) x all at = all_at p xs i x (both (p y) (list_all p xs) all).1 at
@@ -499,14 +499,14 @@ module _ (plan : Plan) where
       let kind = (both (is_kind object.kind) room p3.1).0 in
       ap (λ b. b && list_all (λ (o : ObjectLine). is_kind o.kind) objects) kind ∙ kinds_in_range (others ++ object ∷ []) objects parts.1
 
-  script_good : (scripts : List (List Call)) (worker : ℕ) → list_all (list_all is_good) scripts ≡ true → list_all is_good (get_or scripts worker []) ≡ true
+  pub script_good : (scripts : List (List Call)) (worker : ℕ) → list_all (list_all is_good) scripts ≡ true → list_all is_good (get_or scripts worker []) ≡ true
   script_good [] worker good = refl
   script_good (script ∷ scripts) zero good = (both (list_all is_good script) (list_all (list_all is_good) scripts) good).0
   script_good (script ∷ scripts) (suc worker) good = script_good scripts worker (both (list_all is_good script) (list_all (list_all is_good) scripts) good).1
 
-  pub spelt_is_on : (worker i : ℕ) (line : Line) (x : Item) → IsReadable plan → RunsAlong (get_or plan.scripts worker []) (calls_made line) line.rest → IsLineOf plan worker line
-      → slice_get (shared_in (items_of line)) i ≡ Some x → IsOn start x.call
-  spelt_is_on worker i line x readable runs is at =
+  -- each call of a script is on an object that is there, and has it; and each object refers to one that is there
+  pub valid_parts : IsReadable plan → (list_all (list_all is_good) plan.scripts ≡ true) × (list_all (λ (o : ObjectLine). refers plan.objects o.kind) plan.objects ≡ true)
+  valid_parts readable =
       let dormant = (length plan.dormant == plan.workers) && list_all (list_all (λ (call : Call). starts_dormant plan.dormant call.operation)) plan.scripts in
       let refer = list_all (λ (o : ObjectLine). refers plan.objects o.kind) plan.objects in
       let turns = list_all (is_turn plan.workers) plan.schedule in
@@ -514,5 +514,10 @@ module _ (plan : Plan) where
       let p1 = both (length plan.scripts == plan.workers) (good && (turns && (refer && dormant))) readable.valid in
       let p2 = both good (turns && (refer && dormant)) p1.1 in
       let p3 = both turns (refer && dormant) p2.1 in
-      let p4 = both refer dormant p3.1 in
-      on_shared start (items_of line) (line_on p4.0 (kinds_in_range [] plan.objects readable.objects) worker (get_or plan.scripts worker []) line (script_good plan.scripts worker p2.0) runs is) i x at
+      (p2.0, (both refer dormant p3.1).0)
+
+  pub spelt_is_on : (worker i : ℕ) (line : Line) (x : Item) → IsReadable plan → RunsAlong (get_or plan.scripts worker []) (calls_made line) line.rest → IsLineOf plan worker line
+      → slice_get (shared_in (items_of line)) i ≡ Some x → IsOn start x.call
+  spelt_is_on worker i line x readable runs is at =
+      let (good, refer) = valid_parts readable in
+      on_shared start (items_of line) (line_on refer (kinds_in_range [] plan.objects readable.objects) worker (get_or plan.scripts worker []) line (script_good plan.scripts worker good) runs is) i x at

@@ -47,12 +47,6 @@ alone bytes text rest is none = is ∙ ap (λ r. text ++ r) none ∙ right text 
   right [] = refl
   right (x ∷ xs) = ap (λ ys. x ∷ ys) (right xs)
 
-pub not_alone : (bytes text rest : List ℕ) → bytes ≡ text ++ rest → bytes ≡ text → rest ≡ []
-not_alone bytes text rest is same = same_behind text rest [] (sym is ∙ same ∙ sym (right text)) where
-  right : (xs : List ℕ) → xs ++ [] ≡ xs
-  right [] = refl
-  right (x ∷ xs) = ap (λ ys. x ∷ ys) (right xs)
-
 pub nothing_behind : (xs : List ℕ) → xs ++ [] ≡ xs
 nothing_behind [] = refl
 nothing_behind (x ∷ xs) = ap (λ ys. x ∷ ys) (nothing_behind xs)
@@ -93,17 +87,6 @@ calls_next plan worker place i script replies call reply after over some call_is
     ∙ ap (λ (rs : List (Reply ℕ)). calls_text plan worker place (call ∷ drop (place + 1) script) rs) (drop_at replies i reply below reply_is)
     ∙ ap (λ (cs : List Call). line ++ calls_text plan worker (place + 1 + passes) cs (drop (i + 1) replies)) (over script place passes)
     ∙ ap (λ (n : ℕ). line ++ calls_text plan worker n (drop n script) (drop (i + 1) replies)) (sym is)
-
--- no script is left
-pub calls_none : (plan : Plan) (worker place : ℕ) (script : List Call) (replies : List (Reply ℕ)) → script ≡ [] → calls_text plan worker place script replies ≡ []
-calls_none plan worker place script replies e = ap (λ (cs : List Call). calls_text plan worker place cs replies) e ∙ none replies
-  where
-    none : (rs : List (Reply ℕ)) → calls_text plan worker place [] rs ≡ []
-    none [] = refl
-    none (r ∷ rs) = refl
-
-pub calls_done : (plan : Plan) (worker place : ℕ) (script : List Call) (replies : List (Reply ℕ)) → replies ≡ [] → calls_text plan worker place script replies ≡ []
-calls_done plan worker place script replies e = ap (λ (rs : List (Reply ℕ)). calls_text plan worker place script rs) e
 
 -- one more worker
 pub workers_next : (plan : Plan) (i : ℕ) (replies : List (List (Reply ℕ))) (completed : List (Reply ℕ))

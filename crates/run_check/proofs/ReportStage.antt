@@ -12,7 +12,7 @@ use Rattle.sync_model.specs.declared.item.Item.{Item}
 use Rattle.sync_model.specs.declared.item.SharedCall.{SharedCall}
 use Rattle.sync_model.specs.declared.item.SharedEntry.{SharedEntry}
 use Rattle.sync_model.specs.EndsOfHistory.{HasKeysBelow}
-use Rattle.sync_model.specs.SharedHistory.{Contents, IsLegal, contents_after, entry_of, value_at}
+use Rattle.sync_model.specs.SharedHistory.{Contents, contents_after, entry_of, value_at}
 use Rattle.workload.specs.Draft.{all_keys, distinct_count}
 use Rattle.workload.specs.declared.limits.TheConstants.{MAX_KEYS}
 use Rattle.workload.specs.Keys.{keys_in}
@@ -161,9 +161,6 @@ module _ (laws : Laws) (told : Told) (found : Spelling) (marked : List (List Ite
     up_to_report : joined told.report ≡ report_text told.plan outcome_is → (clause : Clause) → claims.place_of clause ≤ claims.place_of clauses.Report → Holds claim account clause
     up_to_report same clauses.Report below = reported same
     up_to_report same clause below = holds clause (omega arith)
-
-  pub legal_entries : IsLegal (contents_of told.plan) history
-  legal_entries = is.legal.legal
 
   pub entries_there : (n : ℕ) (entry : SharedEntry) → slice_get history n ≡ Some entry → IsOn (contents_of told.plan) entry.call
   entries_there = entries_on is.stopped.0 is.stopped.1

@@ -25,15 +25,6 @@ at_end : {X : Type 0} (xs : List X) (x : X) (n : ℕ) → length xs ≡ n → sl
 at_end xs x n count = subst (λ k. slice_get (xs ++ x ∷ []) k ≡ Some x) count (get_last xs x)
 
 module _ (plan : Plan) (items : List ItemLine) where
-  pub none_found : (found : Spelling) → found.lines ≡ [] → found.all ≡ [] → found.shared.items ≡ [] → found.entries ≡ [] → AreSpeltTo plan items 0 found
-  none_found found lines all shared entries = record {
-    lines = ap length lines;
-    all = ap length all;
-    shared = ap length shared;
-    entries = ap length entries;
-    each = λ worker below. absurd (omega (arith, below));
-  }
-
   pub one_found_more : (n : ℕ) (old new : Spelling) (one : SpeltList) → AreSpeltTo plan items n old → IsSpeltList plan items n one
       → new.lines ≡ old.lines ++ one.line ∷ [] → new.all ≡ old.all ++ one.told.all ∷ [] → new.shared.items ≡ old.shared.items ++ one.told.shared ∷ [] → new.entries ≡ old.entries ++ one.told.entries ∷ []
       → AreSpeltTo plan items (n + 1) new

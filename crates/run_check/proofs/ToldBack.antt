@@ -33,23 +33,15 @@ use Rattle.told_items.specs.Items.{Kept, Sketched, along_behind, asked_by, begun
 use Rattle.told_items.specs.Replies.{reply_told}
 use Rattle.entry_marks.specs.Marks.{unmarked}
 use Rattle.record_clauses.specs.Account.{ToldItem}
-use Rattle.run_check.specs.Completeness.{AllSay, Says}
 use Rattle.run_check.specs.Items.{line_of, told_item, unmarked_item}
 use Rattle.run_check.proofs.ToldEntries.{DeedIs, deed_back, event_back, no_halt}
 use Rattle.run_check.proofs.ToldLists.{mapped}
 use Rattle.run_check.proofs.ToldReplies.{SharedReplyIs, reply_back}
 
 module _ (plan : Plan) (kept : Kept) (worker : ℕ) where
-  pub list_back : (along : Along) (list : List ToldItem) (lines : List ItemLine) → AllSay plan kept worker along list lines → (items : List Sketched) × (list_told plan kept worker along lines ≡ Some items) × (map (told_item worker) items ≡ map unmarked_item list)
-  list_back along [] [] say = ([], refl, refl)
-  list_back along [] (line ∷ lines) say = absurd say
-  list_back along (x ∷ list) [] say = absurd say
-  list_back along (x ∷ list) (line ∷ lines) ((sketch, told, same), say) =
-      let (items, later, alike) = list_back (along_behind along line.said) list lines say in (
-        record { index = line.index; front = line.front; sketch = sketch } ∷ items,
-        ap (λ one. sketched_before line one (list_told plan kept worker (along_behind along line.said) lines)) told ∙ ap (sketched_before line (Some sketch)) later,
-        ap (λ (y : ToldItem). y ∷ map (told_item worker) items) same ∙ ap (λ (ys : List ToldItem). unmarked_item x ∷ ys) alike,
-      )
+  -- the line is read as the item, but for its mark
+  abbrev Says : Along → ToldItem → ItemLine → Type 0
+  Says along x line = (sketch : Sketch) × (sketch_told plan kept worker along line.index line.said ≡ Some sketch) × (told_item worker (record { index = line.index; front = line.front; sketch = sketch }) ≡ unmarked_item x)
 
   -- ---- when a line is read as its item
 
@@ -132,10 +124,10 @@ module _ (plan : Plan) (kept : Kept) (worker : ℕ) where
   )
 
   -- so the line in which it is written is read as the item
-  pub says_back : (along : Along) (x : ToldItem) (line : ItemLine) → ItemIs along x.call x.number x.made → line_of worker x ≡ Some line → Says plan kept worker along x line
+  says_back : (along : Along) (x : ToldItem) (line : ItemLine) → ItemIs along x.call x.number x.made → line_of worker x ≡ Some line → Says along x line
   says_back along x line is writes =
       let (s, says, same) = mapped (λ (s : Said). record { worker = worker; index = x.call; front = written.front_in x.made; said = s }) (written.made_said x.number x.made) line writes in
-      subst (Says plan kept worker along x) same (made_back along x.call x.number x.made s is says)
+      subst (Says along x) same (made_back along x.call x.number x.made s is says)
 
   -- each item of a list is such, with what stands before it
   abbrev pub AllAre : Along → List ToldItem → List ItemLine → Type 0
@@ -143,11 +135,23 @@ module _ (plan : Plan) (kept : Kept) (worker : ℕ) where
   AllAre along (x ∷ list) [] = ⊥
   AllAre along (x ∷ list) (line ∷ lines) = ItemIs along x.call x.number x.made × AllAre (along_behind along line.said) list lines
 
-  pub all_say : (along : Along) (list : List ToldItem) (lines : List ItemLine) → map (line_of worker) list ≡ map Some lines → AllAre along list lines → AllSay plan kept worker along list lines
-  all_say along [] [] written_so are = tt
-  all_say along [] (line ∷ lines) written_so are = absurd cc
-  all_say along (x ∷ list) [] written_so are = absurd cc
-  all_say along (x ∷ list) (line ∷ lines) written_so are =
+  -- the lines are read as the items
+  abbrev AreRead : Along → List ToldItem → List ItemLine → Type 0
+  AreRead along list lines = (items : List Sketched) × (list_told plan kept worker along lines ≡ Some items) × (map (told_item worker) items ≡ map unmarked_item list)
+
+  one_more : (along : Along) (x : ToldItem) (list : List ToldItem) (line : ItemLine) (lines : List ItemLine) → Says along x line → AreRead (along_behind along line.said) list lines → AreRead along (x ∷ list) (line ∷ lines)
+  one_more along x list line lines (sketch, told, same) (items, later, alike) = (
+    record { index = line.index; front = line.front; sketch = sketch } ∷ items,
+    ap (λ one. sketched_before line one (list_told plan kept worker (along_behind along line.said) lines)) told ∙ ap (sketched_before line (Some sketch)) later,
+    ap (λ (y : ToldItem). y ∷ map (told_item worker) items) same ∙ ap (λ (ys : List ToldItem). unmarked_item x ∷ ys) alike,
+  )
+
+  -- so the lines in which they are written are
+  pub list_back : (along : Along) (list : List ToldItem) (lines : List ItemLine) → map (line_of worker) list ≡ map Some lines → AllAre along list lines → AreRead along list lines
+  list_back along [] [] written_so are = ([], refl, refl)
+  list_back along [] (line ∷ lines) written_so are = absurd cc
+  list_back along (x ∷ list) [] written_so are = absurd cc
+  list_back along (x ∷ list) (line ∷ lines) written_so are =
       let first : line_of worker x ≡ Some line = cc in
       let rest : map (line_of worker) list ≡ map Some lines = cc in
-      (says_back along x line are.0 first, all_say (along_behind along line.said) list lines rest are.1)
+      one_more along x list line lines (says_back along x line are.0 first) (list_back (along_behind along line.said) list lines rest are.1)

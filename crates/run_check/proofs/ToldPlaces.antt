@@ -30,6 +30,11 @@ there zero xs x ys is = ap (λ (l : List Call). slice_get l 0) is
 there (suc p) [] x ys is = let long = ap (λ (l : List Call). length l) is in absurd (omega (arith, long))
 there (suc p) (z ∷ zs) x ys is = there p zs x ys is
 
+-- what holds at each place of a list holds of each of its elements
+pub each_of : {X : Type 0} (P : X → Type 0) (xs : List X) → ((i : ℕ) (x : X) → slice_get xs i ≡ Some x → P x) → AllByRecursion P xs
+each_of P [] at = tt
+each_of P (x ∷ xs) at = (at 0 x refl, each_of P xs (λ i y there. at (suc i) y there))
+
 module _ (plan : Plan) (worker : ℕ) (P : Option Call → Made → Type 0) where
   -- it holds of each item, of the call whose place in the script is told
   abbrev pub AllOf : List Made → List (Option ℕ) → Type 0

@@ -36,6 +36,7 @@ use Rattle.run_record.specs.StartsKind.{IsStartsJournal}
 use Rattle.workload.specs.Puts.{puts_at}
 use Rattle.run_record.specs.Record.{ObjectEntry, Record, calls_of, entries_in, front_of, journal_of, list_of, object_number, shared_in, stop}
 use Rattle.run_cuts.specs.Blind.{bare}
+use Rattle.run_cuts.specs.CallsAlong.{calls_along}
 use Rattle.run_check.specs.Completeness.{plain_entry, plain_made, plain_record}
 use Rattle.run_check.proofs.SpellNothing.{IsBlind}
 use Rattle.run_check.proofs.SpeltClaims.{all_same, gather}
@@ -184,7 +185,7 @@ module _ (r : Record) where
 
 abbrev with_items : Plan → ℕ → Line → Line → Type 0
 with_items plan worker line other =
-    IsLineOf plan worker other × (items_of other ≡ map plain_made (items_of line)) × (other.ending ≡ line.ending) × (other.rest ≡ line.rest) × (calls_made other ≡ calls_made line)
+    IsLineOf plan worker other × (items_of other ≡ map plain_made (items_of line)) × (other.ending ≡ line.ending) × (other.rest ≡ line.rest) × (calls_made other ≡ calls_made line) × (calls_along other ≡ calls_along line)
 
 replies_are : (spelt : List SpeltCall) → map (λ (p : Call × Reply ℕ). p.1) (map (λ (s : SpeltCall). (s.call, s.reply)) spelt) ≡ map (λ (s : SpeltCall). s.reply) spelt
 replies_are [] = refl
@@ -215,7 +216,7 @@ module _ (blind : IsBlind) (plan : Plan) (outcome : Outcome) (r : Record) (lines
     of : ((line : Line) × (worker < length lines) × (slice_get lines worker ≡ Some line) × (get_or lines worker line ≡ line)) ⊎ ((length lines ≤ worker) × (slice_get lines worker ≡ None)) → (other : Line) × IsLike worker other
     of (inl (line, within, there, read)) =
         let like = blind plan worker line (map plain_made (items_of line)) (plain_bare (items_of line)) (are.each worker line there) in
-        (like.like, λ one at. subst (λ (l : Line). with_items plan worker l like.like) (same_Some line one (sym there ∙ at)) (like.is, like.items_are, like.ending, like.rest, like.calls))
+        (like.like, λ one at. subst (λ (l : Line). with_items plan worker l like.like) (same_Some line one (sym there ∙ at)) (like.is, like.items_are, like.ending, like.rest, like.calls, like.along))
     of (inr (past, none)) = absurd (omega (arith, past, below))
 
   likes : (others : List Line) × (length others ≡ length lines) × ((worker : ℕ) (other : Line) → slice_get others worker ≡ Some other → IsLike worker other)
@@ -255,19 +256,25 @@ module _ (blind : IsBlind) (plan : Plan) (outcome : Outcome) (r : Record) (lines
     like_agrees (Misused left misuse) (ended, none, halted) = (all_ends HasEnded others lines count like_ends ended, none, ap (λ (j : List ObjectEntry). halt_after None j) (journal_is r stop) ∙ plain_halt None (journal_of r stop) ∙ halted)
     like_agrees (Deadlocked left) agrees = absurd agrees
 
-pub plain_explains : IsBlind → (plan : Plan) (outcome : Outcome) (r : Record) → Explains plan outcome r → Explains plan outcome (plain_record r)
+-- a line's items are of the same calls as those of the line that it was
+abbrev pub AreAlong : (lines others : List Line) → Type 0
+AreAlong lines others = (worker : ℕ) (other : Line) → slice_get others worker ≡ Some other → (line : Line) × (slice_get lines worker ≡ Some line) × (calls_along other ≡ calls_along line)
+
+pub plain_explains : IsBlind → (plan : Plan) (outcome : Outcome) (r : Record) (explains : Explains plan outcome r) → (plain : Explains plan outcome (plain_record r)) × AreAlong explains.lines plain.lines
 plain_explains blind plan outcome r explains =
-    let (others, count, each) = likes blind plan outcome r explains.lines explains.are in
-    record {
-      lines = others;
-      are = like_lines blind plan outcome r explains.lines explains.are others count each;
-      lawful = plain_lawful r plan explains.lawful;
-      agrees = like_agrees blind plan outcome r explains.lines explains.are others count each outcome explains.agrees;
-    }
+    let (others, count, each) = likes blind plan outcome r explains.lines explains.are in (
+      record {
+        lines = others;
+        are = like_lines blind plan outcome r explains.lines explains.are others count each;
+        lawful = plain_lawful r plan explains.lawful;
+        agrees = like_agrees blind plan outcome r explains.lines explains.are others count each outcome explains.agrees;
+      },
+      λ worker other at. let (line, there, like) = line_was blind plan outcome r explains.lines explains.are others count each worker other at in (line, there, like.5),
+    )
 
 -- ---- an entry in a worker's list
 
-entry_in : (list : List Made) (i object : ℕ) (entry : ObjectEntry) → slice_get list i ≡ Some (Entered object entry) → (j : ℕ) × (slice_get (entries_in object list) j ≡ Some entry)
+pub entry_in : (list : List Made) (i object : ℕ) (entry : ObjectEntry) → slice_get list i ≡ Some (Entered object entry) → (j : ℕ) × (slice_get (entries_in object list) j ≡ Some entry)
 entry_in [] i object entry at = absurd (none-some (Entered object entry) at)
 entry_in (Shared x ∷ list) zero object entry at = absurd cc
 entry_in (Shared x ∷ list) (suc i) object entry at = entry_in list i object entry at
@@ -289,17 +296,8 @@ by_caller worker j (x ∷ journal) entry at = of j (λ k there. by_caller worker
   of (suc k) later true is there = later k there
   of k later false is there = later k there
 
-plain_notes : (made : Made) (object : ℕ) (entry : ObjectEntry) → plain_made made ≡ Entered object entry → (entry.knew ≡ 0) × (entry.time ≡ 0)
-plain_notes (Shared x) object entry same = absurd cc
-plain_notes (Entered other one) object entry same =
-    let entries : plain_entry one ≡ entry = cc in
-    (sym (ap (λ (e : ObjectEntry). e.knew) entries), sym (ap (λ (e : ObjectEntry). e.time) entries))
-
--- in a record without what lines leave out, each entry in a worker's list is its own, and nothing else is told of it
-pub own_entry : (plan : Plan) (r : Record) → IsRecordOf plan r → (worker i object : ℕ) (entry : ObjectEntry) → slice_get (list_of (plain_record r) worker) i ≡ Some (Entered object entry) → (entry.caller ≡ worker) × (entry.knew ≡ 0) × (entry.time ≡ 0)
+-- each entry in a worker's list is its own
+pub own_entry : (plan : Plan) (r : Record) → IsRecordOf plan r → (worker i object : ℕ) (entry : ObjectEntry) → slice_get (list_of r worker) i ≡ Some (Entered object entry) → entry.caller ≡ worker
 own_entry plan r is worker i object entry at =
-    let (j, there) = entry_in (list_of (plain_record r) worker) i object entry at in
-    let once = (plain_lawful r plan is).once worker object in
-    let (was, before, same) = mapped plain_made (slice_get (list_of r worker) i) (Entered object entry) (sym (slice_get-map plain_made (list_of r worker) i) ∙ sym (ap (λ (l : List Made). slice_get l i) (list_is r worker)) ∙ at) in
-    let (knew, time) = plain_notes was object entry same in
-    (by_caller worker j (journal_of (plain_record r) object) entry (sym (ap (λ (l : List ObjectEntry). slice_get l j) once) ∙ there), knew, time)
+    let (j, there) = entry_in (list_of r worker) i object entry at in
+    by_caller worker j (journal_of r object) entry (sym (ap (λ (l : List ObjectEntry). slice_get l j) (is.once worker object)) ∙ there)
