@@ -1,6 +1,6 @@
 -- What is added to a ledger, one piece behind the other.
 use Rattle.std.proofs.Common.{◌≡◌, ℕ, zero, suc, ◌+◌, ◌<◌, ◌&&◌, Bool, true, false, not, cond, List, [], ◌∷◌, ◌++◌, map, filter, flat_map, fold, take, get_or, length, replicate, Option, Some, None, slice_get, refl, sym, ap, ◌∙◌, subst, append-nil, append_assoc, arith}
-use Rattle.std.specs.List.{AllByRecursion, range_with_len}
+use Rattle.std.specs.List.{AllByRecursion, list_all, range_with_len}
 use Rattle.std.proofs.lemmas.List.FromFn.{get_or-map-range_with_len, length-map-range_with_len}
 use Rattle.std.proofs.lemmas.List.Elements.{filter-append}
 use Rattle.std.proofs.lemmas.Grind.{flat_map-append}
@@ -32,7 +32,7 @@ use Rattle.scheduled_record.specs.declared.ledger.WorkerState.{WorkerState}
 use Rattle.scheduled_record.specs.ItemsOf.{AreItemsOf}
 use Rattle.scheduled_record.specs.Ledgers.{IsKept, IsLedgerOf, AreRight, Adds, adding, waits_in}
 use Rattle.scheduled_record.specs.RunActs.{acts_by, going_acts, waits_still, ending_acts, leaving_acts, closing_acts, closed_acts, with_item, run_acts}
-use Rattle.scheduled_record.specs.ToldItems.{ToldAct, acts_in, told_as, with_told_item, with_told_turn, told_turns, closed_told, told_run}
+use Rattle.scheduled_record.specs.ToldItems.{ToldAct, acts_in, told_as, with_told_item, with_told_turn, told_turns, closed_told, told_run, is_in_64_bits}
 use Rattle.scheduled_record.proofs.RunInRange.{some_dormant}
 
 answered_first : (contents : Contents) (acts more : List Act) → AreAnswered contents (acts ++ more) → AreAnswered contents acts
@@ -324,11 +324,12 @@ module _ (plan : Plan) (l : Ledger) (workers : l.workers.items ≡ map (first_wo
   nothing_yet true = refl
   nothing_yet false = refl
 
-  pub begun_of : IsLedgerOf plan l
-  begun_of = record {
+  pub begun_of : l.lines.items ≡ [] → IsLedgerOf plan l
+  begun_of lines = record {
     workers = long;
     journals = many;
     dormant = λ w x at waits. ap (λ (y : WorkerState). y.waits) (worker_at w x at) ∙ waits;
+    numbers = ap (list_all is_in_64_bits) lines;
   }
 
   pub begun_kept : l.history ≡ 0 → l.maps.items ≡ (contents_of plan).maps → l.lines.items ≡ [] → IsKept plan [] l
@@ -346,6 +347,7 @@ module _ (plan : Plan) (l : Ledger) (workers : l.workers.items ≡ map (first_wo
     history = history;
     maps = maps;
     lines = lines;
+    fronts = refl;
   }
 
 -- ---- the acts that are told
@@ -355,7 +357,7 @@ acts_as index [] = refl
 acts_as index (act ∷ acts) = ap (λ (l : List Act). act ∷ l) (acts_as index acts)
 
 module _ (plan : Plan) where
-  item_acts : (index : Option ℕ) (told : List ToldAct) (item : Item) → acts_in (with_told_item plan index told item) ≡ with_item plan (acts_in told) item
+  pub item_acts : (index : Option ℕ) (told : List ToldAct) (item : Item) → acts_in (with_told_item plan index told item) ≡ with_item plan (acts_in told) item
   item_acts index told item =
       let goes = going_acts plan (acts_in told) item.caller in
       let does = acts_by item.caller (recorded_item plan (length (shared_in (made_by item.caller (acts_in told)))) item) in

@@ -12,8 +12,7 @@ use Rattle.record_text.specs.ItemLines.{is_item}
 use Rattle.record_text.specs.LawfulItems.{has_numbers}
 use Rattle.record_text.specs.Numbers.{has_64_bits, is_front}
 use Rattle.record_text.specs.Written.{front_in, item_line, made_said}
-use Rattle.scheduled_record.specs.Recorded.{is_in_64_bits}
-use Rattle.scheduled_record.specs.ToldItems.{ToldAct, told_by, number_of, line_in}
+use Rattle.scheduled_record.specs.ToldItems.{ToldAct, told_by, number_of, line_in, is_in_64_bits}
 use Rattle.scheduled_record.proofs.Gaining.{and_true}
 use Rattle.scheduled_record.proofs.WideFronts.{same_front}
 
@@ -29,6 +28,10 @@ each_told P (t ∷ told) all = (all t.act.worker 0 t here, each_told P told late
     chosen : (b : Bool) → (t.act.worker == worker) ≡ b → P u
     chosen true is = all worker (suc i) u (ap (λ (b : Bool). slice_get (cond b (t ∷ told_by worker told) (told_by worker told)) (suc i)) is ∙ at)
     chosen false is = all worker i u (ap (λ (b : Bool). slice_get (cond b (t ∷ told_by worker told) (told_by worker told)) i) is ∙ at)
+
+pub each_true : {A : Type 0} (p : A → Bool) (xs : List A) → list_all p xs ≡ true → AllByRecursion (λ (x : A). p x ≡ true) xs
+each_true p [] all = tt
+each_true p (x ∷ xs) all = let both = and_true (p x) (list_all p xs) all in (both.0, each_true p xs both.1)
 
 -- the line of an item, where it has one, which is in range where its numbers have 64 bits
 abbrev pub HasLine : Plan → ℕ → ToldAct → Type 0

@@ -1,22 +1,26 @@
 -- One act more in a ledger.
-use Rattle.std.proofs.Common.{◌≡◌, ◌≢◌, ◌⊎◌, ℕ, zero, suc, ◌+◌, ◌<◌, ◌==◌, ◌&&◌, Bool, true, false, cond, List, [], ◌∷◌, ◌++◌, map, flat_map, fold, length, get_or, set, Option, Some, slice_get, slice_set, inl, inr, refl, sym, ap, ◌∙◌, subst, append-nil, arith}
+use Rattle.std.proofs.Common.{◌≡◌, ◌≢◌, ◌⊎◌, ℕ, zero, suc, ◌+◌, ◌<◌, ◌==◌, ◌&&◌, Bool, true, false, cond, List, [], ◌∷◌, ◌++◌, map, flat_map, fold, length, get_or, set, Option, Some, None, slice_get, slice_set, inl, inr, refl, sym, ap, ◌∙◌, subst, append-nil, arith}
+use Rattle.std.specs.List.{list_all}
 use Rattle.std.specs.Option.{option_map_or}
 use Rattle.std.proofs.lemmas.Bool.Decides.{eqb_tells}
 use Rattle.std.proofs.lemmas.Bool.{eq-eqb, ne_eqb}
 use Rattle.std.proofs.lemmas.List.{map-append, length-map, length-append, length-set, length-replicate, get_or-set_same, get_or-set_other}
+use Rattle.std.proofs.lemmas.List.Folds.{list_all-append}
 use Rattle.std.proofs.lemmas.List.Sums.{fold-append}
 use Rattle.std.proofs.lemmas.Grind.{flat_map-append}
 use Rattle.std.proofs.lemmas.Option.{none-some, same_Some, slice_get-get_or}
-use Rattle.std.specs.Prelude.{Result, Ok, Err, OnOk}
+use Rattle.std.specs.Prelude.{Result, Ok, Err, OnOk, IfSome}
 use Rattle.sync_model.specs.declared.item.Item.{Item}
 use Rattle.sync_model.specs.SharedHistory.{Contents, is_entry, shared_after}
 use Rattle.workload.specs.Plan.{Plan, is_dormant}
 use Rattle.run_record.specs.declared.made.Made.{Made}
 use Rattle.run_record.specs.declared.made.Made.TheVariants.{Shared, Entered}
 use Rattle.run_record.specs.Objects.{contents_of, object_count}
-use Rattle.run_record.specs.Record.{ObjectEntry, entries_in}
+use Rattle.run_record.specs.Record.{ObjectEntry, entries_in, front_of}
 use Rattle.record_text.specs.declared.item_line.ItemLine.{ItemLine}
 use Rattle.record_text.specs.declared.item_line.Said.{Said}
+use Rattle.record_text.specs.LawfulItems.{has_numbers}
+use Rattle.record_text.specs.Numbers.{has_64_bits}
 use Rattle.record_text.specs.Written.{shared_said, entry_said}
 use Rattle.kept_record.specs.Acts.{IsAnswered, contents_behind, AreAnswered}
 use Rattle.kept_record.specs.Keeping.{Act, Account, made_by, entries_on, known_by, released_at, counted, learnt, given, placed, entered, with_made, with_act, none_known, opened, account_of}
@@ -25,7 +29,7 @@ use Rattle.scheduled_record.specs.declared.ledger.JournalState.{JournalState}
 use Rattle.scheduled_record.specs.declared.ledger.WorkerState.{WorkerState}
 use Rattle.scheduled_record.specs.Ledgers.{IsWorkerKept, IsJournalKept, IsKept, IsLedgerOf, AreRight, known_in, line_by, IsPlaced, number_in, released_in, learnt_in, IsEntered}
 use Rattle.scheduled_record.specs.RunActs.{acts_by, is_nothing, waits_still}
-use Rattle.scheduled_record.specs.ToldItems.{ToldAct, acts_in, told_as, told_with, kept_told, line_in, lines_told}
+use Rattle.scheduled_record.specs.ToldItems.{ToldAct, acts_in, told_as, told_with, kept_told, line_in, lines_told, is_in_64_bits, has_64_bit_front}
 use Rattle.scheduled_record.proofs.Lists.{made-append}
 
 -- ---- rows
@@ -88,6 +92,9 @@ with_last [] [] t act same = refl
 with_last [] (one ∷ acts) t act same = absurd (omega (arith, same))
 with_last (one ∷ told) [] t act same = absurd (omega (arith, same))
 with_last (s ∷ told) (one ∷ acts) t act same = let less : length told ≡ length acts = omega (arith, same) in ap (λ (l : List ToldAct). record { index = s.index; act = one } ∷ l) (with_last told acts t act less)
+
+fronts_more : (acts : List Act) (act : Act) → list_all has_64_bit_front acts ≡ true → list_all has_64_bits (front_of act.made) ≡ true → list_all has_64_bit_front (acts ++ act ∷ []) ≡ true
+fronts_more acts act all one = list_all-append has_64_bit_front acts (act ∷ []) ∙ (ap (λ (b : Bool). b && list_all has_64_bit_front (act ∷ [])) all ∙ ap (λ (b : Bool). b && true) one)
 
 module _ (plan : Plan) (told : List ToldAct) (index : Option ℕ) (worker : ℕ) (made : Made) where
   abbrev kept : Account
@@ -194,6 +201,8 @@ module _ (plan : Plan) (told : List ToldAct) (index : Option ℕ) (worker : ℕ)
     maps = maps ∙ sym (ap (λ (a : Account). a.contents.maps) account);
     lines = does.lines ∙ (ap (λ (r : List ItemLine). r ++ line_by worker index (known_in l worker) (Some said)) is.lines
         ∙ (ap (λ (r : List ItemLine). lines_told plan told ++ r) line ∙ sym (lines_more plan told index worker (Shared x) (record { worker = worker; made = Shared (placed worker x now) }) refl)));
+    fronts = ap (λ (a : Account). list_all has_64_bit_front a.acts) account
+        ∙ fronts_more now.acts (record { worker = worker; made = Shared (placed worker x now) }) is.fronts (ap (list_all has_64_bits) (sym front) ∙ does.front);
   } where
     account : account_of plan (acts_in (told ++ told_as index (acts_by worker (Shared x ∷ [])))) ≡ with_made worker (Shared x) now
     account = account_more plan told index worker (Shared x)
@@ -257,6 +266,8 @@ module _ (plan : Plan) (told : List ToldAct) (index : Option ℕ) (worker object
     maps = does.maps ∙ (is.maps ∙ sym (ap (λ (a : Account). a.contents.maps) account));
     lines = does.lines ∙ (ap (λ (r : List ItemLine). r ++ line_by worker index (front) (entry_said object (number_in l object) entry.deed)) is.lines
         ∙ (ap (λ (r : List ItemLine). lines_told plan told ++ r) line ∙ sym (lines_more plan told index worker (Entered object entry) (record { worker = worker; made = Entered object (entered worker object entry here) }) refl)));
+    fronts = ap (λ (a : Account). list_all has_64_bit_front a.acts) account
+        ∙ fronts_more here.acts (record { worker = worker; made = Entered object (entered worker object entry here) }) is.fronts (ap (list_all has_64_bits) (sym fronts) ∙ does.front);
   } where
     account : account_of plan (acts_in (told ++ told_as index (acts_by worker (Entered object entry ∷ [])))) ≡ with_made worker (Entered object entry) here
     account = account_more plan told index worker (Entered object entry)
@@ -302,12 +313,21 @@ module _ (plan : Plan) (told : List ToldAct) (index : Option ℕ) (worker object
 
 -- ---- a ledger stays one
 
-pub stays : (plan : Plan) (l n : Ledger) (worker : ℕ) (knows : List ℕ) → n.workers.items ≡ set l.workers.items worker (record { front = knows; waits = false }) → length n.journals.items ≡ length l.journals.items
+line_fits : (worker : ℕ) (index : Option ℕ) (knows : List ℕ) (said : Option Said) → list_all has_64_bits knows ≡ true → IfSome said (λ (s : Said). has_numbers s ≡ true) → list_all is_in_64_bits (line_by worker index knows said) ≡ true
+line_fits worker index knows None wide numbers = refl
+line_fits worker index knows (Some s) wide numbers = ap (λ (b : Bool). (b && list_all has_64_bits knows) && true) numbers ∙ ap (λ (b : Bool). b && true) wide
+
+pub stays : (plan : Plan) (l n : Ledger) (worker : ℕ) (knows : List ℕ) (index : Option ℕ) (front : List ℕ) (said : Option Said)
+    → n.workers.items ≡ set l.workers.items worker (record { front = knows; waits = false }) → length n.journals.items ≡ length l.journals.items
+    → n.lines.items ≡ l.lines.items ++ line_by worker index front said → list_all has_64_bits front ≡ true → IfSome said (λ (s : Said). has_numbers s ≡ true)
     → IsLedgerOf plan l → IsLedgerOf plan n
-stays plan l n worker knows workers journals of = record {
+stays plan l n worker knows index front said workers journals lines wide numbers of = record {
   workers = ap length workers ∙ (length-set l.workers.items worker _ ∙ of.workers);
   journals = journals ∙ of.journals;
   dormant = λ w x at waits. chosen w x (ap (λ (r : List WorkerState). slice_get r w) (sym workers) ∙ at) waits (eqb_tells w worker);
+  numbers = ap (list_all is_in_64_bits) lines
+      ∙ (list_all-append is_in_64_bits l.lines.items (line_by worker index front said)
+      ∙ (ap (λ (b : Bool). b && list_all is_in_64_bits (line_by worker index front said)) of.numbers ∙ line_fits worker index front said wide numbers));
 } where
   no : false ≡ true → ⊥
   no same = cc
@@ -316,6 +336,9 @@ stays plan l n worker knows workers journals of = record {
   chosen w x at waits (inl same) =
       absurd (no (ap (λ (y : WorkerState). y.waits) (set_there l.workers.items worker (record { front = knows; waits = false }) x (ap (λ (v : ℕ). slice_get (set l.workers.items worker (record { front = knows; waits = false })) v) (sym same.1) ∙ at)) ∙ waits))
   chosen w x at waits (inr apart) = of.dormant w x (sym (set_elsewhere l.workers.items worker w (record { front = knows; waits = false }) apart.1) ∙ at) waits
+
+pub placed_stays : (plan : Plan) (l n : Ledger) (worker : ℕ) (index : Option ℕ) (enters : Bool) (said : Option Said) → IsPlaced worker index enters said l n → IfSome said (λ (s : Said). has_numbers s ≡ true) → IsLedgerOf plan l → IsLedgerOf plan n
+placed_stays plan l n worker index enters said placed numbers = stays plan l n worker _ index (known_in l worker) said placed.workers (ap length placed.journals) placed.lines placed.front numbers
 
 -- ---- where a call returns
 

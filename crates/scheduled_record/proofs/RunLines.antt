@@ -48,7 +48,7 @@ mapped h f zero first = refl
 mapped {X} {Y} h f (suc n) first = ap (λ (l : List Y). h (f first) ∷ l) (mapped h f n (first + 1))
 
 -- what stands at a place of the rows
-row_there : {X : Type 0} (f : ℕ → X) (n first i : ℕ) (x : X) → slice_get (map f (range_with_len first n)) i ≡ Some x → (i < n) × (f (first + i) ≡ x)
+pub row_there : {X : Type 0} (f : ℕ → X) (n first i : ℕ) (x : X) → slice_get (map f (range_with_len first n)) i ≡ Some x → (i < n) × (f (first + i) ≡ x)
 row_there f zero first i x at = absurd (none-some x at)
 row_there f (suc n) first zero x at = let here : first + 0 ≡ first = omega arith in (omega arith, ap f here ∙ same_Some (f first) x at)
 row_there f (suc n) first (suc i) x at = let rest = row_there f n (first + 1) i x at in let less : i < n = rest.0 in let next : first + suc i ≡ first + 1 + i = omega arith in (omega arith, ap f next ∙ rest.1)

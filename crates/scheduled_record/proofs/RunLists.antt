@@ -19,14 +19,14 @@ use Rattle.scheduled_record.specs.RunActs.{acts_by, is_nothing, waits_still, goi
 use Rattle.scheduled_record.proofs.Lists.{made-append, own_acts, other_acts, recorded-last, some_make}
 
 module _ (plan : Plan) where
-  abbrev goes : ℕ → List Made
+  abbrev pub goes : ℕ → List Made
   goes w = made_on_starts plan w starts.Leave told.Go
 
   -- what stands before a worker's items, by whether it waits to be started and whether it has made any
-  abbrev before_by : ℕ → Bool → Bool → List Made
+  abbrev pub before_by : ℕ → Bool → Bool → List Made
   before_by w dormant some = cond dormant (cond some (goes w) []) []
 
-  abbrev before : List Item → ℕ → List Made
+  abbrev pub before : List Item → ℕ → List Made
   before items w = before_by w (is_dormant plan w) (has_made (by_worker w items))
 
   -- the worker's list so far
@@ -125,17 +125,17 @@ module _ (plan : Plan) where
   abbrev pub ending_at : List Item → ℕ → LineEnd
   ending_at items w = ending_of (came plan items w) true None None
 
-  waits_then : (w : ℕ) (items : List Item) → waits_still plan (acts_of plan items) w ≡ (is_dormant plan w && not (has_made (by_worker w items)))
+  pub waits_then : (w : ℕ) (items : List Item) → waits_still plan (acts_of plan items) w ≡ (is_dormant plan w && not (has_made (by_worker w items)))
   waits_then w items = ap (λ (l : List Made). is_dormant plan w && is_nothing l) (run_lists items w) ∙ waits_by w (is_dormant plan w) (by_worker w items)
 
-  abbrev ends : ℕ → List Made
+  abbrev pub ends : ℕ → List Made
   ends w = made_on_starts plan w starts.End told.Done
 
-  abbrev leaves : ℕ → List Made
+  abbrev pub leaves : ℕ → List Made
   leaves w = made_on_starts plan w starts.Leave told.Never
 
   -- where nobody waits to be started no worker does
-  none_waits : (w : ℕ) → has_dormant plan ≡ false → is_dormant plan w ≡ false
+  pub none_waits : (w : ℕ) → has_dormant plan ≡ false → is_dormant plan w ≡ false
   none_waits w none = each plan.dormant w none where
     each : (dormant : List Bool) (i : ℕ) → list_any (λ waits. waits) dormant ≡ false → get_or dormant i false ≡ false
     each [] i none = refl
@@ -160,7 +160,7 @@ module _ (plan : Plan) where
     no : false ≡ true → ⊥
     no e = cc
 
-  closing_of : (acts : List Act) (w : ℕ) → w < plan.workers → made_by w (closing_acts plan acts) ≡ cond (has_dormant plan) (cond (not (waits_still plan acts w)) (ends w) [] ++ cond (waits_still plan acts w) (leaves w) []) []
+  pub closing_of : (acts : List Act) (w : ℕ) → w < plan.workers → made_by w (closing_acts plan acts) ≡ cond (has_dormant plan) (cond (not (waits_still plan acts w)) (ends w) [] ++ cond (waits_still plan acts w) (leaves w) []) []
   closing_of acts w within = chosen (has_dormant plan) where
     chosen : (b : Bool) → made_by w (cond b (ending_acts plan acts ++ leaving_acts plan acts) []) ≡ cond b (cond (not (waits_still plan acts w)) (ends w) [] ++ cond (waits_still plan acts w) (leaves w) []) []
     chosen true = made-append w (ending_acts plan acts) (leaving_acts plan acts)

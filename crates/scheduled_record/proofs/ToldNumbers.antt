@@ -64,7 +64,7 @@ one_more kept worker (Entered object entry) all =
     (ap (λ (l : List ObjectEntry). slice_get l (length (entries_on object kept.acts)))
     (more_entries object kept.acts (act ∷ []) ∙ ap (λ (b : Bool). entries_on object kept.acts ++ cond b (here ∷ []) []) (eq-eqb object object refl)) ∙ last_at (entries_on object kept.acts) here)
 
-all_more : (kept : Account) (acts : List Act) → AllIn kept.acts kept.acts → AllIn (fold with_act kept acts).acts (fold with_act kept acts).acts
+pub all_more : (kept : Account) (acts : List Act) → AllIn kept.acts kept.acts → AllIn (fold with_act kept acts).acts (fold with_act kept acts).acts
 all_more kept [] all = all
 all_more kept (act ∷ acts) all = all_more (with_act kept act) acts (one_more kept act.worker act.made all)
 
@@ -77,7 +77,10 @@ among P worker (t ∷ told) (act ∷ acts) all = chosen (act.worker == worker) (
   chosen true rest = (all.0, rest)
   chosen false rest = rest
 
+-- what is so of each act that is kept is so of what is told
+pub of_each : (P : Made → Type 0) (plan : Plan) (worker : ℕ) (told : List ToldAct) (place : ℕ) (t : ToldAct) → AllByRecursion (λ (act : Act). P act.made) (account_of plan (acts_in told)).acts
+    → slice_get (told_by worker (kept_told plan told)) place ≡ Some t → P t.act.made
+of_each P plan worker told place t all at = all_at (λ (u : ToldAct). P u.act.made) (told_by worker (kept_told plan told)) place t (among P worker told (account_of plan (acts_in told)).acts all) at
+
 pub stands : (plan : Plan) (worker : ℕ) (told : List ToldAct) (place : ℕ) (t : ToldAct) → slice_get (told_by worker (kept_told plan told)) place ≡ Some t → StandsIn (account_of plan (acts_in told)).acts t.act.made
-stands plan worker told place t at =
-    let kept = account_of plan (acts_in told) in
-    all_at (λ (u : ToldAct). StandsIn kept.acts u.act.made) (told_by worker (kept_told plan told)) place t (among (StandsIn kept.acts) worker told kept.acts (all_more (opened plan) (acts_in told) tt)) at
+stands plan worker told place t at = of_each (StandsIn (account_of plan (acts_in told)).acts) plan worker told place t (all_more (opened plan) (acts_in told) tt) at

@@ -104,7 +104,7 @@ module _ (plan : Plan) where
   with_there (t ∷ told) (act ∷ acts) same all =
       (subst (λ (w : ℕ). is_index (length (script w)) t.index ≡ true) (ap (λ (l : List ℕ). get_or l 0 0) same) all.0, with_there told acts (ap (drop 1) same) all.1)
 
-  bare_workers : (acts : List Act) → map (λ (act : Act). act.worker) (map bare acts) ≡ map (λ (act : Act). act.worker) acts
+  pub bare_workers : (acts : List Act) → map (λ (act : Act). act.worker) (map bare acts) ≡ map (λ (act : Act). act.worker) acts
   bare_workers [] = refl
   bare_workers (act ∷ acts) = ap (λ (l : List ℕ). act.worker ∷ l) (bare_workers acts)
 

@@ -4,3 +4,4 @@ pub mod Pushed
 pub mod Recorded
 pub mod RunActs
 pub mod ToldItems
+pub mod ToldLists

@@ -9,14 +9,12 @@ use Rattle.run_report.specs.ReportText.{report_text}
 use Rattle.record_text.specs.declared.item_line.ItemLine.{ItemLine}
 use Rattle.record_text.specs.declared.limits.TheConstants.{MAX_ITEMS, MAX_RECORD}
 use Rattle.record_text.specs.ItemLines.{item_text}
-use Rattle.record_text.specs.LawfulItems.{has_numbers}
-use Rattle.record_text.specs.Numbers.{has_64_bits}
 use Rattle.record_text.specs.Told.{Told, is_short_line}
 use Rattle.record_text.specs.WrittenLines.{record_text}
 use Rattle.step_runner.specs.Outcomes.{StepsTo}
 use Rattle.scheduled_record.specs.declared.recorded_run.Recorded.{Recorded}
 use Rattle.scheduled_record.specs.declared.recorded_run.Recorded.TheVariants.{Text, TooLong, Misused, Deadlocked}
-use Rattle.scheduled_record.specs.ToldItems.{told_items}
+use Rattle.scheduled_record.specs.ToldItems.{AreIn64Bits, told_items}
 
 -- the lines of these items, and of this report, have at most 400 bytes each. The line of the outcome always has fewer
 abbrev pub has_short_lines : Plan → List ItemLine → (report : List ℕ) → Bool
@@ -34,9 +32,10 @@ done_report plan left = report_text plan (outcomes.Done left)
 abbrev pub done_text : Plan → Report → List ℕ
 done_text plan left = record_text plan (told_items plan) None (done_report plan left)
 
--- the run by schedule is done and leaves this, and the text of its record is within the limits, or not
+-- the run by schedule is done and leaves this, its numbers have 64 bits, and the text of its record is within the limits, or not
 pub record IsDoneWithin (plan : Plan) (within : Bool) (left : Report) : Type 0 where
   pub done : StepsTo plan (outcomes.Done left)
+  pub numbers : AreIn64Bits plan
   pub limits : is_within plan (told_items plan) (done_report plan left) ≡ within
 
 abbrev pub IsRecorded : Plan → Recorded → Type 0
@@ -44,10 +43,6 @@ IsRecorded plan (Text bytes) = (left : Report) × IsDoneWithin plan true left ×
 IsRecorded plan TooLong = (left : Report) × IsDoneWithin plan false left
 IsRecorded plan (Misused misuse) = (left : Report) × StepsTo plan (outcomes.Misused left misuse)
 IsRecorded plan Deadlocked = (left : Report) × StepsTo plan (outcomes.Deadlocked left)
-
--- all numbers of an item have 64 bits, as those of a program have
-abbrev pub is_in_64_bits : ItemLine → Bool
-is_in_64_bits item = has_numbers item.said && list_all has_64_bits item.front
 
 -- what the text of a run that is done tells
 abbrev pub told_done : Plan → Report → Told

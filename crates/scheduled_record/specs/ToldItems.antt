@@ -1,12 +1,14 @@
 -- The items of a run by schedule, as lines tell them: out of the same acts as its record, in the order of its turns.
-use Rattle.std.specs.Prelude.{ℕ, ◌==◌, List, [], ◌∷◌, ◌++◌, map, filter, length, fold, Option, None}
-use Rattle.std.specs.List.{flat_map}
+use Rattle.std.specs.Prelude.{◌≡◌, ℕ, ◌==◌, Bool, true, ◌&&◌, List, [], ◌∷◌, ◌++◌, map, filter, length, fold, Option, None}
+use Rattle.std.specs.List.{flat_map, list_all}
 use Rattle.std.specs.Option.{option_to_list}
 use Rattle.workload.specs.Plan.{Plan}
 use Rattle.run_record.specs.declared.made.Made.{Made}
 use Rattle.run_record.specs.declared.made.Made.TheVariants.{Shared, Entered}
-use Rattle.run_record.specs.Record.{shared_in}
+use Rattle.run_record.specs.Record.{front_of, shared_in}
 use Rattle.record_text.specs.declared.item_line.ItemLine.{ItemLine}
+use Rattle.record_text.specs.LawfulItems.{has_numbers}
+use Rattle.record_text.specs.Numbers.{has_64_bits}
 use Rattle.record_text.specs.Written.{item_line}
 use Rattle.kept_record.specs.Keeping.{Act, made_by, account_of}
 use Rattle.step_runner.specs.declared.turns.item.Item.{Item}
@@ -79,3 +81,21 @@ lines_told plan told = flat_map line_in (kept_told plan told)
 -- the items of a run by schedule that is done
 abbrev pub told_items : Plan → List ItemLine
 told_items plan = lines_told plan (told_run plan (trace_of plan))
+
+-- ---- their numbers
+
+-- all numbers of an item have 64 bits, as those of a program have
+abbrev pub is_in_64_bits : ItemLine → Bool
+is_in_64_bits item = has_numbers item.said && list_all has_64_bits item.front
+
+abbrev pub has_64_bit_front : Act → Bool
+has_64_bit_front act = list_all has_64_bits (front_of act.made)
+
+-- so have the fronts of all acts
+abbrev pub have_64_bit_fronts : Plan → List ToldAct → Bool
+have_64_bit_fronts plan told = list_all has_64_bit_front (account_of plan (acts_in told)).acts
+
+-- all numbers of a run by schedule that is done have 64 bits: those of its items' lines, and those of its acts' fronts
+pub record AreIn64Bits (plan : Plan) : Type 0 where
+  pub lines : list_all is_in_64_bits (told_items plan) ≡ true
+  pub fronts : have_64_bit_fronts plan (told_run plan (trace_of plan)) ≡ true

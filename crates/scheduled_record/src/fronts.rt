@@ -1,6 +1,8 @@
 //! Fronts: for each worker how many of its calls on maps and atomics are known.
-ghost use Rattle.std.specs.Prelude.{◌≡◌, ◌+◌, max, cond, replicate, slice_get, IfOk};
+ghost use Rattle.std.specs.Prelude.{◌≡◌, ◌+◌, true, max, cond, replicate, slice_get, IfOk};
+ghost use Rattle.std.specs.List.{list_all};
 ghost use Rattle.std.specs.Option.{option_map_or};
+ghost use Rattle.record_text.specs.Numbers.{has_64_bits};
 ghost use Rattle.kept_record.specs.Keeping.{joined, counted};
 
 use std::alloc::{AllocError, Global};
@@ -27,9 +29,10 @@ pub(crate) fn none_known(alloc: Global, workers: u32) -> Result<Seq<u64>, AllocE
     Ok(Seq::from_vec(front))
 }
 
-/// The same front.
+/// The same front. Its numbers have 64 bits, as those of a program have.
 pub(crate) fn copied(alloc: Global, front: &[u64]) -> Result<Seq<u64>, AllocError>
-    ensures { IfOk result (λ copy. copy ≡ front.now) }
+    ensures same { IfOk result (λ copy. copy ≡ front.now) }
+    ensures fits { IfOk result (λ copy. list_all has_64_bits copy ≡ true) }
 {
     let mut copy = Seq::new(alloc);
     copy.extend_from_slice(front)?;

@@ -15,7 +15,7 @@ ghost use Rattle.step_runner.specs.Traces.{items_told, trace_of};
 ghost use Rattle.scheduled_record.specs.ItemsOf.{HasPool, NamesPart, IsEventOn, IsDeedOn, IsItemOf, AreItemsOf};
 ghost use Rattle.scheduled_record.specs.Ledgers.{IsLedgerOf, IsKept, Adds, adding, waits_in};
 ghost use Rattle.scheduled_record.specs.RunActs.{acts_by, going_acts};
-ghost use Rattle.scheduled_record.specs.ToldItems.{acts_in, told_as, told_items, with_told_item, with_told_turn, closed_told};
+ghost use Rattle.scheduled_record.specs.ToldItems.{AreIn64Bits, acts_in, told_as, told_items, with_told_item, with_told_turn, closed_told};
 
 use crate::fronts::none_known;
 use crate::laws::{
@@ -490,14 +490,16 @@ fn new_ledger(alloc: Global, workload: &Workload) -> Result<Ledger, AllocError>
 }
 
 /// The items of the run that a workload makes by its schedule, as their lines tell them, in the order of its turns, and behind them what
-/// workers make on Starts at the end. They are those of the run's record. Only want of memory is an `Err`.
+/// workers make on Starts at the end. They are those of the run's record, and all their numbers have 64 bits. Only want of memory is
+/// an `Err`.
 pub fn items_of_run(
     alloc: Global,
     workload: &Workload,
     trace: &Trace,
 ) -> Result<Vec<ItemLine>, AllocError>
     requires { trace.now ≡ trace_of workload.now }
-    ensures { IfOk result (λ items. items.items ≡ told_items workload.now) }
+    ensures items { IfOk result (λ items. items.items ≡ told_items workload.now) }
+    ensures numbers { IfOk result (λ items. AreIn64Bits workload.now) }
 {
     the_items_of_a_run_are_the_workloads();
     the_calls_of_a_scheduled_run_are_a_legal_history();

@@ -1,5 +1,5 @@
 //! What is kept of a run while its items are told: fronts, the history's length, journals, and the lines so far.
-ghost use Rattle.std.specs.Prelude.{◌≡◌, ◌+◌, ◌<◌, ℕ, [], ◌∷◌, true, map, length, None, Some, slice_index_or, slice_set, IfOk, OnOk};
+ghost use Rattle.std.specs.Prelude.{◌≡◌, ◌+◌, ◌<◌, ℕ, [], ◌∷◌, true, map, length, None, Some, slice_index_or, slice_set, IfOk, IfSome, OnOk};
 ghost use Rattle.std.specs.FinMap.{empty};
 ghost use Rattle.sync_types.specs.declared.atomic_object.Number.{Number};
 ghost use Rattle.sync_types.specs.SequentialAtomic.{is_atomic_entry, atomic_reply as atomic_answer};
@@ -7,6 +7,7 @@ ghost use Rattle.sync_types.specs.SequentialMap.{is_map_entry, map_after};
 ghost use Rattle.sync_model.specs.declared.item.SharedCall.TheVariants as calls;
 ghost use Rattle.sync_model.specs.declared.item.SharedReply.TheVariants as answers;
 ghost use Rattle.workload.specs.Plan.{Plan};
+ghost use Rattle.record_text.specs.LawfulItems.{has_numbers};
 ghost use Rattle.record_text.specs.Written.{entry_said};
 ghost use Rattle.sync_model.specs.declared.journal.Deed.TheVariants.{Event};
 ghost use Rattle.kept_record.specs.Keeping.{given};
@@ -15,7 +16,7 @@ ghost use Rattle.scheduled_record.specs.Ledgers.{Adds, adding, waits_in, known_i
 
 use crate::edges::{frees, takes};
 use crate::fronts::{copied, counted, joined_if, one_more};
-use crate::words::{answer_of, atomic_reply, event_of, map_reply};
+use crate::words::{answer_of, atomic_reply, event_of, map_reply, number_fits, shown_fits};
 use record_text::{ItemLine, Said};
 use run_record::{ObjectEvent, ObjectReply};
 use shared_checks::NumberMap;
@@ -88,9 +89,10 @@ fn enters_atomic(call: &AtomicCall, reply: &AtomicReply) -> bool
     }
 }
 
-/// What is said of an entry of the journal of the object with a number, where it has this number there.
+/// What is said of an entry of the journal of the object with a number, where it has this number there. Its numbers have 64 bits.
 fn entry_said(object: usize, number: u64, event: &ObjectEvent, answer: &ObjectReply) -> Option<Said>
-    ensures { result ≡ entry_said object number (Event event.now answer.now) }
+    ensures said { result ≡ entry_said object number (Event event.now answer.now) }
+    ensures fits { IfSome result (λ said. has_numbers said ≡ true) }
 {
     let answer = answer_of(*answer)?;
     Some(Said::Entered {
@@ -164,6 +166,7 @@ impl Ledger {
         requires { worker < length self.old.workers.items }
         ensures { OnOk result ((plan : Plan) → Adds plan (adding index worker (made_shared plan (calls.Map map call.now, answers.Map reply) ∷ [])) self.old self.new) }
     {
+        number_fits(self.history);
         let enters = enters_map(alloc, &self.maps, map, call);
         let said = Said::Call {
             place: self.history,
@@ -188,6 +191,7 @@ impl Ledger {
         requires { worker < length self.old.workers.items }
         ensures { OnOk result ((plan : Plan) (atomic : ℕ) → Adds plan (adding index worker (made_shared plan (calls.Atomic atomic call.now, answers.Atomic reply) ∷ [])) self.old self.new) }
     {
+        number_fits(self.history);
         let said = Said::Call {
             place: self.history,
             reply: atomic_reply(reply),
@@ -206,6 +210,7 @@ impl Ledger {
         requires { worker < length self.old.workers.items }
         ensures { OnOk result ((plan : Plan) (map : ℕ) → Adds plan (adding index worker (made_shared plan (calls.Begin map, answers.Begun) ∷ [])) self.old self.new) }
     {
+        number_fits(self.history);
         let said = Said::Begin {
             reach: self.history,
         };
@@ -223,6 +228,8 @@ impl Ledger {
         requires { worker < length self.old.workers.items }
         ensures { OnOk result ((plan : Plan) (begin : ℕ) → Adds plan (adding index worker (made_shared plan (calls.Next begin, answers.Shown shown) ∷ [])) self.old self.new) }
     {
+        number_fits(self.history);
+        shown_fits(shown);
         let said = Said::Next {
             reach: self.history,
             shown,

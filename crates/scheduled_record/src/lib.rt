@@ -11,6 +11,7 @@ mod recorded_run;
 mod recording;
 mod report_pieces;
 pub mod text_laws;
+pub mod told_laws;
 mod words;
 
 pub use recorded_run::Recorded;

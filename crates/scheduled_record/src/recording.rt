@@ -11,7 +11,7 @@ ghost use Rattle.record_text.specs.WrittenLines.{record_lines};
 ghost use Rattle.step_runner.specs.Traces.{trace_of};
 ghost use Rattle.scheduled_record.specs.Pushed.{Gains, IsWritten, have_few_numbers};
 ghost use Rattle.scheduled_record.specs.Recorded.{IsRecorded, has_short_lines};
-ghost use Rattle.scheduled_record.specs.ToldItems.{told_items};
+ghost use Rattle.scheduled_record.specs.ToldItems.{AreIn64Bits, told_items};
 
 use crate::items::items_of_run;
 use crate::pieces::push_record_lines;
@@ -118,7 +118,7 @@ fn written(
     }
 }
 
-/// The text of the record of a run that is done, from its trace, where it is within the limits.
+/// The text of the record of a run that is done, from its trace, where it is within the limits. The numbers of its items have 64 bits.
 fn text_of(
     alloc: Global,
     workload: &Workload,
@@ -128,7 +128,8 @@ fn text_of(
     requires plain { has_variables workload.now ≡ false }
     requires trace { trace.now ≡ trace_of workload.now }
     requires pairs { shows_to MAX_KEYS outcome.now ≡ true }
-    ensures { IfOk result (IsWritten workload.now (told_items workload.now) (report_text workload.now outcome.now)) }
+    ensures written { IfOk result (IsWritten workload.now (told_items workload.now) (report_text workload.now outcome.now)) }
+    ensures numbers { IfOk result (λ text. AreIn64Bits workload.now) }
 {
     an_item_of_a_run_has_a_number_for_each_worker();
     workload.workers();

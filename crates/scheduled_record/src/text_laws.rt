@@ -1,16 +1,17 @@
 //! What is so of the text of a run's record. Each law is the contract of a function that does nothing.
-ghost use Rattle.std.specs.Prelude.{◌≡◌, ◌==◌, true, false, length};
+ghost use Rattle.std.specs.Prelude.{◌≡◌, ◌==◌, ℕ, Bool, true, false, length, Some, slice_get};
 ghost use Rattle.std.specs.List.{list_all};
-ghost use Rattle.script_calls.specs.declared.outcome.Outcome.TheVariants as outcomes;
 ghost use Rattle.script_calls.specs.declared.outcome.Report.{Report};
 ghost use Rattle.workload.specs.Dialect.{has_variables};
 ghost use Rattle.workload.specs.Plan.{Plan, is_valid};
 ghost use Rattle.workload.specs.Readable.{IsReadable};
+ghost use Rattle.record_text.specs.declared.item_line.ItemLine.{ItemLine};
 ghost use Rattle.record_text.specs.ItemLines.{is_item};
 ghost use Rattle.record_text.specs.Told.{IsTold};
-ghost use Rattle.step_runner.specs.Outcomes.{StepsTo};
-ghost use Rattle.scheduled_record.specs.Recorded.{AreSame, IsDoneWithin, IsRecorded, done_text, is_in_64_bits, told_done};
-ghost use Rattle.scheduled_record.specs.ToldItems.{told_items};
+ghost use Rattle.record_text.specs.Written.{item_line};
+ghost use Rattle.step_runner.specs.Traces.{trace_of};
+ghost use Rattle.scheduled_record.specs.Recorded.{AreSame, IsDoneWithin, IsRecorded, done_text, told_done};
+ghost use Rattle.scheduled_record.specs.ToldItems.{ToldAct, kept_told, number_of, told_by, told_items, told_run};
 
 use crate::laws::{
     a_record_explains_every_scheduled_run_that_is_done, the_acts_of_a_run_are_the_workloads,
@@ -31,10 +32,20 @@ pub fn an_item_of_a_run_has_a_number_for_each_worker()
     a_front_has_a_number_for_each_worker();
 }
 
-/// Each item that is told of a run that is done is in range, where its numbers have 64 bits, as those of a program have.
+/// Each item of a run that is done has a line, so that none is left out where its items are told.
+pub fn each_item_of_a_run_has_a_line()
+    ensures { (plan : Plan) (within : Bool) (left : Report) (worker place : ℕ) (t : ToldAct) → IsReadable plan → has_variables plan ≡ false → IsDoneWithin plan within left
+        → slice_get (told_by worker (kept_told plan (told_run plan (trace_of plan)))) place ≡ Some t → (line : ItemLine) × (item_line worker t.index (number_of t.act.made) t.act.made ≡ Some line) }
+{
+    the_items_of_a_run_are_lines_of_its_record();
+    the_fronts_of_a_scheduled_run_never_fall();
+    a_record_explains_every_scheduled_run_that_is_done();
+    each_item_of_a_record_has_a_line();
+}
+
+/// Each item that is told of a run that is done is in range.
 pub fn the_items_of_a_run_are_in_range()
-    ensures { (plan : Plan) (left : Report) → IsReadable plan → has_variables plan ≡ false → StepsTo plan (outcomes.Done left) → list_all is_in_64_bits (told_items plan) ≡ true
-        → list_all (is_item plan) (told_items plan) ≡ true }
+    ensures { (plan : Plan) (within : Bool) (left : Report) → IsReadable plan → has_variables plan ≡ false → IsDoneWithin plan within left → list_all (is_item plan) (told_items plan) ≡ true }
 {
     the_items_of_a_run_are_lines_of_its_record();
     the_fronts_of_a_scheduled_run_never_fall();
@@ -43,9 +54,9 @@ pub fn the_items_of_a_run_are_in_range()
 }
 
 /// The text of the record of a run that is done tells the run: it is read back as the workload, the items, an outcome that is done, and the
-/// lines of the report. This is so where the numbers of the items have 64 bits, as those of a program have.
+/// lines of the report.
 pub fn the_text_of_a_run_tells_its_record()
-    ensures { (plan : Plan) (left : Report) → IsReadable plan → has_variables plan ≡ false → list_all is_in_64_bits (told_items plan) ≡ true → IsDoneWithin plan true left → IsTold (done_text plan left) (told_done plan left) }
+    ensures { (plan : Plan) (left : Report) → IsReadable plan → has_variables plan ≡ false → IsDoneWithin plan true left → IsTold (done_text plan left) (told_done plan left) }
 {
     the_items_of_a_run_are_in_range();
     a_written_text_tells_what_was_written();

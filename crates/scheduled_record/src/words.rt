@@ -1,5 +1,10 @@
-//! The words by which an item's line says what was done, and what was answered.
-ghost use Rattle.std.specs.Prelude.{◌≡◌};
+//! The words by which an item's line says what was done, and what was answered. Their numbers have 64 bits, as those of a program have.
+ghost use Rattle.std.specs.Prelude.{◌≡◌, ◌^◌, true, IfSome};
+ghost use Rattle.std.specs.Option.{option_map_or};
+ghost use Rattle.record_text.specs.AnswerWords.{is_answer};
+ghost use Rattle.record_text.specs.EventWords.{is_event};
+ghost use Rattle.record_text.specs.ItemLines.{is_reply};
+ghost use Rattle.record_text.specs.Numbers.{has_64_bits, is_whole};
 ghost use Rattle.record_text.specs.Written.{whole_of, number_reply, atomic_reply, map_reply, mutex_event, rw_event, cond_event, group_event, once_event, pool_event, start_event, event_of, mutex_answer, rw_answer, cond_answer, group_answer, once_answer, pool_answer, start_answer, answer_of};
 
 use mutex_core::{Arrival, MutexEvent, MutexReply, Resumption, Unlocking};
@@ -13,8 +18,19 @@ use starts_core::{StartEvent, StartReply};
 use sync_types::{AtomicReply, MapReply, Number};
 use wait_cores::{GroupEvent, GroupReply, NotifyEvent, NotifyReply, OnceEvent, OnceReply};
 
+/// A number of a program has 64 bits.
+pub(crate) fn number_fits(number: u64)
+    ensures { has_64_bits number ≡ true }
+{}
+
+/// So has the value that a step shows.
+pub(crate) fn shown_fits(shown: Option<(u32, u64)>)
+    ensures { option_map_or (λ pair. has_64_bits pair.1) shown true ≡ true }
+{}
+
 fn whole_of(number: i64) -> Whole
-    ensures { result ≡ whole_of number }
+    ensures word { result ≡ whole_of number }
+    ensures fits { is_whole result ≡ true }
 {
     if number < 0 {
         Whole::Below(number.unsigned_abs())
@@ -24,7 +40,8 @@ fn whole_of(number: i64) -> Whole
 }
 
 fn number_reply(number: Number) -> PlacedReply
-    ensures { result ≡ number_reply number }
+    ensures word { result ≡ number_reply number }
+    ensures fits { is_reply result ≡ true }
 {
     match number {
         Number::Int32(number) => PlacedReply::Number(whole_of(number as i64)),
@@ -37,7 +54,8 @@ fn number_reply(number: Number) -> PlacedReply
 
 /// The word of what an atomic replies.
 pub(crate) fn atomic_reply(reply: AtomicReply) -> PlacedReply
-    ensures { result ≡ atomic_reply reply }
+    ensures word { result ≡ atomic_reply reply }
+    ensures fits { is_reply result ≡ true }
 {
     match reply {
         AtomicReply::Done => PlacedReply::Done,
@@ -48,7 +66,8 @@ pub(crate) fn atomic_reply(reply: AtomicReply) -> PlacedReply
 
 /// The word of what a map replies.
 pub(crate) fn map_reply(reply: MapReply) -> PlacedReply
-    ensures { result ≡ map_reply reply }
+    ensures word { result ≡ map_reply reply }
+    ensures fits { is_reply result ≡ true }
 {
     match reply {
         MapReply::Done => PlacedReply::Done,
@@ -66,7 +85,8 @@ pub(crate) fn map_reply(reply: MapReply) -> PlacedReply
 }
 
 fn mutex_event(event: MutexEvent) -> EventWord
-    ensures { result ≡ mutex_event event }
+    ensures word { result ≡ mutex_event event }
+    ensures fits { is_event (2 ^ 64) result ≡ true }
 {
     match event {
         MutexEvent::Arrive { now } => EventWord::Arrive { now },
@@ -77,7 +97,8 @@ fn mutex_event(event: MutexEvent) -> EventWord
 }
 
 fn rw_event(event: RwEvent) -> EventWord
-    ensures { result ≡ rw_event event }
+    ensures word { result ≡ rw_event event }
+    ensures fits { is_event (2 ^ 64) result ≡ true }
 {
     match event {
         RwEvent::ReadArrive => EventWord::ReadArrive,
@@ -92,7 +113,8 @@ fn rw_event(event: RwEvent) -> EventWord
 }
 
 fn cond_event(event: NotifyEvent) -> EventWord
-    ensures { result ≡ cond_event event }
+    ensures word { result ≡ cond_event event }
+    ensures fits { is_event (2 ^ 64) result ≡ true }
 {
     match event {
         NotifyEvent::Ticket => EventWord::Ticket,
@@ -103,7 +125,8 @@ fn cond_event(event: NotifyEvent) -> EventWord
 }
 
 fn group_event(event: GroupEvent) -> EventWord
-    ensures { result ≡ group_event event }
+    ensures word { result ≡ group_event event }
+    ensures fits { is_event (2 ^ 64) result ≡ true }
 {
     match event {
         GroupEvent::Add(delta) => EventWord::Add {
@@ -115,7 +138,8 @@ fn group_event(event: GroupEvent) -> EventWord
 }
 
 fn once_event<T: Copy>(event: OnceEvent<T>) -> EventWord
-    ensures { result ≡ once_event event }
+    ensures word { result ≡ once_event event }
+    ensures fits { is_event (2 ^ 64) result ≡ true }
 {
     match event {
         OnceEvent::Begin => EventWord::Begin,
@@ -125,7 +149,8 @@ fn once_event<T: Copy>(event: OnceEvent<T>) -> EventWord
 }
 
 fn pool_event(event: PoolEvent<u64>) -> EventWord
-    ensures { result ≡ pool_event event }
+    ensures word { result ≡ pool_event event }
+    ensures fits { is_event (2 ^ 64) result ≡ true }
 {
     match event {
         PoolEvent::Put(item) => EventWord::Put { item },
@@ -137,7 +162,8 @@ fn pool_event(event: PoolEvent<u64>) -> EventWord
 }
 
 fn start_event(event: StartEvent) -> EventWord
-    ensures { result ≡ start_event event }
+    ensures word { result ≡ start_event event }
+    ensures fits { is_event (2 ^ 64) result ≡ true }
 {
     match event {
         StartEvent::Start(worker) => EventWord::Start { worker },
@@ -148,7 +174,8 @@ fn start_event(event: StartEvent) -> EventWord
 
 /// The word of an event. What the function of a once came to isn't said, nor the part of a pool.
 pub(crate) fn event_of(event: ObjectEvent) -> EventWord
-    ensures { result ≡ event_of event }
+    ensures word { result ≡ event_of event }
+    ensures fits { is_event (2 ^ 64) result ≡ true }
 {
     match event {
         ObjectEvent::Mutex(event) => mutex_event(event),
@@ -164,7 +191,8 @@ pub(crate) fn event_of(event: ObjectEvent) -> EventWord
 }
 
 fn mutex_answer(reply: MutexReply) -> AnswerWord
-    ensures { result ≡ mutex_answer reply }
+    ensures word { result ≡ mutex_answer reply }
+    ensures fits { is_answer (2 ^ 64) result ≡ true }
 {
     match reply {
         MutexReply::Arrived(Arrival::Acquired) => AnswerWord::Acquired,
@@ -181,7 +209,8 @@ fn mutex_answer(reply: MutexReply) -> AnswerWord
 }
 
 fn rw_answer(reply: RwReply) -> AnswerWord
-    ensures { result ≡ rw_answer reply }
+    ensures word { result ≡ rw_answer reply }
+    ensures fits { is_answer (2 ^ 64) result ≡ true }
 {
     match reply {
         RwReply::Arrived(RwArrival::Acquired) => AnswerWord::Acquired,
@@ -198,7 +227,8 @@ fn rw_answer(reply: RwReply) -> AnswerWord
 }
 
 fn cond_answer(reply: NotifyReply) -> AnswerWord
-    ensures { result ≡ cond_answer reply }
+    ensures word { result ≡ cond_answer reply }
+    ensures fits { is_answer (2 ^ 64) result ≡ true }
 {
     match reply {
         NotifyReply::Done => AnswerWord::Done,
@@ -207,7 +237,8 @@ fn cond_answer(reply: NotifyReply) -> AnswerWord
 }
 
 fn group_answer(reply: GroupReply) -> AnswerWord
-    ensures { result ≡ group_answer reply }
+    ensures word { result ≡ group_answer reply }
+    ensures fits { is_answer (2 ^ 64) result ≡ true }
 {
     match reply {
         GroupReply::Done => AnswerWord::Done,
@@ -218,7 +249,8 @@ fn group_answer(reply: GroupReply) -> AnswerWord
 }
 
 fn once_answer<T: Copy>(reply: OnceReply<T>) -> AnswerWord
-    ensures { result ≡ once_answer reply }
+    ensures word { result ≡ once_answer reply }
+    ensures fits { is_answer (2 ^ 64) result ≡ true }
 {
     match reply {
         OnceReply::Run => AnswerWord::Run,
@@ -230,7 +262,8 @@ fn once_answer<T: Copy>(reply: OnceReply<T>) -> AnswerWord
 }
 
 fn pool_answer(reply: PoolReply<u64>) -> Option<AnswerWord>
-    ensures { result ≡ pool_answer reply }
+    ensures word { result ≡ pool_answer reply }
+    ensures fits { IfSome result (λ answer. is_answer (2 ^ 64) answer ≡ true) }
 {
     match reply {
         PoolReply::Kept | PoolReply::Swept => Some(AnswerWord::Done),
@@ -242,7 +275,8 @@ fn pool_answer(reply: PoolReply<u64>) -> Option<AnswerWord>
 }
 
 fn start_answer(reply: StartReply) -> AnswerWord
-    ensures { result ≡ start_answer reply }
+    ensures word { result ≡ start_answer reply }
+    ensures fits { is_answer (2 ^ 64) result ≡ true }
 {
     match reply {
         StartReply::Done => AnswerWord::Done,
@@ -254,7 +288,8 @@ fn start_answer(reply: StartReply) -> AnswerWord
 
 /// The word of an answer. That an item was dropped has none.
 pub(crate) fn answer_of(reply: ObjectReply) -> Option<AnswerWord>
-    ensures { result ≡ answer_of reply }
+    ensures word { result ≡ answer_of reply }
+    ensures fits { IfSome result (λ answer. is_answer (2 ^ 64) answer ≡ true) }
 {
     match reply {
         ObjectReply::Mutex(reply) => Some(mutex_answer(reply)),

@@ -1,4 +1,4 @@
-use Rattle.std.proofs.Common.{nat_le, map, length, None, leb-true}
+use Rattle.std.proofs.Common.{true, nat_le, map, length, None, leb-true}
 use Rattle.std.specs.List.{list_all}
 use Rattle.workload.specs.Lines.{lines_of}
 use Rattle.record_text.specs.declared.limits.TheConstants.{MAX_ITEMS, MAX_RECORD}
@@ -10,8 +10,8 @@ use Rattle.scheduled_record.proofs.Gaining.{and_true}
 use Rattle.scheduled_record.proofs.text_laws.the_text_of_a_run_tells_its_record.Goals as goal
 
 pub returns : goal.returns
-returns c plan left readable plain fit is =
-    let in_range = c.the_items_of_a_run_are_in_range.ensures plan left readable plain is.done fit in
+returns c plan left readable plain is =
+    let in_range = c.the_items_of_a_run_are_in_range.ensures plan true left readable plain is in
     let items = told_items plan in
     let report = done_report plan left in
     let few = and_true (nat_le (length items) MAX_ITEMS) _ is.limits in
