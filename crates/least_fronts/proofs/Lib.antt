@@ -1,0 +1,3 @@
+mod Counting
+mod Going
+mod Knowing
