@@ -7,6 +7,7 @@ pub mod Judged
 pub mod MessageTexts
 pub mod Raced
 pub mod Reading
+pub mod ReportEnded
 pub mod Runs
 pub mod Seeds
 pub mod Statuses

@@ -164,7 +164,7 @@ abbrev pub TracesSo : Plan → Status → Type 0
 TracesSo plan status = (outcome : Outcome) × StepsTo plan outcome × ((status ≡ statuses.Ended (ending_of outcome)) ⊎ ((ending_of outcome ≡ endings.Done) × (status ≡ statuses.Failed faults.TooLong)))
 
 traces_so : (plan : Plan) (old new : Option (List ℕ)) (status : Status) (ending : Ending) → EndsWithRecord plan old new ending → status ≡ statuses.Ended ending → TracesSo plan status
-traces_so plan old new status endings.Done ends is = (outcomes.Done ends.0, ends.1.done, inl is)
+traces_so plan old new status endings.Done ends is = (outcomes.Done ends.0, ends.1.2.done, inl is)
 traces_so plan old new status (endings.Misused misuse) ends is = (outcomes.Misused ends.0.0 misuse, ends.0.1, inl is)
 traces_so plan old new status endings.Deadlocked ends is = (outcomes.Deadlocked ends.0.0, ends.0.1, inl is)
 traces_so plan old new status endings.Raced ends is = absurd ends

@@ -3,7 +3,9 @@ use Rattle.std.specs.Prelude.{◌≡◌, ℕ, true, false, List, Option}
 use Rattle.sync_outside.specs.Bytes.{Appends, AppendsFront}
 use Rattle.script_calls.specs.declared.outcome.Outcome.TheVariants as outcomes
 use Rattle.script_calls.specs.declared.outcome.Report.{Report}
+use Rattle.workload.specs.Dialect.{has_variables}
 use Rattle.workload.specs.Plan.{Plan}
+use Rattle.workload.specs.Readable.{IsReadable}
 use Rattle.workload.specs.declared.keyword.Dialect.TheVariants.{Plain}
 use Rattle.step_runner.specs.Outcomes.{StepsTo}
 use Rattle.scheduled_record.specs.Recorded.{IsDoneWithin, done_text}
@@ -14,9 +16,13 @@ use Rattle.gosync_call.specs.declared.status.Fault.{Fault}
 use Rattle.gosync_call.specs.declared.status.Fault.TheVariants as faults
 use Rattle.gosync_call.specs.declared.status.Status.{Status}
 
+-- the workload has a plain text, and its run by schedule is done, with a record within the limits
+abbrev pub IsTraced : Plan → Report → Type 0
+IsTraced plan left = IsReadable plan × (has_variables plan ≡ false) × IsDoneWithin plan true left
+
 -- the run is done, and the text of its record was written; or it ended otherwise, and nothing was
 abbrev pub EndsWithRecord : Plan → Option (List ℕ) → Option (List ℕ) → Ending → Type 0
-EndsWithRecord plan old new endings.Done = (left : Report) × IsDoneWithin plan true left × Appends old new (done_text plan left)
+EndsWithRecord plan old new endings.Done = (left : Report) × IsTraced plan left × Appends old new (done_text plan left)
 EndsWithRecord plan old new (endings.Misused misuse) = ((left : Report) × StepsTo plan (outcomes.Misused left misuse)) × (new ≡ old)
 EndsWithRecord plan old new endings.Deadlocked = ((left : Report) × StepsTo plan (outcomes.Deadlocked left)) × (new ≡ old)
 EndsWithRecord plan old new endings.Raced = ⊥

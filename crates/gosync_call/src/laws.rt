@@ -1,6 +1,7 @@
 //! What it means that a run by schedule has one outcome, that one with threads is explained, and that a count rose.
 pub mod checks;
 pub mod races;
+pub mod records;
 pub mod report;
 pub mod statuses;
 pub mod words;

@@ -23,6 +23,7 @@ pub fn run_with_record<O: Sink>(
     ensures cannot_write { IfErr result (λ fault. fault ≡ faults.CannotWrite → Rose (O.faults out.old) (O.faults out.new)) }
     ensures out_faults { O.faults out.old ≤ O.faults out.new }
 {
+    workload.workers();
     match recorded(alloc, workload) {
         Ok(Recorded::Text(text)) => match out.write(&text) {
             Ok(()) => Ok(Ending::Done),

@@ -10,3 +10,7 @@ returns-clause-yes c bytes text old new tells judges =
 pub returns-clause-no : goal.returns-clause-no
 returns-clause-no c bytes text clause old new tells judges =
     (judged_so bytes text (verdicts.No clause) c.a_text_tells_one_thing.ensures tells judges.0).1
+
+pub returns-clause-never_in_vain : goal.returns-clause-never_in_vain
+returns-clause-never_in_vain c bytes text claim account clause old new tells readable holds lines judges =
+    c.nothing_that_explains_is_lost.ensures.no text claim account clause readable (judged_so bytes text (verdicts.No clause) c.a_text_tells_one_thing.ensures tells judges.0) lines holds
