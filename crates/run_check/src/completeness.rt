@@ -8,12 +8,13 @@ ghost use Rattle.record_text.specs.Told.{IsTold, Told};
 ghost use Rattle.record_clauses.specs.Account.{Account, Claim};
 ghost use Rattle.record_clauses.specs.Clauses.{Holds};
 ghost use Rattle.record_clauses.specs.Verdicts as claims;
-ghost use Rattle.run_check.specs.Completeness.{AreLinesOf, plain_record};
+ghost use Rattle.run_check.specs.Completeness.{AreLinesOf, ComeTo, Explain, plain_record};
 ghost use Rattle.run_check.specs.Tells.{ComesTo};
 
-use crate::laws::what_a_text_tells_is_written_as_its_lines;
+use crate::laws::{a_text_comes_to_one_verdict, what_a_text_tells_is_written_as_its_lines};
 use record_clauses::laws::the_clauses_are_put_together_part_by_part;
 use record_clauses::{Clause, Verdict};
+use record_text::laws::a_text_tells_one_thing;
 use run_cuts::laws::a_spelling_is_blind;
 use script_calls::Outcome;
 use sync_model::laws::shared::each_entry_is_a_call;
@@ -38,10 +39,13 @@ pub fn nothing_that_explains_is_lost()
 /// A text comes to Yes exactly where it is the text of a record that explains a run: where some claim has its lines, its end and its report, and
 /// all clauses hold of the claim. Which claim that is, a line may leave open, but not whether there is one.
 pub fn a_yes_is_exactly_that_a_record_explains()
-    ensures { (bytes : List ℕ) (told : Told) → IsTold bytes told → IsReadable told.plan → (ComesTo told Verdict.Yes ↔ (claim : Claim) × AreLinesOf told claim × claims.ComesTo claim Verdict.Yes) }
+    ensures told { (bytes : List ℕ) (told : Told) → IsTold bytes told → IsReadable told.plan → (ComesTo told Verdict.Yes ↔ (claim : Claim) × AreLinesOf told claim × claims.ComesTo claim Verdict.Yes) }
+    ensures bytes { (bytes : List ℕ) (verdict : Verdict) → ComeTo bytes verdict → (verdict ≡ Verdict.Yes ↔ Explain bytes) }
 {
     what_a_text_tells_is_written_as_its_lines();
     nothing_that_explains_is_lost();
+    a_text_tells_one_thing();
+    a_text_comes_to_one_verdict();
 }
 
 /// What lines leave out of the entries of journals decides nothing: without it a record explains what it explains with it.

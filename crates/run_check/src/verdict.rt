@@ -11,13 +11,15 @@ ghost use Rattle.shared_checks.specs.Placing.{AreOn, contents_of};
 ghost use Rattle.entry_marks.specs.Marks.{AreMarked, HaveNoHistory};
 ghost use Rattle.record_text.specs.Reads.{told_by};
 ghost use Rattle.record_text.specs.Refused.{IsCheckFault};
-ghost use Rattle.record_text.specs.Told.{IsTold, Told};
+ghost use Rattle.record_text.specs.Told.{IsTold};
 ghost use Rattle.record_clauses.specs.Account.{Claim};
 ghost use Rattle.record_clauses.specs.Verdicts as claims;
+ghost use Rattle.run_check.specs.Completeness.{ComeTo, Explain};
 ghost use Rattle.run_check.specs.Findings.{HoldsTo, HoldsWith, IsFound};
 ghost use Rattle.run_check.specs.Lists.{AreSpeltTo};
 ghost use Rattle.run_check.specs.Tells.{ComesTo, UpTo};
 
+use crate::completeness::a_yes_is_exactly_that_a_record_explains;
 use crate::contents::objects_of;
 use crate::ends::has_ends;
 use crate::fronts::front_holds;
@@ -60,11 +62,16 @@ struct Findings {
 
 /// Whether the record that a text tells explains its run, and if it doesn't, the first clause that fails. A text that is none of a record
 /// is refused, with its first fault.
+///
+/// The verdict is Yes exactly where the text has the lines of a record that explains its run, with its end and its report.
 pub fn check(alloc: Global, bytes: &[u8]) -> Result<Verdict, CheckFault>
-    ensures { MatchResult result (λ verdict. (told : Told) × IsTold bytes.now told × ComesTo told verdict) (IsCheckFault bytes.now) }
+    ensures comes { MatchResult result (ComeTo bytes.now) (IsCheckFault bytes.now) }
+    ensures exactly { IfOk result (λ verdict. verdict ≡ Verdict.Yes ↔ Explain bytes.now) }
 {
     plain_texts_are_race_texts_without_variables();
+    a_yes_is_exactly_that_a_record_explains();
     let text = read_record(alloc, bytes)?;
+    let _workers = text.workload.workers();
     Ok(verdict_on(alloc, &text)?)
 }
 

@@ -34,13 +34,13 @@ module _ (c : goal.After-the_text_of_a_run_tells_its_record) (plan : Plan) (left
       c.nothing_that_explains_is_lost.ensures.yes (told_done plan left) (claim_of plan left) account readable holds lines
 
   judged : IsJudged (Some (done_text plan left)) Yes
-  judged = (done_text plan left, refl, (told_done plan left, told, yes))
+  judged = (done_text plan left, refl, (told_done plan left, told, readable, yes))
 
 pub returns-clause-yes : goal.returns-clause-yes
 returns-clause-yes c plan left readable plain is = judged c plan left readable plain is
 
 pub returns-clause-one : goal.returns-clause-one
-returns-clause-one c plan left verdict readable plain is (bytes, are, (text, says, comes)) =
+returns-clause-one c plan left verdict readable plain is (bytes, are, (text, says, _, comes)) =
     c.a_text_comes_to_one_verdict.ensures.one bytes text (told_done plan left) verdict Yes says (subst (λ (bs : List ℕ). IsTold bs (told_done plan left)) (sym are) (told c plan left readable plain is)) comes (yes c plan left readable plain is)
 
 pub returns-clause-accepted : goal.returns-clause-accepted
