@@ -9,6 +9,9 @@ mod History
 mod Induction
 mod Keeps
 mod Knowing
+mod LeastCounts
+mod LeastFronts
+mod LeastSteps
 mod Legal
 mod ListLemmas
 mod Numbers

@@ -2,3 +2,4 @@ pub mod Acts
 pub mod Alike
 pub mod Example
 pub mod Keeping
+pub mod SameItems

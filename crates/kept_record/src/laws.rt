@@ -13,11 +13,12 @@ ghost use Rattle.run_record.specs.Explains.{KeepsFronts};
 ghost use Rattle.run_record.specs.InOneOrder.{InOneOrder};
 ghost use Rattle.run_record.specs.Lines.{Line, items_of, IsLineOf};
 ghost use Rattle.run_record.specs.Objects.{contents_of};
-ghost use Rattle.run_record.specs.Record.{journal_of, list_of, entries_in, calls_of, front_of};
+ghost use Rattle.run_record.specs.Record.{Record, journal_of, list_of, entries_in, calls_of, front_of};
 ghost use Rattle.kept_record.specs.Acts.{AreActsOf, bare, deeds_on, told, AreAnswered};
 ghost use Rattle.kept_record.specs.Alike.{AreAlike, IsLineLike};
 ghost use Rattle.kept_record.specs.Example as example;
 ghost use Rattle.kept_record.specs.Keeping.{Act, made_by, entries_on, account_of, record_of};
+ghost use Rattle.kept_record.specs.SameItems.{HasSameItems};
 
 /// The record has what was made, and nothing else: the acts themselves, in order, whatever places, fronts and numbers they are kept with. A
 /// worker's list has its own acts, and the journal of an object the entries on it: so what was done on the object, and by whom.
@@ -49,6 +50,17 @@ pub fn who_acquires_knows_what_was_released()
 pub fn each_entry_stands_in_one_list()
     ensures { (plan : Plan) (acts : List Act) (worker object : ℕ) → AreActsOf plan acts → entries_in object (list_of (record_of plan acts) worker) ≡ by worker (journal_of (record_of plan acts) object) }
 {}
+
+/// The fronts of the record are the least. Any record of the same items, whose fronts keep the front law and the edge law, knows at each item at least
+/// what this one knows there; and this one is such a record itself (`no_front_falls`, `who_acquires_knows_what_was_released`).
+pub fn the_fronts_of_a_kept_record_are_the_least()
+    ensures least { (plan : Plan) (acts : List Act) (other : Record) (worker i : ℕ) (x y : Made) → AreActsOf plan acts → HasSameItems (record_of plan acts) other → KeepsFronts other → ((object : ℕ) → KeepsEdges frees takes (journal_of other object))
+        → slice_get (list_of (record_of plan acts) worker) i ≡ Some x → slice_get (list_of other worker) i ≡ Some y → AtLeast (front_of y) (front_of x) }
+    ensures itself { (plan : Plan) (acts : List Act) → AreActsOf plan acts → HasSameItems (record_of plan acts) (record_of plan acts) }
+{
+    a_record_has_what_was_made();
+    each_entry_stands_in_one_list();
+}
 
 /// Each entry of the history is one worker's call, at the place that is its number, and no other call is marked as an entry.
 pub fn each_entry_of_the_history_is_one_call()

@@ -18,6 +18,7 @@ pub mod laws;
 pub mod limits;
 pub mod line_reading;
 pub mod line_writing;
+pub mod made_words;
 pub mod number;
 pub mod number_writing;
 pub mod pair;

@@ -34,7 +34,7 @@ ghost use Rattle.run_record.specs.Journals.{IsStops};
 ghost use Rattle.run_record.specs.Lines.{Line};
 ghost use Rattle.run_record.specs.Objects.{object_count, contents_of, map_number, atomic_number, first_part, starts_number, ends_in};
 ghost use Rattle.run_record.specs.PoolKind.{IsPartJournal};
-ghost use Rattle.run_record.specs.Record.{stop, object_number, journal_of, list_of, entries_in, calls_of, front_of};
+ghost use Rattle.run_record.specs.Record.{Record, stop, object_number, journal_of, list_of, entries_in, calls_of, front_of};
 ghost use Rattle.run_record.specs.StartsKind.{IsStartsJournal};
 ghost use Rattle.step_runner.specs.declared.turns.object_state.ObjectState.TheVariants as states;
 ghost use Rattle.step_runner.specs.Outcomes.{StepsTo};
@@ -44,6 +44,7 @@ ghost use Rattle.step_runner.specs.Traces.{items_told, trace_of};
 ghost use Rattle.step_runner.specs.Turns.{after_items};
 ghost use Rattle.kept_record.specs.Acts.{AreActsOf, AreAnswered};
 ghost use Rattle.kept_record.specs.Keeping.{record_of};
+ghost use Rattle.kept_record.specs.SameItems.{HasSameItems};
 ghost use Rattle.scheduled_record.specs.ItemsOf.{AreItemsOf};
 ghost use Rattle.record_text.specs.ItemLines.{is_index};
 ghost use Rattle.record_text.specs.LawfulItems.{IsNumbered};
@@ -244,6 +245,16 @@ pub fn the_cursors_of_a_scheduled_run_keep_the_range_law()
     maps_with_renamed_keys_answer_the_same::<Name, u32>();
     only_entries_change();
     kept::a_record_has_what_was_made();
+}
+
+/// The fronts of a run by schedule are the least: any record of the same items, whose fronts keep the front law and the edge law, knows at each item at
+/// least what the record of the run knows there.
+pub fn the_fronts_of_a_scheduled_run_are_the_least()
+    ensures { (plan : Plan) (other : Record) (worker i : ℕ) (x y : Made) → is_valid plan ≡ true → HasSameItems (scheduled_record plan) other → KeepsFronts other → ((object : ℕ) → KeepsEdges frees takes (journal_of other object))
+        → slice_get (list_of (scheduled_record plan) worker) i ≡ Some x → slice_get (list_of other worker) i ≡ Some y → AtLeast (front_of y) (front_of x) }
+{
+    the_acts_of_a_run_are_the_workloads();
+    kept::the_fronts_of_a_kept_record_are_the_least();
 }
 
 /// The record of a run by schedule explains what the run comes to. Of a workload without variables, where the run is done, some record that is a lawful one of the workload's

@@ -16,7 +16,9 @@ ghost use Rattle.scheduled_record.specs.Ledgers.{Adds, adding, waits_in, known_i
 
 use crate::edges::{frees, takes};
 use crate::fronts::{copied, counted, joined_if, one_more};
-use crate::words::{answer_of, atomic_reply, event_of, map_reply, number_fits, shown_fits};
+use record_text::made_words::{
+    answer_of, atomic_reply, event_of, map_reply, number_fits, shown_fits,
+};
 use record_text::{ItemLine, Said};
 use run_record::{ObjectEvent, ObjectReply};
 use shared_checks::NumberMap;

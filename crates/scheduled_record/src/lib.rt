@@ -12,7 +12,6 @@ mod recording;
 mod report_pieces;
 pub mod text_laws;
 pub mod told_laws;
-mod words;
 
 pub use recorded_run::Recorded;
 pub use recording::recorded;

@@ -2,10 +2,10 @@ use Rattle.std.proofs.Common.{List, map, slice_get, refl, sym, ap, ◌∙◌}
 use Rattle.run_record.specs.declared.made.Made.{Made}
 use Rattle.kept_record.specs.Acts.{bare_made}
 use Rattle.kept_record.specs.Keeping.{Act, made_by, opened, account_of}
-use Rattle.least_fronts.proofs.Counting.{bare_lists}
-use Rattle.least_fronts.proofs.Going.{HasItemsOf}
-use Rattle.least_fronts.proofs.Knowing.{begins, all_least}
-use Rattle.least_fronts.proofs.laws.the_fronts_of_a_kept_record_are_the_least.Goals as goal
+use Rattle.kept_record.proofs.LeastCounts.{bare_lists}
+use Rattle.kept_record.proofs.LeastSteps.{HasItemsOf}
+use Rattle.kept_record.proofs.LeastFronts.{begins, all_least}
+use Rattle.kept_record.proofs.laws.the_fronts_of_a_kept_record_are_the_least.Goals as goal
 
 pub returns-clause-least : goal.returns-clause-least
 returns-clause-least c plan acts other worker i x y all same fronts edges at_x at_y =

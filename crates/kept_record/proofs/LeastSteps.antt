@@ -13,7 +13,7 @@ use Rattle.run_record.specs.declared.made.Made.TheVariants.{Shared, Entered}
 use Rattle.run_record.specs.Record.{Record, ObjectEntry, journal_of, list_of, entries_in}
 use Rattle.kept_record.specs.Acts.{bare_made, bare, deeds_on, told}
 use Rattle.kept_record.specs.Keeping.{Act, Account, made_by, with_act}
-use Rattle.least_fronts.proofs.Counting.{at_seam, map_at, as_many_entries, many, by_many, made_many, entry_stands, caller_stands, bare_lists, made_by-append, bare_deeds, deeds_on-append, bare_next}
+use Rattle.kept_record.proofs.LeastCounts.{at_seam, map_at, as_many_entries, many, by_many, made_many, entry_stands, caller_stands, bare_lists, made_by-append, bare_deeds, deeds_on-append, bare_next}
 
 -- what is kept, and what comes behind it, are these acts
 abbrev pub Goes : List Act → Account → List Act → Type 0

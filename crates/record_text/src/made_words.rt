@@ -1,4 +1,4 @@
-//! The words by which an item's line says what was done, and what was answered. Their numbers have 64 bits, as those of a program have.
+//! The words by which the line of an item says what was done, and what was answered. Their numbers have 64 bits, as those of a program have.
 ghost use Rattle.std.specs.Prelude.{◌≡◌, ◌^◌, true, IfSome};
 ghost use Rattle.std.specs.Option.{option_map_or};
 ghost use Rattle.record_text.specs.AnswerWords.{is_answer};
@@ -7,9 +7,11 @@ ghost use Rattle.record_text.specs.ItemLines.{is_reply};
 ghost use Rattle.record_text.specs.Numbers.{has_64_bits, is_whole};
 ghost use Rattle.record_text.specs.Written.{whole_of, number_reply, atomic_reply, map_reply, mutex_event, rw_event, cond_event, group_event, once_event, pool_event, start_event, event_of, mutex_answer, rw_answer, cond_answer, group_answer, once_answer, pool_answer, start_answer, answer_of};
 
+use crate::answer::AnswerWord;
+use crate::event::EventWord;
+use crate::item_line::{PlacedReply, Whole};
 use mutex_core::{Arrival, MutexEvent, MutexReply, Resumption, Unlocking};
 use pool_core::{PoolEvent, PoolReply};
-use record_text::{AnswerWord, EventWord, PlacedReply, Whole};
 use run_record::{ObjectEvent, ObjectReply};
 use rw_core::{
     Arrival as RwArrival, Resumption as RwResumption, RwEvent, RwReply, Unlocking as RwUnlocking,
@@ -19,12 +21,12 @@ use sync_types::{AtomicReply, MapReply, Number};
 use wait_cores::{GroupEvent, GroupReply, NotifyEvent, NotifyReply, OnceEvent, OnceReply};
 
 /// A number of a program has 64 bits.
-pub(crate) fn number_fits(number: u64)
+pub fn number_fits(number: u64)
     ensures { has_64_bits number ≡ true }
 {}
 
 /// So has the value that a step shows.
-pub(crate) fn shown_fits(shown: Option<(u32, u64)>)
+pub fn shown_fits(shown: Option<(u32, u64)>)
     ensures { option_map_or (λ pair. has_64_bits pair.1) shown true ≡ true }
 {}
 
@@ -53,7 +55,7 @@ fn number_reply(number: Number) -> PlacedReply
 }
 
 /// The word of what an atomic replies.
-pub(crate) fn atomic_reply(reply: AtomicReply) -> PlacedReply
+pub fn atomic_reply(reply: AtomicReply) -> PlacedReply
     ensures word { result ≡ atomic_reply reply }
     ensures fits { is_reply result ≡ true }
 {
@@ -65,7 +67,7 @@ pub(crate) fn atomic_reply(reply: AtomicReply) -> PlacedReply
 }
 
 /// The word of what a map replies.
-pub(crate) fn map_reply(reply: MapReply) -> PlacedReply
+pub fn map_reply(reply: MapReply) -> PlacedReply
     ensures word { result ≡ map_reply reply }
     ensures fits { is_reply result ≡ true }
 {
@@ -173,7 +175,7 @@ fn start_event(event: StartEvent) -> EventWord
 }
 
 /// The word of an event. What the function of a once came to isn't said, nor the part of a pool.
-pub(crate) fn event_of(event: ObjectEvent) -> EventWord
+pub fn event_of(event: ObjectEvent) -> EventWord
     ensures word { result ≡ event_of event }
     ensures fits { is_event (2 ^ 64) result ≡ true }
 {
@@ -287,7 +289,7 @@ fn start_answer(reply: StartReply) -> AnswerWord
 }
 
 /// The word of an answer. That an item was dropped has none.
-pub(crate) fn answer_of(reply: ObjectReply) -> Option<AnswerWord>
+pub fn answer_of(reply: ObjectReply) -> Option<AnswerWord>
     ensures word { result ≡ answer_of reply }
     ensures fits { IfSome result (λ answer. is_answer (2 ^ 64) answer ≡ true) }
 {

@@ -1,6 +1,6 @@
 use Rattle.step_runner.specs.Traces.{trace_of}
 use Rattle.scheduled_record.specs.RunActs.{run_acts}
-use Rattle.least_fronts.proofs.laws.the_fronts_of_a_scheduled_run_are_the_least.Goals as goal
+use Rattle.scheduled_record.proofs.laws.the_fronts_of_a_scheduled_run_are_the_least.Goals as goal
 
 pub returns : goal.returns
 returns c plan other worker i x y valid same fronts edges at_x at_y =

@@ -19,8 +19,8 @@ use Rattle.run_record.specs.Objects.{object_count}
 use Rattle.run_record.specs.Record.{Record, ObjectEntry, journal_of, list_of, shared_in, front_of}
 use Rattle.kept_record.specs.Acts.{deeds_on}
 use Rattle.kept_record.specs.Keeping.{Act, Account, made_by, known_by, released_at, joined, counted, learnt, given, entered, placed, with_made, with_act, opened}
-use Rattle.least_fronts.proofs.Counting.{each_more, one_more_shared, made_by-append, deeds_on-append}
-use Rattle.least_fronts.proofs.Going.{Goes, HasItemsOf, Stands, call_stands, entry_so_stands, goes_on}
+use Rattle.kept_record.proofs.LeastCounts.{each_more, one_more_shared, made_by-append, deeds_on-append}
+use Rattle.kept_record.proofs.LeastSteps.{Goes, HasItemsOf, Stands, call_stands, entry_so_stands, goes_on}
 
 -- ---- fronts
 

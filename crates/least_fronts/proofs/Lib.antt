@@ -1,3 +1,0 @@
-mod Counting
-mod Going
-mod Knowing
