@@ -19,7 +19,8 @@ use Rattle.kept_record.specs.Keeping.{Act, made_by, account_of}
 use Rattle.step_runner.specs.Traces.{trace_of}
 use Rattle.scheduled_record.specs.RunActs.{run_acts, scheduled_record}
 use Rattle.scheduled_record.specs.ToldItems.{ToldAct, told_run}
-use Rattle.scheduled_record.specs.ToldLists.{told_of, told_item, told_list, claim_of}
+use Rattle.scheduled_record.specs.ToldItems.{told_of}
+use Rattle.scheduled_record.specs.ToldLists.{told_item, told_list, claim_of}
 use Rattle.scheduled_record.proofs.Adding.{run_told}
 use Rattle.scheduled_record.proofs.RunLines.{row_there}
 use Rattle.scheduled_record.proofs.ToldLemmas.{kept_lists}

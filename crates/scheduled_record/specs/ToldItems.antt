@@ -65,6 +65,10 @@ kept_told plan told = told_with told (account_of plan (acts_in told)).acts
 abbrev pub told_by : ℕ → List ToldAct → List ToldAct
 told_by worker told = filter (λ (t : ToldAct). t.act.worker == worker) told
 
+-- what a worker makes in a run by schedule, in its order, each act with its call
+abbrev pub told_of : Plan → ℕ → List ToldAct
+told_of plan worker = told_by worker (kept_told plan (told_run plan (trace_of plan)))
+
 -- the number of an entry in its journal: all entries before it are known to it. Another item has none
 abbrev pub number_of : Made → ℕ
 number_of (Shared x) = 0

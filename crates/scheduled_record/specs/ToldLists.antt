@@ -4,13 +4,8 @@ use Rattle.std.specs.List.{range_with_len}
 use Rattle.script_calls.specs.declared.outcome.Report.{Report}
 use Rattle.workload.specs.Plan.{Plan}
 use Rattle.record_clauses.specs.Account.{ToldItem, Claim}
-use Rattle.step_runner.specs.Traces.{trace_of}
 use Rattle.scheduled_record.specs.Recorded.{done_report}
-use Rattle.scheduled_record.specs.ToldItems.{ToldAct, told_run, kept_told, told_by, number_of}
-
--- what a worker makes in a run that is done, in its order, each with its call
-abbrev pub told_of : Plan → ℕ → List ToldAct
-told_of plan worker = told_by worker (kept_told plan (told_run plan (trace_of plan)))
+use Rattle.scheduled_record.specs.ToldItems.{ToldAct, number_of, told_of}
 
 abbrev pub told_item : ToldAct → ToldItem
 told_item t = record { made = t.act.made; call = t.index; number = number_of t.act.made }

@@ -51,7 +51,7 @@ ghost use Rattle.record_text.specs.LawfulItems.{IsNumbered};
 ghost use Rattle.record_text.specs.Told.{items_of};
 ghost use Rattle.record_text.specs.Written.{item_line};
 ghost use Rattle.scheduled_record.specs.RunActs.{acts_of, run_acts, scheduled_record};
-ghost use Rattle.scheduled_record.specs.ToldItems.{ToldAct, acts_in, told_run, kept_told, told_by, number_of, line_in, told_items};
+ghost use Rattle.scheduled_record.specs.ToldItems.{ToldAct, acts_in, told_run, told_of, number_of, line_in, told_items};
 
 use kept_record::laws as kept;
 use pool_core::laws::keeps_its_parts;
@@ -279,12 +279,12 @@ pub fn a_record_explains_every_scheduled_run_that_is_done()
 /// record, one by one: each with the place of a call in the script, or with none, and with its number in its object's journal.
 pub fn the_items_of_a_run_are_lines_of_its_record()
     ensures acts { (plan : Plan) → acts_in (told_run plan (trace_of plan)) ≡ run_acts plan (trace_of plan) }
-    ensures lists { (plan : Plan) (worker : ℕ) → is_valid plan ≡ true → map (λ t. t.act.made) (told_by worker (kept_told plan (told_run plan (trace_of plan)))) ≡ list_of (scheduled_record plan) worker }
-    ensures lines { (plan : Plan) (worker : ℕ) → items_of (told_items plan) worker ≡ flat_map line_in (told_by worker (kept_told plan (told_run plan (trace_of plan)))) }
-    ensures own { (plan : Plan) (worker place : ℕ) (t : ToldAct) → slice_get (told_by worker (kept_told plan (told_run plan (trace_of plan)))) place ≡ Some t → line_in t ≡ option_to_list (item_line worker t.index (number_of t.act.made) t.act.made) }
-    ensures numbers { (plan : Plan) (worker place : ℕ) (t : ToldAct) → is_valid plan ≡ true → slice_get (told_by worker (kept_told plan (told_run plan (trace_of plan)))) place ≡ Some t
+    ensures lists { (plan : Plan) (worker : ℕ) → is_valid plan ≡ true → map (λ t. t.act.made) (told_of plan worker) ≡ list_of (scheduled_record plan) worker }
+    ensures lines { (plan : Plan) (worker : ℕ) → items_of (told_items plan) worker ≡ flat_map line_in (told_of plan worker) }
+    ensures own { (plan : Plan) (worker place : ℕ) (t : ToldAct) → slice_get (told_of plan worker) place ≡ Some t → line_in t ≡ option_to_list (item_line worker t.index (number_of t.act.made) t.act.made) }
+    ensures numbers { (plan : Plan) (worker place : ℕ) (t : ToldAct) → is_valid plan ≡ true → slice_get (told_of plan worker) place ≡ Some t
         → IsNumbered (scheduled_record plan) (number_of t.act.made) t.act.made }
-    ensures places { (plan : Plan) (worker place : ℕ) (t : ToldAct) → is_valid plan ≡ true → slice_get (told_by worker (kept_told plan (told_run plan (trace_of plan)))) place ≡ Some t
+    ensures places { (plan : Plan) (worker place : ℕ) (t : ToldAct) → is_valid plan ≡ true → slice_get (told_of plan worker) place ≡ Some t
         → is_index (length (get_or plan.scripts worker [])) t.index ≡ true }
 {
     the_acts_of_a_run_are_the_workloads();

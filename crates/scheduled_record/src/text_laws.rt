@@ -9,9 +9,8 @@ ghost use Rattle.record_text.specs.declared.item_line.ItemLine.{ItemLine};
 ghost use Rattle.record_text.specs.ItemLines.{is_item};
 ghost use Rattle.record_text.specs.Told.{IsTold};
 ghost use Rattle.record_text.specs.Written.{item_line};
-ghost use Rattle.step_runner.specs.Traces.{trace_of};
 ghost use Rattle.scheduled_record.specs.Recorded.{AreSame, IsDoneWithin, IsRecorded, done_text, told_done};
-ghost use Rattle.scheduled_record.specs.ToldItems.{ToldAct, kept_told, number_of, told_by, told_items, told_run};
+ghost use Rattle.scheduled_record.specs.ToldItems.{ToldAct, number_of, told_items, told_of};
 
 use crate::laws::{
     a_record_explains_every_scheduled_run_that_is_done, the_acts_of_a_run_are_the_workloads,
@@ -35,7 +34,7 @@ pub fn an_item_of_a_run_has_a_number_for_each_worker()
 /// Each item of a run that is done has a line, so that none is left out where its items are told.
 pub fn each_item_of_a_run_has_a_line()
     ensures { (plan : Plan) (within : Bool) (left : Report) (worker place : ℕ) (t : ToldAct) → IsReadable plan → has_variables plan ≡ false → IsDoneWithin plan within left
-        → slice_get (told_by worker (kept_told plan (told_run plan (trace_of plan)))) place ≡ Some t → (line : ItemLine) × (item_line worker t.index (number_of t.act.made) t.act.made ≡ Some line) }
+        → slice_get (told_of plan worker) place ≡ Some t → (line : ItemLine) × (item_line worker t.index (number_of t.act.made) t.act.made ≡ Some line) }
 {
     the_items_of_a_run_are_lines_of_its_record();
     the_fronts_of_a_scheduled_run_never_fall();

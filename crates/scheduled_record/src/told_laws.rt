@@ -19,10 +19,9 @@ ghost use Rattle.record_clauses.specs.Lists.{is_halt, without_halts, calls_told,
 ghost use Rattle.record_text.specs.Told.{items_of as lines_of_worker};
 ghost use Rattle.record_text.specs.Written.{item_line};
 ghost use Rattle.step_runner.specs.Outcomes.{StepsTo};
-ghost use Rattle.step_runner.specs.Traces.{trace_of};
 ghost use Rattle.scheduled_record.specs.Recorded.{IsDoneWithin};
 ghost use Rattle.scheduled_record.specs.RunActs.{scheduled_record};
-ghost use Rattle.scheduled_record.specs.ToldItems.{ToldAct, told_run, kept_told, told_by, number_of, told_items};
+ghost use Rattle.scheduled_record.specs.ToldItems.{ToldAct, told_of, number_of, told_items};
 ghost use Rattle.scheduled_record.specs.ToldLists.{told_list, claim_of};
 
 use crate::laws::{
@@ -47,7 +46,7 @@ use sync_types::Name;
 pub fn each_item_of_a_run_is_told_its_call()
     ensures { (plan : Plan) (report : Report) (worker : ℕ) (line : Line) → IsReadable plan → has_variables plan ≡ false → StepsTo plan (outcomes.Done report) → worker < plan.workers
         → IsLineOf plan worker line → RunsAlong (get_or plan.scripts worker []) (calls_made line) line.rest → items_of line ≡ list_of (scheduled_record plan) worker
-        → map (λ t. t.index) (told_by worker (kept_told plan (told_run plan (trace_of plan)))) ≡ calls_along line }
+        → map (λ t. t.index) (told_of plan worker) ≡ calls_along line }
 {
     the_acts_of_a_run_are_the_workloads();
     validity();
@@ -65,7 +64,7 @@ pub fn each_item_of_a_run_is_told_its_call()
 /// Along a worker's list the entries of one object are told rising numbers.
 pub fn numbers_of_entries_rise()
     ensures { (plan : Plan) (worker place other object : ℕ) (t u : ToldAct) (x y : ObjectEntry) → is_valid plan ≡ true → place < other
-        → slice_get (told_by worker (kept_told plan (told_run plan (trace_of plan)))) place ≡ Some t → slice_get (told_by worker (kept_told plan (told_run plan (trace_of plan)))) other ≡ Some u
+        → slice_get (told_of plan worker) place ≡ Some t → slice_get (told_of plan worker) other ≡ Some u
         → t.act.made ≡ Entered object x → u.act.made ≡ Entered object y → number_of t.act.made < number_of u.act.made }
 {
     the_items_of_a_run_are_lines_of_its_record();
@@ -86,7 +85,7 @@ pub fn entries_of_a_run_are_told_their_numbers()
 pub fn no_item_of_a_run_is_a_halt()
     ensures each { (plan : Plan) (worker place : ℕ) (x : Made) → is_valid plan ≡ true → slice_get (list_of (scheduled_record plan) worker) place ≡ Some x → is_halt x ≡ false }
     ensures whole { (plan : Plan) (worker : ℕ) → is_valid plan ≡ true → without_halts (list_of (scheduled_record plan) worker) ≡ list_of (scheduled_record plan) worker }
-    ensures told { (plan : Plan) (worker : ℕ) → is_valid plan ≡ true → calls_told (told_list plan worker) ≡ map (λ t. t.index) (told_by worker (kept_told plan (told_run plan (trace_of plan)))) }
+    ensures told { (plan : Plan) (worker : ℕ) → is_valid plan ≡ true → calls_told (told_list plan worker) ≡ map (λ t. t.index) (told_of plan worker) }
 {
     the_acts_of_a_run_are_the_workloads();
     the_items_of_a_run_are_lines_of_its_record();

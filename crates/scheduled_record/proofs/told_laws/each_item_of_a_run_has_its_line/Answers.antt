@@ -5,7 +5,8 @@ use Rattle.std.proofs.lemmas.List.FromFn.{length-range_with_len}
 use Rattle.record_clauses.specs.Account.{ToldItem}
 use Rattle.record_text.specs.Written.{item_line}
 use Rattle.scheduled_record.specs.ToldItems.{ToldAct}
-use Rattle.scheduled_record.specs.ToldLists.{told_list, told_of}
+use Rattle.scheduled_record.specs.ToldItems.{told_of}
+use Rattle.scheduled_record.specs.ToldLists.{told_list}
 use Rattle.scheduled_record.proofs.ClaimLists.{own_list}
 use Rattle.scheduled_record.proofs.LinesHad.{HasLine, each_place, lines_are}
 use Rattle.scheduled_record.proofs.told_laws.each_item_of_a_run_has_its_line.Goals as goal

@@ -5,7 +5,7 @@ use Rattle.run_record.specs.Record.{ObjectEntry, journal_of, entries_in}
 use Rattle.kept_record.specs.Keeping.{Act, entries_on, opened, account_of}
 use Rattle.step_runner.specs.Traces.{trace_of}
 use Rattle.scheduled_record.specs.RunActs.{run_acts, scheduled_record}
-use Rattle.scheduled_record.specs.ToldLists.{told_of}
+use Rattle.scheduled_record.specs.ToldItems.{told_of}
 use Rattle.scheduled_record.proofs.EntryNumbers.{with_number, numbers_are, numbers_told, numbers_counted}
 use Rattle.scheduled_record.proofs.ToldNumbers.{all_more}
 use Rattle.scheduled_record.proofs.told_laws.entries_of_a_run_are_told_their_numbers.Goals as goal

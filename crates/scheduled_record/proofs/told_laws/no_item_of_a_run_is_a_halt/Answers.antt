@@ -5,7 +5,7 @@ use Rattle.run_record.specs.Record.{list_of}
 use Rattle.record_clauses.specs.Lists.{is_halt}
 use Rattle.step_runner.specs.Traces.{items_told, trace_of}
 use Rattle.scheduled_record.specs.RunActs.{run_acts, scheduled_record}
-use Rattle.scheduled_record.specs.ToldLists.{told_of}
+use Rattle.scheduled_record.specs.ToldItems.{told_of}
 use Rattle.scheduled_record.proofs.Adding.{all_at}
 use Rattle.scheduled_record.proofs.NoHalts.{NoHalts, no_halts, none_aside, calls_kept}
 use Rattle.scheduled_record.proofs.told_laws.no_item_of_a_run_is_a_halt.Goals as goal

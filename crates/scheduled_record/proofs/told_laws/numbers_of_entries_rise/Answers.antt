@@ -7,7 +7,7 @@ use Rattle.run_record.specs.Record.{ObjectEntry, journal_of, list_of}
 use Rattle.record_text.specs.LawfulItems.{IsNumbered}
 use Rattle.scheduled_record.specs.RunActs.{scheduled_record}
 use Rattle.scheduled_record.specs.ToldItems.{ToldAct, number_of}
-use Rattle.scheduled_record.specs.ToldLists.{told_of}
+use Rattle.scheduled_record.specs.ToldItems.{told_of}
 use Rattle.scheduled_record.proofs.EntryNumbers.{later_number}
 use Rattle.scheduled_record.proofs.told_laws.numbers_of_entries_rise.Goals as goal
 
