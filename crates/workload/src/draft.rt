@@ -21,10 +21,16 @@ use std::alloc::{AllocError, Global};
 use std::marker::Model;
 use sync_types::{Name, Seq};
 
-/// The workload that the lines so far say, the worker whose calls follow, and tables of the names
-/// and keys, so that no look-up scans a list.
+/// The workload that the lines so far say, and the worker whose calls follow. A draft is one pointer, so that it is cheap
+/// to hand on from line to line.
 #[derive(Drop)]
 pub struct Draft {
+    parts: Box<Parts>,
+}
+
+/// What a draft knows, with tables of the names and keys, so that no look-up scans a list.
+#[derive(Drop)]
+struct Parts {
     workers: u32,
     objects: Seq<ObjectLine>,
     dormant: Vec<bool>,
@@ -46,9 +52,9 @@ impl Model for Draft {
 
     ghost Value = { Draft };
 
-    ghost view = { λ d. record { plan = record { workers = d.workers; objects = d.objects; dormant = d.dormant.items; scripts = d.scripts; schedule = d.schedule }; current = d.current } };
+    ghost view = { λ d. record { plan = record { workers = d.parts.value.workers; objects = d.parts.value.objects; dormant = d.parts.value.dormant.items; scripts = d.parts.value.scripts; schedule = d.parts.value.schedule }; current = d.parts.value.current } };
 
-    ghost invariant = { λ d. IsIndexed (record { workers = d.workers; objects = d.objects; dormant = d.dormant.items; scripts = d.scripts; schedule = d.schedule }) d.current d.names d.keys d.started.items d.calls d.ranges d.tries d.accesses };
+    ghost invariant = { λ d. IsIndexed (record { workers = d.parts.value.workers; objects = d.parts.value.objects; dormant = d.parts.value.dormant.items; scripts = d.parts.value.scripts; schedule = d.parts.value.schedule }) d.parts.value.current d.parts.value.names d.parts.value.keys d.parts.value.started.items d.parts.value.calls d.parts.value.ranges d.parts.value.tries d.parts.value.accesses };
 }
 
 /// As many empty scripts as there are workers.
@@ -182,17 +188,13 @@ fn started_by(call: &Call) -> Option<u32>
     }
 }
 
-/// With a mark at the worker that a call starts, if it starts one.
-fn with_started(mut started: Vec<bool>, call: &Call) -> Vec<bool>
-    requires { option_map_or (λ worker. nat_lt worker (vec_len started)) (started_by call.now.operation) true ≡ true }
-    ensures { result.items ≡ marked started.items (started_by call.now.operation) }
+/// Marks the worker that a call starts, if it starts one.
+fn mark_started(started: &mut Vec<bool>, call: &Call)
+    requires { option_map_or (λ worker. nat_lt worker (vec_len started.old)) (started_by call.now.operation) true ≡ true }
+    ensures { started.new.items ≡ marked started.old.items (started_by call.now.operation) }
 {
-    match started_by(call) {
-        None => started,
-        Some(worker) => {
-            started[worker as usize] = true;
-            started
-        }
+    if let Some(worker) = started_by(call) {
+        started[worker as usize] = true;
     }
 }
 
@@ -203,7 +205,7 @@ impl Draft {
         requires few { workers ≤ MAX_WORKERS }
         ensures { IfOk result (λ draft. draft ≡ started workers) }
     {
-        Ok(Draft {
+        let parts = Parts {
             workers,
             objects: Seq::new(alloc),
             dormant: none_yet(alloc, workers)?,
@@ -217,6 +219,9 @@ impl Draft {
             ranges: 0,
             tries: 0,
             accesses: 0,
+        };
+        Ok(Draft {
+            parts: Box::new(alloc, parts)?,
         })
     }
 
@@ -225,7 +230,7 @@ impl Draft {
         ensures workers { result ≡ self.now.plan.workers }
         ensures few { result ≤ MAX_WORKERS }
     {
-        self.workers
+        self.parts.workers
     }
 
     /// Whether a worker waits to be started.
@@ -233,7 +238,7 @@ impl Draft {
         requires { worker < self.now.plan.workers }
         ensures { result ≡ is_dormant self.now.plan worker }
     {
-        self.dormant[worker as usize]
+        self.parts.dormant[worker as usize]
     }
 
     /// Whether a call starts a worker.
@@ -241,73 +246,74 @@ impl Draft {
         requires { worker < self.now.plan.workers }
         ensures { result ≡ nat_lt 0 (start_count worker self.now.plan.scripts) }
     {
-        self.started[worker as usize]
+        self.parts.started[worker as usize]
     }
 
     /// Whether a `worker` line came.
     pub fn is_in_worker(&self) -> bool
         ensures { result ≡ is_some self.now.current }
     {
-        self.current.is_some()
+        self.parts.current.is_some()
     }
 
     /// The object that has a name.
     pub fn declared(&self, name: &[u8]) -> Option<Declared>
         ensures { result ≡ declared self.now name.now }
     {
-        self.names.get(name)
+        self.parts.names.get(name)
     }
 
     /// Whether one more object of a word is within its limit.
     pub fn has_room_for(&self, word: ObjectWord) -> bool
         ensures { result ≡ nat_lt (count_of word self.now.plan.objects) (limit_of word) }
     {
-        count(word, self.objects.as_slice()) < limit(word)
+        count(word, self.parts.objects.as_slice()) < limit(word)
     }
 
     /// How many calls there are, all workers together.
     pub fn calls(&self) -> usize
         ensures { result ≡ call_count self.now.plan.scripts }
     {
-        self.calls
+        self.parts.calls
     }
 
     /// How many `range` calls there are, all workers together.
     pub fn ranges(&self) -> usize
         ensures { result ≡ range_count self.now.plan.scripts }
     {
-        self.ranges
+        self.parts.ranges
     }
 
     /// How many waits all calls may make, all workers together.
     pub fn tries(&self) -> usize
         ensures { result ≡ try_count self.now.plan.scripts }
     {
-        self.tries
+        self.parts.tries
     }
 
     /// How many reads and writes of plain variables there are, all workers together.
     pub fn accesses(&self) -> usize
         ensures { result ≡ access_count self.now.plan.scripts }
     {
-        self.accesses
+        self.parts.accesses
     }
 
     /// How many items the schedule has.
     pub fn turns(&self) -> usize
         ensures { result ≡ length self.now.plan.schedule }
     {
-        self.schedule.len()
+        self.parts.schedule.len()
     }
 
     /// How many different keys there are with one that a call brings.
     fn keys_with(&self, key: &[u8]) -> usize
         ensures { result ≡ key_count self.now.plan.scripts (key.now ∷ []) }
     {
-        if self.keys.get(key).is_some() {
-            self.keys.len()
+        let keys = &self.parts.keys;
+        if keys.get(key).is_some() {
+            keys.len()
         } else {
-            self.keys.len() + 1
+            keys.len() + 1
         }
     }
 
@@ -316,7 +322,7 @@ impl Draft {
         ensures { result ≡ key_count self.now.plan.scripts (keys_of call.now) }
     {
         match call_key(call) {
-            None => self.keys.len(),
+            None => self.parts.keys.len(),
             Some(key) => self.keys_with(key.as_bytes()),
         }
     }
@@ -330,152 +336,42 @@ impl Draft {
         requires { may_follow self (Line.Object object reference) ≡ true }
         ensures { IfOk result (λ draft. draft ≡ with_line self (Line.Object object reference)) }
     {
-        let Draft {
-            workers,
-            mut objects,
-            dormant,
-            started,
-            scripts,
-            schedule,
-            current,
-            mut names,
-            keys,
-            calls,
-            ranges,
-            tries,
-            accesses,
-        } = self;
+        let Draft { mut parts } = self;
+        let known = &mut *parts;
         let declared = Declared {
-            place: objects.len(),
+            place: known.objects.len(),
             kind: object.kind,
         };
-        names.insert(alloc, object.name.as_bytes(), declared)?;
-        objects.push(object)?;
-        Ok(Draft {
-            workers,
-            objects,
-            dormant,
-            started,
-            scripts,
-            schedule,
-            current,
-            names,
-            keys,
-            calls,
-            ranges,
-            tries,
-            accesses,
-        })
+        known.names.insert(alloc, object.name.as_bytes(), declared)?;
+        known.objects.push(object)?;
+        Ok(Draft { parts })
     }
 
     fn with_dormant(self, worker: u32) -> Self
         requires { may_follow self (Line.Dormant worker) ≡ true }
         ensures { result ≡ with_line self (Line.Dormant worker) }
     {
-        let Draft {
-            workers,
-            objects,
-            mut dormant,
-            started,
-            scripts,
-            schedule,
-            current,
-            names,
-            keys,
-            calls,
-            ranges,
-            tries,
-            accesses,
-        } = self;
-        dormant[worker as usize] = true;
-        Draft {
-            workers,
-            objects,
-            dormant,
-            started,
-            scripts,
-            schedule,
-            current,
-            names,
-            keys,
-            calls,
-            ranges,
-            tries,
-            accesses,
-        }
+        let Draft { mut parts } = self;
+        parts.dormant[worker as usize] = true;
+        Draft { parts }
     }
 
     fn with_worker(self, worker: u32) -> Self
         requires { may_follow self (Line.Worker worker) ≡ true }
         ensures { result ≡ with_line self (Line.Worker worker) }
     {
-        let Draft {
-            workers,
-            objects,
-            dormant,
-            started,
-            scripts,
-            schedule,
-            current: _,
-            names,
-            keys,
-            calls,
-            ranges,
-            tries,
-            accesses,
-        } = self;
-        Draft {
-            workers,
-            objects,
-            dormant,
-            started,
-            scripts,
-            schedule,
-            current: Some(worker),
-            names,
-            keys,
-            calls,
-            ranges,
-            tries,
-            accesses,
-        }
+        let Draft { mut parts } = self;
+        parts.current = Some(worker);
+        Draft { parts }
     }
 
     fn with_turns(self, turns: &[Turn]) -> Result<Self, AllocError>
         requires { may_follow self (Line.Schedule turns.now) ≡ true }
         ensures { IfOk result (λ draft. draft ≡ with_line self (Line.Schedule turns.now)) }
     {
-        let Draft {
-            workers,
-            objects,
-            dormant,
-            started,
-            scripts,
-            mut schedule,
-            current,
-            names,
-            keys,
-            calls,
-            ranges,
-            tries,
-            accesses,
-        } = self;
-        schedule.extend_from_slice(turns)?;
-        Ok(Draft {
-            workers,
-            objects,
-            dormant,
-            started,
-            scripts,
-            schedule,
-            current,
-            names,
-            keys,
-            calls,
-            ranges,
-            tries,
-            accesses,
-        })
+        let Draft { mut parts } = self;
+        parts.schedule.extend_from_slice(turns)?;
+        Ok(Draft { parts })
     }
 
     fn with_call(
@@ -488,45 +384,19 @@ impl Draft {
         requires { may_follow self (Line.Call name second call) ≡ true }
         ensures { IfOk result (λ draft. draft ≡ with_line self (Line.Call name second call)) }
     {
-        let Draft {
-            workers,
-            objects,
-            dormant,
-            started,
-            mut scripts,
-            schedule,
-            current,
-            names,
-            mut keys,
-            calls,
-            ranges,
-            tries,
-            accesses,
-        } = self;
-        let Some(worker) = current else {
+        let Draft { mut parts } = self;
+        let known = &mut *parts;
+        let Some(worker) = known.current else {
             unreachable!()
         };
-        insert_keys(alloc, &mut keys, &call)?;
-        let more_ranges = ranges_in(&call);
-        let more_tries = tries_in(&call);
-        let more_accesses = accesses_in(&call);
-        let started = with_started(started, &call);
-        scripts.push_at(worker as usize, call)?;
-        Ok(Draft {
-            workers,
-            objects,
-            dormant,
-            started,
-            scripts,
-            schedule,
-            current,
-            names,
-            keys,
-            calls: calls + 1,
-            ranges: ranges + more_ranges,
-            tries: tries + more_tries,
-            accesses: accesses + more_accesses,
-        })
+        insert_keys(alloc, &mut known.keys, &call)?;
+        known.calls += 1;
+        known.ranges += ranges_in(&call);
+        known.tries += tries_in(&call);
+        known.accesses += accesses_in(&call);
+        mark_started(&mut known.started, &call);
+        known.scripts.push_at(worker as usize, call)?;
+        Ok(Draft { parts })
     }
 
     /// The draft with one more line.
@@ -547,14 +417,14 @@ impl Draft {
     pub fn finish(self, alloc: Global) -> Result<Workload, AllocError>
         ensures { IfOk result (λ workload. workload ≡ self.plan) }
     {
-        let Draft {
+        let Parts {
             workers,
             objects,
             dormant,
             scripts,
             schedule,
             ..
-        } = self;
+        } = Box::into_inner(self.parts);
         let keys = Keys::of_scripts(alloc, scripts.as_slice())?;
         Ok(Workload::new(workers, objects, dormant, scripts, schedule, keys))
     }

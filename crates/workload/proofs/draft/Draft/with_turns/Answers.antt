@@ -7,7 +7,7 @@ use Rattle.workload.proofs.draft.Draft.with_turns.Goals as goal
 
 pub invariant_of-result : goal.invariant_of-result
 invariant_of-result c =
-    let d = c.self.inside in
+    let d = c.self.inside.parts.value in
     let plan : Plan = record { workers = d.workers; objects = d.objects; dormant = d.dormant.items; scripts = d.scripts; schedule = d.schedule } in
     let follows = subst (λ draft. may_follow draft (lines.Schedule c.args.turns.now) ≡ true) (sym c.self.view_is) c.requires in
-    rw c.in_ok-extend_from_slice.ensures.ok (indexed_turns plan d.current d.names d.keys d.started.items d.calls d.ranges d.tries d.accesses c.args.turns.now c.self.invariant follows)
+    rw (c.in_ok-extend_from_slice.ensures.ok, c.deref_mut.ensures.value) (indexed_turns plan d.current d.names d.keys d.started.items d.calls d.ranges d.tries d.accesses c.args.turns.now c.self.invariant follows)
