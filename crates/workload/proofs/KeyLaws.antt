@@ -45,7 +45,7 @@ number_below names name number e =
     let at : slice_get names number ≡ Some name = ap (slice_get names) (sym same) ∙ found.2 in
     (at, slice_get_within names number name at)
 
-any_there : (names : List (List ℕ)) (name : List ℕ) (k : ℕ) → number_in names name ≡ Some k → list_any (bytes_eq name) names ≡ true
+pub any_there : (names : List (List ℕ)) (name : List ℕ) (k : ℕ) → number_in names name ≡ Some k → list_any (bytes_eq name) names ≡ true
 any_there names name k e = sym (some_found (bytes_eq name) 0 names) ∙ ap is_some e
 
 or_true : (a : Bool) → (a || true) ≡ true
@@ -77,7 +77,7 @@ stays : (names : List (List ℕ)) (last name : List ℕ) → list_any (bytes_eq 
 stays names last name there =
     position_push (bytes_eq name) 0 names last ∙ ap (λ b. cond b (number_in names name) (cond (bytes_eq name last) (Some (0 + length names)) None)) there
 
-at_the_end : (names : List (List ℕ)) (last : List ℕ) → list_any (bytes_eq last) names ≡ false → number_in (names ++ last ∷ []) last ≡ Some (length names)
+pub at_the_end : (names : List (List ℕ)) (last : List ℕ) → list_any (bytes_eq last) names ≡ false → number_in (names ++ last ∷ []) last ≡ Some (length names)
 at_the_end names last new =
     position_push (bytes_eq last) 0 names last ∙ ap (λ b. cond b (number_in names last) (cond (bytes_eq last last) (Some (0 + length names)) None)) new
     ∙ ap (λ b. cond b (Some (0 + length names)) None) (eq_self last) ∙ ap (λ (k : ℕ). Some k) (let e : 0 + length names ≡ length names = omega arith in e)
@@ -125,7 +125,8 @@ stays_name names name q there = at (list_any (bytes_eq name) names)
     at true = refl
     at false = stays names name q there
 
-stays_names : (names more : List (List ℕ)) (q : List ℕ) → list_any (bytes_eq q) names ≡ true → number_in (with_names names more) q ≡ number_in names q
+-- names that are there keep their numbers, whatever names come
+pub stays_names : (names more : List (List ℕ)) (q : List ℕ) → list_any (bytes_eq q) names ≡ true → number_in (with_names names more) q ≡ number_in names q
 stays_names names [] q there = refl
 stays_names names (name ∷ more) q there =
     stays_names (with_name names name) more q (any_name names name q ∙ ap (λ b. b || bytes_eq q name) there) ∙ stays_name names name q there

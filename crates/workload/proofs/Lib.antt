@@ -4,6 +4,7 @@ pub mod DraftLemmas
 pub mod Follows
 pub mod KeyLemmas
 mod KeyLaws
+mod CallNumbers
 pub mod KeyNumbers
 mod Keywords
 pub mod Numbers

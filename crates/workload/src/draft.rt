@@ -425,7 +425,7 @@ impl Draft {
             schedule,
             ..
         } = Box::into_inner(self.parts);
-        let keys = Keys::of_scripts(alloc, scripts.as_slice())?;
-        Ok(Workload::new(workers, objects, dormant, scripts, schedule, keys))
+        let (keys, numbers) = Keys::of_scripts(alloc, scripts.as_slice())?;
+        Ok(Workload::new(workers, objects, dormant, scripts, schedule, keys, numbers))
     }
 }

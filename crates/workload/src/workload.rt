@@ -1,7 +1,7 @@
 //! A workload that was read.
-ghost use Rattle.std.specs.Prelude.{◌≡◌, ◌<◌, true, get_or, []};
+ghost use Rattle.std.specs.Prelude.{◌≡◌, ◌<◌, true, get_or, [], map};
 ghost use Rattle.script_calls.specs.Starts.{group_of};
-ghost use Rattle.workload.specs.Keys.{keys_in};
+ghost use Rattle.workload.specs.Keys.{keys_in, call_number, numbers_in};
 ghost use Rattle.workload.specs.Plan.{is_dormant, has_dormant, is_valid};
 ghost use Rattle.workload.specs.Puts.{puts_at};
 ghost use Rattle.workload.specs.Readable.{IsReadable};
@@ -16,7 +16,8 @@ use std::marker::Model;
 use sync_types::Seq;
 
 /// Workers, of which some may wait to be started, objects, a script for each worker and a schedule. Each number in it is in range: a call's
-/// object is there and has the call, and a turn's worker is there. The keys of its calls have numbers.
+/// object is there and has the call, and a turn's worker is there. The keys of its calls have numbers. Beside the
+/// scripts stands the number of each call's key, so that a run needs to look none up.
 #[derive(Drop)]
 pub struct Workload {
     workers: u32,
@@ -25,19 +26,20 @@ pub struct Workload {
     scripts: Seq<Seq<Call>>,
     schedule: Seq<Turn>,
     keys: Keys,
+    numbers: Seq<Seq<u32>>,
 }
 
 impl Model for Workload {
     ghost use Rattle.workload.specs.Plan.{Plan};
     ghost use Rattle.std.specs.Prelude.{◌≡◌};
-    ghost use Rattle.workload.specs.Keys.{keys_in};
+    ghost use Rattle.workload.specs.Keys.{keys_in, numbers_in};
     ghost use Rattle.workload.specs.Readable.{IsReadable};
 
     ghost Value = { Plan };
 
     ghost view = { λ w. record { workers = w.workers; objects = w.objects; dormant = w.dormant.items; scripts = w.scripts; schedule = w.schedule } };
 
-    ghost invariant = { λ w. IsReadable (record { workers = w.workers; objects = w.objects; dormant = w.dormant.items; scripts = w.scripts; schedule = w.schedule }) × (w.keys ≡ keys_in w.scripts) };
+    ghost invariant = { λ w. IsReadable (record { workers = w.workers; objects = w.objects; dormant = w.dormant.items; scripts = w.scripts; schedule = w.schedule }) × (w.keys ≡ keys_in w.scripts) × (w.numbers ≡ numbers_in w.scripts) };
 }
 
 impl Workload {
@@ -49,9 +51,11 @@ impl Workload {
         scripts: Seq<Seq<Call>>,
         schedule: Seq<Turn>,
         keys: Keys,
+        numbers: Seq<Seq<u32>>,
     ) -> Self
         requires readable { IsReadable (record { workers = workers; objects = objects; dormant = dormant.items; scripts = scripts; schedule = schedule }) }
         requires keys { keys ≡ keys_in scripts }
+        requires numbers { numbers ≡ numbers_in scripts }
         ensures { result ≡ record { workers = workers; objects = objects; dormant = dormant.items; scripts = scripts; schedule = schedule } }
     {
         Workload {
@@ -61,6 +65,7 @@ impl Workload {
             scripts,
             schedule,
             keys,
+            numbers,
         }
     }
 
@@ -112,6 +117,14 @@ impl Workload {
         ensures valid { is_valid self.now ≡ true }
     {
         self.scripts.as_slice()[worker as usize].as_slice()
+    }
+
+    /// For each call of a worker, in order, the number of its key, or 0 for a call without one.
+    pub fn key_numbers(&self, worker: u32) -> &[u32]
+        requires { worker < self.now.workers }
+        ensures { result.now ≡ map (call_number (keys_in self.now.scripts)) (get_or self.now.scripts worker []) }
+    {
+        self.numbers.as_slice()[worker as usize].as_slice()
     }
 
     /// The keys of the calls by first appearance, script by script from worker 0.
