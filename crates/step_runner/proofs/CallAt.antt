@@ -30,7 +30,7 @@ use Rattle.step_runner.proofs.AtObjects.{Alone, Referring, at_ready}
 use Rattle.step_runner.specs.MachinesStand.{MachinesStand}
 use Rattle.step_runner.proofs.CallOthers.{Eases, same_eases, turn_eases, both_ease}
 use Rattle.step_runner.proofs.CallOwn.{turn_takes, both_take, few}
-use Rattle.step_runner.proofs.OthersStand.{no}
+use Rattle.step_runner.proofs.Refuted.{no}
 use Rattle.step_runner.proofs.Writes.{get_other}
 
 -- ---- the objects of a call, and what is made there

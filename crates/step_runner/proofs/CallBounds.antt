@@ -42,6 +42,7 @@ use Rattle.step_runner.proofs.RunLemmas.{GoesOn, Kept, moment_valid}
 use Rattle.step_runner.proofs.ScriptRuns.{GoesFurther}
 use Rattle.step_runner.proofs.StartLemmas.{each_start}
 use Rattle.step_runner.proofs.TurnLemmas.{Takes, takes_by, turn_cases, moved, begun_own, begun_other, few_begun, replied_begun_other, replied_more, replied_other, turn_before}
+use Rattle.step_runner.proofs.Refuted.{no}
 
 -- what the laws of turns say
 pub record CallLaws : Type 0 where
@@ -60,9 +61,6 @@ pub record CallLaws : Type 0 where
 -- a turn without an event changes nothing
 abbrev pub StillSame : Type 0
 StillSame = (plan : Plan) (worker : ℕ) (old new : State) → IsStateOf plan old → turn_of plan worker old ≡ (new, steps.Still) → new ≡ old
-
-no : {A : Type 0} → false ≡ true → A
-no e = absurd cc
 
 live_waits : Live ≡ Waits → ⊥
 live_waits e = cc

@@ -50,7 +50,7 @@ use Rattle.step_runner.specs.Stages.{make}
 use Rattle.step_runner.specs.TurnAtObjects.{once_made, turn_on, turn_on_both}
 use Rattle.step_runner.proofs.Makes.{make_moves}
 use Rattle.step_runner.specs.MachinesStand.{MutexStands, RwStands, OnceStands, MachinesStand}
-use Rattle.step_runner.proofs.OthersStand.{no}
+use Rattle.step_runner.proofs.Refuted.{no}
 
 -- ---- at one object
 

@@ -107,7 +107,8 @@ use Rattle.step_runner.specs.TurnAtObjects.{once_made, turn_on, turn_on_both, co
 use Rattle.step_runner.specs.MachinesStand.{MutexStands, RwStands, CondStands, GroupStands, OnceStands, MachinesStand}
 use Rattle.step_runner.proofs.CompletesLemmas.{pool_completes}
 use Rattle.step_runner.proofs.DueLemmas.{OfDue, both_due, mutex_answer, mutex_answers, rw_answers, GroupAnswer, group_answers, OnceAnswer, once_answers}
-use Rattle.step_runner.proofs.OthersStand.{no, untold}
+use Rattle.step_runner.proofs.OthersStand.{untold}
+use Rattle.step_runner.proofs.Refuted.{no}
 
 -- ---- what a turn takes
 

@@ -34,6 +34,7 @@ use Rattle.step_runner.proofs.AtObjects.{turn_alone}
 use Rattle.step_runner.proofs.NextCalls.{IsClosing, gone_own, next_is, next_live, not_woken}
 use Rattle.step_runner.proofs.RunLemmas.{GoesOn, moment_valid}
 use Rattle.step_runner.proofs.TurnLemmas.{Takes, gone_each, takes_by, turn_cases}
+use Rattle.step_runner.proofs.Refuted.{no}
 
 -- ---- a `done` on a wait group
 
@@ -56,7 +57,7 @@ module _ (workers worker moment group : ℕ) (objects : List ObjectState) where
   by_object : (object : ObjectState) → slice_get objects group ≡ Some object → has_call (kind_of object) (done_on group).operation ≡ true → IsMachineOf workers object → worker < workers → IsWhole (turn_at (done_on group) worker moment objects).1
   by_object (states.WaitGroup g first) there has machine below =
       subst (λ (step : List ObjectState × Answer). IsWhole step.1) (sym (turn_alone (done_on group) worker moment objects (states.WaitGroup g first) there refl)) (by_step g (omega (arith, below, machine)))
-  by_object object there has machine below = absurd cc
+  by_object object there has machine below = no has
 
   done_whole : (begun : ℕ) → IsReadyWithin workers worker (done_on group) objects → IsWhole (turn_within (done_on group) worker moment begun objects).1
   done_whole begun ready =

@@ -1,5 +1,5 @@
 -- A call of a map, an atomic or a pool is completed in its first turn.
-use Rattle.std.proofs.Common.{◌≡◌, ℕ, ◌*◌, true, List, Some}
+use Rattle.std.proofs.Common.{◌≡◌, ℕ, ◌*◌, true, List, Some, refl}
 use Rattle.script_calls.specs.declared.call.Call.{Call}
 use Rattle.script_calls.specs.declared.call.ComposedCall.TheVariants.{IfEqual}
 use Rattle.script_calls.specs.declared.call.Operation.{Operation}
@@ -20,6 +20,7 @@ use Rattle.step_runner.specs.Ready.{IsReady}
 use Rattle.step_runner.specs.TurnAtObjects.{turn_on, turn_at}
 use Rattle.step_runner.proofs.AtObjects.{at_ready}
 use Rattle.step_runner.proofs.Makes.{found_answer}
+use Rattle.step_runner.proofs.Refuted.{no, not_both, nothing}
 
 pub pool_completes : (worker moment : ℕ) (call : PoolCall) (p : PoolState ℕ) → IsCompleted (pool_step worker moment call p).1
 pool_completes worker moment (pool_calls.Put item) p = tt
@@ -33,15 +34,15 @@ completes (operations.Atomic call) worker moment (states.Atomic number) one has 
 completes (operations.Composed (IfEqual value passes)) worker moment (states.Atomic number) one has = tt
 completes (operations.Pool call) worker moment (states.Pool p) one has = pool_completes worker moment call p
 completes (operations.Var call) worker moment (states.Var held) one has = tt
-completes operation worker moment o one has = absurd cc
+completes operation worker moment o one has = not_both (takes_one_turn operation) (has_call (kind_of o) operation) refl one has
 
 -- an object that refers to another one has no such call
 none_referring : (kind : ObjectKind) (operation : Operation) (other : ℕ) → reference_of kind ≡ Some other → has_call kind operation ≡ true → takes_one_turn operation ≡ true → ⊥
-none_referring (kinds.Cond place) (operations.Cond call) other some has never = cc
-none_referring (kinds.Cond place) operation other some has never = cc
-none_referring (kinds.Once place delta) operations.Once other some has never = cc
-none_referring (kinds.Once place delta) operation other some has never = cc
-none_referring kind operation other some has never = cc
+none_referring (kinds.Cond place) (operations.Cond call) other some has never = no never
+none_referring (kinds.Cond place) operation other some has never = no has
+none_referring (kinds.Once place delta) operations.Once other some has never = no never
+none_referring (kinds.Once place delta) operation other some has never = no has
+none_referring kind operation other some has never = nothing some
 
 pub at_completes : (workers worker : ℕ) (call : Call) (moment : ℕ) (objects : List ObjectState) → takes_one_turn call.operation ≡ true → IsReady workers worker call objects → IsCompleted (turn_at call worker moment objects).1
 at_completes workers worker call moment objects never r = at_ready (λ x. IsCompleted x.1) workers worker call moment objects r

@@ -50,7 +50,8 @@ use Rattle.step_runner.specs.Left.{mutex_waits, cond_left}
 use Rattle.step_runner.specs.Recorded.{recorded}
 use Rattle.step_runner.specs.Tells.{Tells}
 use Rattle.step_runner.specs.MachinesStand.{MutexStands, CondStands}
-use Rattle.step_runner.proofs.SpellingLaws.{no, may}
+use Rattle.step_runner.proofs.SpellingLaws.{may}
+use Rattle.step_runner.proofs.Refuted.{no}
 use Rattle.step_runner.proofs.MutexSpelled.{mutex_made}
 use Rattle.step_runner.proofs.Spelled.{event_made, says}
 

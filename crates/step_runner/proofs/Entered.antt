@@ -48,6 +48,7 @@ use Rattle.step_runner.specs.Within.{IsIdle, StandsOn, StandsOnBoth, IsWithin}
 use Rattle.step_runner.proofs.SpeltAtObjects.{left_alone, left_referring, stands_alone, stands_referring}
 use Rattle.step_runner.proofs.RwSides.{out_sides}
 use Rattle.step_runner.proofs.TurnOwn.{Pair, only_pairs, cond_refers, once_refers, wait_for_alone, go_alone}
+use Rattle.step_runner.proofs.Refuted.{no}
 
 -- ---- a new object
 
@@ -128,7 +129,7 @@ module _ (plan : Plan) (x before place : ℕ) where
   whole_on operations.Once o has alone idle out = absurd (once_refers o has alone)
   whole_on (operations.Composed (WaitFor atomic value tries)) o has alone idle out = absurd (wait_for_alone o atomic tries value has)
   whole_on (operations.Composed (Go started)) o has alone idle out = absurd (go_alone o started has)
-  whole_on operation o has alone idle out = absurd cc
+  whole_on operation o has alone idle out = absurd (no has)
 
   some_place : {a b : ℕ} → Some a ≡ Some b → b ≡ a
   some_place e = cc

@@ -28,6 +28,7 @@ use Rattle.step_runner.specs.TurnAtObjects.{turn_at}
 use Rattle.step_runner.specs.TurnWithin.{add_one, start_item, start_items, turn_by_operation, turn_within, items_by_operation, items_within}
 use Rattle.step_runner.proofs.SpeltAtObjects.{set_there, turn_alone, items_alone}
 use Rattle.step_runner.proofs.Writes.{set_back}
+use Rattle.step_runner.proofs.Refuted.{no}
 
 module _ (call : Call) (workers worker moment started : ℕ) (objects : List ObjectState) where
   -- the objects behind the group's step and the turn's answer, and what the turn makes
@@ -59,7 +60,7 @@ module _ (call : Call) (workers worker moment started : ℕ) (objects : List Obj
   by_object : (object : ObjectState) → slice_get objects call.object ≡ Some object → has_call (kind_of object) (add_one call.object).operation ≡ true → IsMachineOf workers object → worker < workers
       → Gone (turn_at (add_one call.object) worker moment objects) (items_at (add_one call.object) worker moment objects)
   by_object (states.WaitGroup g first) there has machine below = by_turn g first there (omega (arith, below, machine))
-  by_object object there has machine below = absurd cc
+  by_object object there has machine below = no has
 
   by_operation : (operation : Operation) (begun : ℕ) → operations.Composed (Go started) ≡ operation → ReadyBy workers worker call objects operation
       → HasGone call worker started objects (turn_by_operation call worker moment begun objects operation).0.0 (items_by_operation call worker moment begun objects operation) (turn_by_operation call worker moment begun objects operation).1

@@ -24,6 +24,7 @@ use Rattle.step_runner.specs.TurnAtObjects.{turn_on, turn_on_both, turn_at}
 use Rattle.step_runner.specs.TurnWithin.{on_group, start_item, start_items}
 use Rattle.step_runner.proofs.AtObjects.{at_any}
 use Rattle.step_runner.proofs.ItemLogs.{ComesAt, comes_nowhere}
+use Rattle.step_runner.proofs.Refuted.{no}
 
 -- ---- the wait group
 
@@ -35,7 +36,7 @@ pub record GroupAt (place : ℕ) (objects : List ObjectState) : Type 0 where
 
 by_object : (place : ℕ) (objects : List ObjectState) (call : WaitGroupCall) (object : ObjectState) → slice_get objects place ≡ Some object → has_call (kind_of object) (operations.WaitGroup call) ≡ true → GroupAt place objects
 by_object place objects call (states.WaitGroup g first) there has = record { g = g; first = first; there = there }
-by_object place objects call object there has = absurd cc
+by_object place objects call object there has = no has
 
 pub group_there : (workers worker place : ℕ) (call : WaitGroupCall) (objects : List ObjectState) → IsReady workers worker (on_group place call) objects → GroupAt place objects
 group_there workers worker place call objects r = by_object place objects call r.object r.there r.has

@@ -81,6 +81,7 @@ use Rattle.step_runner.proofs.SpeltAtObjects.{left_alone, left_referring}
 use Rattle.step_runner.proofs.PlacedSpelled.{places}
 use Rattle.step_runner.proofs.Spelled.{refused}
 use Rattle.step_runner.proofs.TurnOwn.{Pair, only_pairs, cond_refers, once_refers, wait_for_alone, go_alone}
+use Rattle.step_runner.proofs.Refuted.{no}
 
 -- some items spell it
 abbrev pub CanBe : {O : Type 0} → Part O → Type 0
@@ -195,8 +196,8 @@ module _ (plan : Plan) (x before place : ℕ) where
   on_can operations.Once o has alone plain = absurd (once_refers o has alone)
   on_can (operations.Composed (WaitFor atomic value tries)) o has alone plain = absurd (wait_for_alone o atomic tries value has)
   on_can (operations.Composed (Go started)) o has alone plain = absurd (go_alone o started has)
-  on_can (operations.Var call) o has alone plain = absurd cc
-  on_can operation o has alone plain = absurd cc
+  on_can (operations.Var call) o has alone plain = no (sym plain)
+  on_can operation o has alone plain = no has
 
   both_can : (other : ℕ) (operation : Operation) (o target : ObjectState) → Pair operation o target → CanBe (left_on_both plan x before place other operation o target)
   both_can other (operations.Cond call) (states.Cond c at) (states.Mutex m) pair =

@@ -52,6 +52,7 @@ mod PairLemmas
 mod PlacedLemmas
 mod PoolLooks
 mod RangeLemmas
+mod Refuted
 mod RoomLemmas
 mod WriterGoesOn
 mod Writes

@@ -37,7 +37,8 @@ use Rattle.step_runner.specs.Left.{mutex_waits, mutex_left}
 use Rattle.step_runner.specs.Recorded.{recorded_reply, recorded}
 use Rattle.step_runner.specs.Tells.{Tells}
 use Rattle.step_runner.specs.MachinesStand.{MutexStands}
-use Rattle.step_runner.proofs.SpellingLaws.{no, may}
+use Rattle.step_runner.proofs.SpellingLaws.{may}
+use Rattle.step_runner.proofs.Refuted.{no}
 use Rattle.step_runner.proofs.Spelled.{event_made, Continues, stage_tells}
 
 module _ (law : MutexStands) (plan : Plan) (place worker moment : ℕ) where

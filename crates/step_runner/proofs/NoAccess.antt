@@ -13,10 +13,11 @@ use Rattle.workload.specs.declared.object.ObjectLine.{ObjectLine}
 use Rattle.step_runner.specs.declared.turns.object_state.ObjectState.{ObjectState}
 use Rattle.step_runner.specs.Objects.{kind_of}
 use Rattle.step_runner.specs.StandsWithin.{IsReadyWithin}
+use Rattle.step_runner.proofs.Refuted.{no}
 
 is_var : (kind : ObjectKind) (call : VarCall) → has_call kind (operations.Var call) ≡ true → is_variable kind ≡ true
 is_var kinds.Var call has = refl
-is_var kind call has = absurd cc
+is_var kind call has = no has
 
 some_is : {X : Type 0} (x y : X) → Some x ≡ Some y → x ≡ y
 some_is x y e = cc

@@ -85,7 +85,7 @@ use Rattle.step_runner.proofs.DueLemmas.{OfDue, each_due, OnceAnswer, mutex_answ
 use Rattle.step_runner.specs.MachinesStand.{OnceUses}
 use Rattle.step_runner.proofs.MachineLaws.{MutexUses, RwUses, Uses}
 use Rattle.step_runner.proofs.Makes.{make_by}
-use Rattle.step_runner.proofs.OthersStand.{no}
+use Rattle.step_runner.proofs.Refuted.{no}
 use Rattle.step_runner.proofs.Writes.{set_back, get_other}
 
 -- ---- what an answer says of what is left

@@ -58,7 +58,8 @@ use Rattle.step_runner.specs.TurnAtObjects.{once_made, turn_on, turn_on_both}
 use Rattle.step_runner.specs.Left.{mutex_waits, rw_waits, mutex_left, rw_left, group_left, cond_left, once_left, left_on, left_on_both}
 use Rattle.step_runner.specs.Within.{IsIdle, StandsAtRw, StandsAtOnce, StandsOn, StandsOnBoth}
 use Rattle.step_runner.specs.MachinesStand.{MutexStands, OnceStands}
-use Rattle.step_runner.proofs.SpellingLaws.{Laws, no}
+use Rattle.step_runner.proofs.SpellingLaws.{Laws}
+use Rattle.step_runner.proofs.Refuted.{no}
 use Rattle.step_runner.proofs.RwSides.{reads_after, writes_after, ApartFor}
 use Rattle.step_runner.proofs.TurnOwn.{Pair}
 

@@ -50,9 +50,6 @@ pub record Stands : Type 0 where
   pub rw_mutexes : RwStands
   pub forms : Forms
 
-pub no : {A : Type 0} → false ≡ true → A
-no e = absurd cc
-
 -- ---- another's turn leaves a worker out
 
 -- who is out isn't told

@@ -76,7 +76,8 @@ use Rattle.step_runner.specs.TurnAtObjects.{turned, once_made, cond_turn, turn_o
 use Rattle.step_runner.proofs.DueLemmas.{OfDue, both_due, mutex_answer, mutex_answers, rw_answers}
 use Rattle.step_runner.proofs.Makes.{make_by, step_answer, make_answer, found_answer}
 use Rattle.step_runner.specs.MachinesStand.{MutexStands, RwStands}
-use Rattle.step_runner.proofs.OthersStand.{Stands, no, untold}
+use Rattle.step_runner.proofs.OthersStand.{Stands, untold}
+use Rattle.step_runner.proofs.Refuted.{no}
 
 -- ---- a worker's own turn
 

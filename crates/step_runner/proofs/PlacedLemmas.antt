@@ -19,6 +19,7 @@ use Rattle.step_runner.specs.Ready.{IsReady}
 use Rattle.step_runner.specs.TurnAtObjects.{turn_on, turn_at}
 use Rattle.step_runner.proofs.AtObjects.{at_ready}
 use Rattle.step_runner.proofs.CallAt.{items_alone}
+use Rattle.step_runner.proofs.Refuted.{no, not_both, nothing}
 
 on_answered : (operation : Operation) (worker moment object : ℕ) (o : ObjectState) → is_placed operation ≡ true → has_call (kind_of o) operation ≡ true
     → IsAnswered (record { object = object; operation = operation }) worker (items_on operation worker moment object o) (turn_on operation worker moment o).1
@@ -26,15 +27,15 @@ on_answered (operations.Map call) worker moment object (states.Map m) one has = 
 on_answered operations.Range worker moment object (states.Map m) one has = (_, refl, refl)
 on_answered (operations.Atomic call) worker moment object (states.Atomic number) one has = (_, refl, refl)
 on_answered (operations.Var call) worker moment object (states.Var held) one has = (_, refl, refl)
-on_answered operation worker moment object o one has = absurd cc
+on_answered operation worker moment object o one has = not_both (is_placed operation) (has_call (kind_of o) operation) refl one has
 
 -- an object that refers to another one has no such call
 none_refers : (kind : ObjectKind) (operation : Operation) (other : ℕ) → reference_of kind ≡ Some other → has_call kind operation ≡ true → is_placed operation ≡ true → ⊥
-none_refers (kinds.Cond place) (operations.Cond call) other some has one = cc
-none_refers (kinds.Cond place) operation other some has one = cc
-none_refers (kinds.Once place delta) operations.Once other some has one = cc
-none_refers (kinds.Once place delta) operation other some has one = cc
-none_refers kind operation other some has one = cc
+none_refers (kinds.Cond place) (operations.Cond call) other some has one = no one
+none_refers (kinds.Cond place) operation other some has one = no has
+none_refers (kinds.Once place delta) operations.Once other some has one = no one
+none_refers (kinds.Once place delta) operation other some has one = no has
+none_refers kind operation other some has one = nothing some
 
 pub at_answered : (workers worker : ℕ) (call : Call) (moment : ℕ) (objects : List ObjectState) → IsReady workers worker call objects → is_placed call.operation ≡ true
     → IsAnswered call worker (items_at call worker moment objects) (turn_at call worker moment objects).1
@@ -51,12 +52,12 @@ Tests worker moment object objects value o operation =
 
 on_tested : (worker moment object : ℕ) (objects : List ObjectState) (value : Number) (passes : ℕ) (o : ObjectState) → slice_get objects object ≡ Some o → Tests worker moment object objects value o (operations.Composed (IfEqual value passes))
 on_tested worker moment object objects value passes (states.Atomic number) at has = (number, at, refl, refl)
-on_tested worker moment object objects value passes o at has = absurd cc
+on_tested worker moment object objects value passes o at has = no has
 
 no_test_refers : (kind : ObjectKind) (value : Number) (passes other : ℕ) → reference_of kind ≡ Some other → has_call kind (operations.Composed (IfEqual value passes)) ≡ true → ⊥
-no_test_refers (kinds.Cond place) value passes other some has = cc
-no_test_refers (kinds.Once place delta) value passes other some has = cc
-no_test_refers kind value passes other some has = cc
+no_test_refers (kinds.Cond place) value passes other some has = no has
+no_test_refers (kinds.Once place delta) value passes other some has = no has
+no_test_refers kind value passes other some has = nothing some
 
 pub at_tested : (workers worker moment : ℕ) (call : Call) (objects : List ObjectState) (value : Number) (passes : ℕ) → IsReady workers worker call objects → call.operation ≡ operations.Composed (IfEqual value passes)
     → IsTested call value worker objects (items_at call worker moment objects) (turn_at call worker moment objects).1

@@ -41,7 +41,8 @@ use Rattle.step_runner.specs.PoolTurn.{found_or, found_by, pool_step, item_of}
 use Rattle.step_runner.specs.Stages.{outcome_of}
 use Rattle.step_runner.specs.Recorded.{recorded_reply, recorded, recorded_pool_event}
 use Rattle.step_runner.specs.Tells.{Tells}
-use Rattle.step_runner.proofs.SpellingLaws.{PoolKeeps, no}
+use Rattle.step_runner.proofs.SpellingLaws.{PoolKeeps}
+use Rattle.step_runner.proofs.Refuted.{no}
 use Rattle.step_runner.proofs.Spelled.{event_made, says}
 
 -- ---- what a part answers

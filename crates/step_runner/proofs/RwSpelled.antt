@@ -45,7 +45,8 @@ use Rattle.step_runner.specs.Recorded.{recorded}
 use Rattle.step_runner.specs.Tells.{Tells}
 use Rattle.step_runner.specs.Within.{StandsAtRw}
 use Rattle.step_runner.specs.MachinesStand.{MutexStands, RwStands}
-use Rattle.step_runner.proofs.SpellingLaws.{no, may}
+use Rattle.step_runner.proofs.SpellingLaws.{may}
+use Rattle.step_runner.proofs.Refuted.{no}
 use Rattle.step_runner.proofs.WriterGoesOn.{knows_where, queued_first}
 use Rattle.step_runner.proofs.RwSides.{reads_after, writes_after, WriterPlace, ReaderPlace, no_reader, no_writer}
 use Rattle.step_runner.proofs.Spelled.{event_made, Continues, says, stage_tells}

@@ -1,5 +1,5 @@
 -- What the laws of lower crates say that a turn spells its call by.
-use Rattle.std.proofs.Common.{◌≡◌, ℕ, ◌<◌, ◌&&◌, Bool, true, false, List, ap, ◌∙◌}
+use Rattle.std.proofs.Common.{◌≡◌, ℕ, ◌<◌, ◌&&◌, Bool, true, List, ap, ◌∙◌}
 use Rattle.std.specs.Prelude.{length, nat_lt}
 use Rattle.std.specs.List.{list_any}
 use Rattle.std.specs.Str.{bytes_eq}
@@ -21,9 +21,6 @@ pub record Laws : Type 0 where
   pub machines : MachinesStand
   pub pools : PoolKeeps
   pub keys : KeysNamed
-
-pub no : {A : Type 0} → false ≡ true → A
-no e = absurd cc
 
 -- a caller that is there may make what is needed where it is
 pub may : (x n : ℕ) (needed : Bool) → x < n → needed ≡ true → (nat_lt x n && needed) ≡ true

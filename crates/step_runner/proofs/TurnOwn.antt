@@ -66,6 +66,7 @@ use Rattle.step_runner.proofs.PlacedSpelled.{places, range_sorted}
 use Rattle.step_runner.proofs.PoolSpelled.{pool_whole, whole_tells}
 use Rattle.step_runner.proofs.RwSpelled.{rw_tells, stands_fit, stands_on}
 use Rattle.step_runner.proofs.WaitSpelled.{GroupBehind, group_tells, OnceBehind, before_end, due_made, once_tells}
+use Rattle.step_runner.proofs.Refuted.{no}
 
 -- where the worker stands behind its turn, at the call's object
 abbrev pub BehindOn : Operation → ℕ → Answer → ObjectState → Type 0
@@ -109,21 +110,21 @@ nothing_first (Err a) rest = refl
 -- an object with a cond's call, or a once's, refers to another one
 pub cond_refers : (o : ObjectState) (call : CondCall) → has_call (kind_of o) (operations.Cond call) ≡ true → reference_of (kind_of o) ≡ None → ⊥
 cond_refers (states.Cond c place) call has alone = cc
-cond_refers o call has alone = cc
+cond_refers o call has alone = no has
 
 pub once_refers : (o : ObjectState) → has_call (kind_of o) operations.Once ≡ true → reference_of (kind_of o) ≡ None → ⊥
 once_refers (states.Once o place delta) has alone = cc
-once_refers o has alone = cc
+once_refers o has alone = no has
 
 -- no object alone has a `waitfor`
 pub wait_for_alone : (o : ObjectState) (atomic tries : ℕ) (value : Number) → has_call (kind_of o) (operations.Composed (WaitFor atomic value tries)) ≡ true → ⊥
-wait_for_alone (states.Atomic number) atomic tries value has = cc
-wait_for_alone o atomic tries value has = cc
+wait_for_alone (states.Atomic number) atomic tries value has = no has
+wait_for_alone o atomic tries value has = no has
 
 -- nor a `go`
 pub go_alone : (o : ObjectState) (started : ℕ) → has_call (kind_of o) (operations.Composed (Go started)) ≡ true → ⊥
-go_alone (states.Atomic number) started has = cc
-go_alone o started has = cc
+go_alone (states.Atomic number) started has = no has
+go_alone o started has = no has
 
 -- where the worker stands behind its turn at two objects
 abbrev pub BehindBoth : Operation → ℕ → Answer → ObjectState → ObjectState → Type 0
@@ -163,13 +164,13 @@ Pair operation o target = ⊥
 
 pub only_pairs : (o : ObjectState) (operation : Operation) (target : ObjectState) → has_call (kind_of o) operation ≡ true → is_target (kind_of o) (kind_of target) ≡ true → Pair operation o target
 only_pairs (states.Cond c at) (operations.Cond call) (states.Mutex m) has is = tt
-only_pairs (states.Cond c at) (operations.Cond call) target has is = absurd cc
-only_pairs (states.Cond c at) operation target has is = absurd cc
+only_pairs (states.Cond c at) (operations.Cond call) target has is = no is
+only_pairs (states.Cond c at) operation target has is = no has
 only_pairs (states.Once o at delta) operations.Once (states.Atomic (Int64 held)) has is = tt
-only_pairs (states.Once o at delta) operations.Once (states.Atomic number) has is = absurd cc
-only_pairs (states.Once o at delta) operations.Once target has is = absurd cc
-only_pairs (states.Once o at delta) operation target has is = absurd cc
-only_pairs o operation target has is = absurd cc
+only_pairs (states.Once o at delta) operations.Once (states.Atomic number) has is = no is
+only_pairs (states.Once o at delta) operations.Once target has is = no is
+only_pairs (states.Once o at delta) operation target has is = no has
+only_pairs o operation target has is = no is
 
 module _ (laws : Laws) (plan : Plan) (worker before place moment : ℕ) where
   abbrev pub OwnOn : Operation → ObjectState → ObjectState × Answer → List Made → Type 0
@@ -242,8 +243,8 @@ module _ (laws : Laws) (plan : Plan) (worker before place moment : ℕ) where
   turn_own operations.Once o has alone below is keys out stands plain = absurd (once_refers o has alone)
   turn_own (operations.Composed (WaitFor atomic number tries)) o has alone below is keys out stands plain = absurd (wait_for_alone o atomic tries number has)
   turn_own (operations.Composed (Go started)) o has alone below is keys out stands plain = absurd (go_alone o started has)
-  turn_own (operations.Var call) o has alone below is keys out stands plain = absurd cc
-  turn_own operation o has alone below is keys out stands plain = absurd cc
+  turn_own (operations.Var call) o has alone below is keys out stands plain = no (sym plain)
+  turn_own operation o has alone below is keys out stands plain = no has
 
   -- ---- at two objects
 

@@ -46,14 +46,15 @@ use Rattle.step_runner.specs.TurnWithin.{wait_on, load_of}
 use Rattle.step_runner.specs.Within.{IsIdle, IsWithin}
 use Rattle.step_runner.proofs.CondSpelled.{cond_waits, has_where}
 use Rattle.step_runner.proofs.OwnAt.{same_kind}
-use Rattle.step_runner.proofs.SpellingLaws.{no, may}
+use Rattle.step_runner.proofs.SpellingLaws.{may}
+use Rattle.step_runner.proofs.Refuted.{no}
 use Rattle.step_runner.proofs.SpeltAtObjects.{turn_referring, left_referring, stands_referring}
 
 -- ---- the atomic that is loaded
 
 atomic_by : (object : ObjectState) → has_call (kind_of object) (operations.Atomic Load) ≡ true → (number : Number) × (object ≡ states.Atomic number)
 atomic_by (states.Atomic number) has = (number, refl)
-atomic_by object has = absurd cc
+atomic_by object has = no has
 
 pub atomic_there : (workers worker atomic : ℕ) (objects : List ObjectState) → IsReady workers worker (load_of atomic) objects → (number : Number) × (slice_get objects atomic ≡ Some (states.Atomic number))
 atomic_there workers worker atomic objects r =
@@ -74,14 +75,14 @@ module _ (workers worker place : ℕ) (objects : List ObjectState) (below : work
   by_target : (other : ℕ) (c : notify.NotifyState) (target : ObjectState) → slice_get objects place ≡ Some (states.Cond c other) → slice_get objects other ≡ Some target → is_target (kinds.Cond other) (kind_of target) ≡ true → IsMachineOf workers target
       → WaitAt workers worker place other objects
   by_target other c (states.Mutex m) there at is machine = record { c = c; m = m; there = there; target = at; machine = machine; below = below }
-  by_target other c target there at is machine = absurd cc
+  by_target other c target there at is machine = no is
 
   by_object : (object : ObjectState) → slice_get objects place ≡ Some object → has_call (kind_of object) (operations.Cond cond_calls.Wait) ≡ true
       → ((k : ℕ) → reference_of (kind_of object) ≡ Some k → HasTarget workers objects object k) → (other : ℕ) × WaitAt workers worker place other objects
   by_object (states.Cond c other) there has refers =
       let t = refers other refl in
       (other, by_target other c t.target there t.there t.is t.machine)
-  by_object object there has refers = absurd cc
+  by_object object there has refers = no has
 
 pub wait_there : (workers worker place : ℕ) (objects : List ObjectState) → IsReady workers worker (wait_on place) objects → (other : ℕ) × WaitAt workers worker place other objects
 wait_there workers worker place objects r = by_object workers worker place objects r.below r.object r.there r.has r.refers

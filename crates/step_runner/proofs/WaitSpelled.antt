@@ -50,7 +50,8 @@ use Rattle.step_runner.specs.Recorded.{recorded_reply, recorded}
 use Rattle.step_runner.specs.Tells.{Tells}
 use Rattle.step_runner.specs.Within.{IsOutOfOnce, StandsAtGroup, StandsAtOnce}
 use Rattle.step_runner.specs.MachinesStand.{GroupStands, OnceStands}
-use Rattle.step_runner.proofs.SpellingLaws.{no, may}
+use Rattle.step_runner.proofs.SpellingLaws.{may}
+use Rattle.step_runner.proofs.Refuted.{no}
 use Rattle.step_runner.proofs.Spelled.{event_made, Continues, says, stage_tells}
 
 -- ---- a wait group

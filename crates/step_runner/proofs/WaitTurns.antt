@@ -42,6 +42,7 @@ use Rattle.step_runner.specs.TurnWithin.{wait_on}
 use Rattle.step_runner.proofs.AtObjects.{apart, turn_referring}
 use Rattle.step_runner.proofs.SpeltAtObjects.{set_there, one_found}
 use Rattle.step_runner.proofs.Writes.{get_other}
+use Rattle.step_runner.proofs.Refuted.{no}
 
 -- ---- a cond and its mutex, among objects
 
@@ -58,12 +59,12 @@ by_target : (workers cond : ℕ) (objects : List ObjectState) (c : notify.Notify
     → is_target (kind_of (states.Cond c place)) (kind_of target) ≡ true → IsMachineOf workers target → Waiting cond objects
 by_target workers cond objects c place (states.Mutex m) at there is machine =
     record { c = c; place = place; m = m; at = at; there = there; apart = apart objects cond place (states.Cond c place) (states.Mutex m) at there is; valid = machine.0 }
-by_target workers cond objects c place target at there is machine = absurd cc
+by_target workers cond objects c place target at there is machine = no is
 
 by_object : (workers cond : ℕ) (objects : List ObjectState) (o : ObjectState) → slice_get objects cond ≡ Some o → has_call (kind_of o) (operations.Cond cond_calls.Wait) ≡ true
     → ((place : ℕ) → reference_of (kind_of o) ≡ Some place → HasTarget workers objects o place) → Waiting cond objects
 by_object workers cond objects (states.Cond c place) at has refers = let t = refers place refl in by_target workers cond objects c place t.target at t.there t.is t.machine
-by_object workers cond objects o at has refers = absurd cc
+by_object workers cond objects o at has refers = no has
 
 pub waiting_at : (workers worker cond : ℕ) (objects : List ObjectState) → IsReady workers worker (wait_on cond) objects → Waiting cond objects
 waiting_at workers worker cond objects r = by_object workers cond objects r.object r.there r.has r.refers

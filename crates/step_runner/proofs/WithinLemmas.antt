@@ -30,18 +30,19 @@ use Rattle.step_runner.proofs.ItemLogs.{ComesAt, comes_nowhere, comes_on, at_com
 use Rattle.step_runner.proofs.PlacedLemmas.{at_answered}
 use Rattle.step_runner.proofs.TurnsWithin.{Leading, led}
 use Rattle.step_runner.proofs.Writes.{set_back}
+use Rattle.step_runner.proofs.Refuted.{no, nothing}
 
 -- ---- a load
 
 load_alone : (objects : List ObjectState) (place worker moment : ℕ) (o : ObjectState) → slice_get objects place ≡ Some o → has_call (kind_of o) (operations.Atomic Load) ≡ true
     → set objects place (turn_on (operations.Atomic Load) worker moment o).0 ≡ objects
 load_alone objects place worker moment (states.Atomic number) at has = set_back objects place (states.Atomic number) at
-load_alone objects place worker moment o at has = absurd cc
+load_alone objects place worker moment o at has = no has
 
 no_load_refers : (kind : ObjectKind) (other : ℕ) → reference_of kind ≡ Some other → has_call kind (operations.Atomic Load) ≡ true → ⊥
-no_load_refers (kinds.Cond place) other some has = cc
-no_load_refers (kinds.Once place delta) other some has = cc
-no_load_refers kind other some has = cc
+no_load_refers (kinds.Cond place) other some has = no has
+no_load_refers (kinds.Once place delta) other some has = no has
+no_load_refers kind other some has = nothing some
 
 -- it changes nothing
 pub load_same : (workers worker moment atomic : ℕ) (objects : List ObjectState) → IsReady workers worker (load_of atomic) objects → (turn_at (load_of atomic) worker moment objects).0 ≡ objects

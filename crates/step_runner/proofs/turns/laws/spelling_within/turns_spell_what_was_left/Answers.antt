@@ -1,7 +1,7 @@
 use Rattle.std.proofs.Common.{arith}
 use Rattle.workload.specs.Draft.{distinct_count}
 use Rattle.step_runner.specs.TurnWithin.{wait_on}
-use Rattle.step_runner.proofs.SpellingLaws.{no}
+use Rattle.step_runner.proofs.Refuted.{no}
 use Rattle.step_runner.proofs.SpeltWithin.{OtherLaws, own_spelt, others_kept, idle_kept}
 use Rattle.step_runner.proofs.WaitSpelt.{TurnLaws}
 use Rattle.step_runner.proofs.turns.laws.spelling_within.turns_spell_what_was_left.Goals as goal
