@@ -11,6 +11,7 @@ pub mod OnceParts
 pub mod RowSteps
 pub mod SameKinds
 pub mod StopColumns
+pub mod Taking
 pub mod Telling
 pub mod Working
 pub mod HaltLemmas

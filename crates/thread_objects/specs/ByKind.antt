@@ -1,6 +1,8 @@
--- The three lists of all kinds, one for each enum: of objects, of passes and of columns. A kind is a line in each, and in no other definition.
-use Rattle.std.specs.Prelude.{List, [], map, replicate}
+-- The lists of all kinds, for each enum: of objects, of passes and of columns. A kind is a line in each, and in no other definition.
+use Rattle.std.specs.Global.{Vec}
+use Rattle.std.specs.Prelude.{ℕ, List, [], map, replicate}
 use Rattle.ruled_object.specs.declared.object.Object.{Object}
+use Rattle.ruled_object.specs.declared.pass.Pass.{Pass}
 use Rattle.run_record.specs.Record.{ObjectEntry}
 use Rattle.thread_objects.specs.declared.column.AnyColumn.{AnyColumn}
 use Rattle.thread_objects.specs.declared.column.AnyColumn.TheVariants as columns
@@ -69,3 +71,22 @@ passes_in (columns.OnceFunc ps) = map passes.OnceFunc ps.items
 passes_in (columns.OnceValue ps) = map passes.OnceValue ps.items
 passes_in (columns.PoolPart ps) = map passes.PoolPart ps.items
 passes_in (columns.Starts ps) = map passes.Starts ps.items
+
+-- A fact on columns of whatever kind: what it is where so many workers have no pass, and of the passes to an object of any kind, by what is the kind's own.
+pub record ColumnFact (N : Type 0) : Type 1 where
+  pub none : ℕ → Type 0
+  pub each : {S E R W : Type 0} → Kind S E R W → Vec (Pass S N E R) → Type 0
+
+-- the fact holds of the column
+abbrev pub of_column : {N : Type 0} → ColumnFact N → AnyColumn N → Type 0
+of_column fact (columns.None count) = fact.none count
+of_column fact (columns.Stop ps) = fact.each stop ps
+of_column fact (columns.Mutex ps) = fact.each mutex ps
+of_column fact (columns.RwMutex ps) = fact.each rw_mutex ps
+of_column fact (columns.Cond ps) = fact.each cond ps
+of_column fact (columns.WaitGroup ps) = fact.each wait_group ps
+of_column fact (columns.Once ps) = fact.each once ps
+of_column fact (columns.OnceFunc ps) = fact.each once_func ps
+of_column fact (columns.OnceValue ps) = fact.each once_value ps
+of_column fact (columns.PoolPart ps) = fact.each pool_part ps
+of_column fact (columns.Starts ps) = fact.each starts ps

@@ -3,6 +3,7 @@ pub mod AsDeclared
 pub mod ByKind
 pub mod Columns
 pub mod CondKind
+pub mod Dealing
 pub mod Desks
 pub mod EachKind
 pub mod Halting

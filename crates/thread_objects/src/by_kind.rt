@@ -7,18 +7,19 @@ macro_rules! with_kinds {
     };
 }
 
-/// Goes on with an object of whatever kind, and with what other enums of the kinds hold of it: with both as they are of that kind, and
-/// by the first expression with a map or an atomic. Where an enum is named last, what comes of it is of that kind again.
+/// Goes on with an object of whatever kind, and with what another enum of the kinds holds of it: with both as they are of that kind, and
+/// by the first expression with a map or an atomic.
 macro_rules! by_kind {
     ($($all:tt)*) => {
-        with_kinds!(all_kinds, $($all)*)
+        with_kinds!(all_kinds, arms, $($all)*)
     };
 }
 
-/// The kinds that a workload declares, and those that it doesn't: Stop, a part of a pool, and Starts.
+/// The kinds that a workload declares, and those that it doesn't: Stop, a part of a pool, and Starts. They are put before what the named
+/// macro is called with.
 macro_rules! all_kinds {
-    ([$($kind:ident)*] $($all:tt)*) => {
-        arms!([Stop $($kind)* PoolPart Starts] $($all)*)
+    ([$($kind:ident)*] $then:ident, $($all:tt)*) => {
+        $then!([Stop $($kind)* PoolPart Starts] $($all)*)
     };
 }
 
@@ -33,23 +34,26 @@ macro_rules! arms {
             },)*
         }
     };
-    ([$($kind:ident)*] $object:expr, $of:ident($held:expr), $shared:expr, |$o:ident, $h:ident| $go:expr, $made:ident) => {
-        match $object {
-            AnyObject::Shared => $shared,
-            $(AnyObject::$kind($o) => match $held {
-                $of::$kind($h) => $made::$kind($go),
-                _ => unreachable!(),
-            },)*
+}
+
+/// One arm for each kind of a column: goes on with its passes, and by the first expression with the count of a column of a map or an
+/// atomic. What comes of it is a pass of that kind.
+macro_rules! taking_arms {
+    ([$($kind:ident)*] $column:expr, |$count:ident| $none:expr, |$passes:ident| $go:expr) => {
+        match $column {
+            AnyColumn::None($count) => $none,
+            $(AnyColumn::$kind($passes) => AnyPass::$kind($go),)*
         }
     };
-    ([$($kind:ident)*] $object:expr, $of:ident($held:expr), $with:ident($other:expr), $shared:expr, |$o:ident, $h:ident, $w:ident| $go:expr) => {
-        match $object {
-            AnyObject::Shared => $shared,
-            $(AnyObject::$kind($o) => match $held {
-                $of::$kind($h) => match $other {
-                    $with::$kind($w) => $go,
-                    _ => unreachable!(),
-                },
+}
+
+/// The same, with a pass that is of the column's kind.
+macro_rules! adding_arms {
+    ([$($kind:ident)*] $column:expr, $pass:expr, |$count:ident| $none:expr, |$passes:ident, $p:ident| $go:expr) => {
+        match $column {
+            AnyColumn::None($count) => $none,
+            $(AnyColumn::$kind($passes) => match $pass {
+                AnyPass::$kind($p) => $go,
                 _ => unreachable!(),
             },)*
         }
@@ -85,9 +89,11 @@ macro_rules! making_arms {
     };
 }
 
+pub(crate) use adding_arms;
 pub(crate) use all_kinds;
 pub(crate) use arms;
 pub(crate) use by_kind;
 pub(crate) use declared_arms;
 pub(crate) use making_arms;
+pub(crate) use taking_arms;
 pub(crate) use with_kinds;

@@ -34,43 +34,6 @@ pub(crate) fn begin<P: Protocol + Worded, N: Note>(
     Ok((object, passes))
 }
 
-/// Takes the pass of the last worker that has one here.
-pub(crate) fn take_pass<P: Protocol + Worded, N: Note>(
-    _crew: &Crew<N>,
-    _worker: u32,
-    _object: &Object<P, N>,
-    passes: &mut Vec<PassOf<P, N>>,
-) -> PassOf<P, N>
-    requires seated { AreSeated P.begins P.out P.stands N.at _crew.now.home.now _crew.now.workers (_worker + 1) _object.now passes.old.items }
-    ensures seat { IsSeat P.begins P.out P.stands N.at _crew.now.home.now _crew.now.workers _worker _object.now result }
-    ensures seated { AreSeated P.begins P.out P.stands N.at _crew.now.home.now _crew.now.workers _worker _object.now passes.new.items }
-    ensures items { passes.old.items ≡ passes.new.items ++ result ∷ [] }
-    ensures last { slice_get passes.old.items _worker ≡ Some result }
-    ensures rest { (worker : ℕ) (pass : Pass P.State N P.Event P.Reply) → slice_get passes.new.items worker ≡ Some pass → slice_get passes.old.items worker ≡ Some pass }
-    ensures room { vec_capacity passes.new ≡ vec_capacity passes.old }
-{
-    passes.take_last()
-}
-
-/// Adds the pass of the next worker, for which there is room.
-pub(crate) fn put_pass<P: Protocol + Worded, N: Note>(
-    _crew: &Crew<N>,
-    _worker: u32,
-    _object: &Object<P, N>,
-    passes: &mut Vec<PassOf<P, N>>,
-    pass: PassOf<P, N>,
-)
-    requires worker { _worker < _crew.now.workers }
-    requires room { _crew.now.workers ≤ vec_capacity passes.old }
-    requires seat { IsSeat P.begins P.out P.stands N.at _crew.now.home.now _crew.now.workers _worker _object.now pass }
-    requires seated { AreSeated P.begins P.out P.stands N.at _crew.now.home.now _crew.now.workers _worker _object.now passes.old.items }
-    ensures seated { AreSeated P.begins P.out P.stands N.at _crew.now.home.now _crew.now.workers (_worker + 1) _object.now passes.new.items }
-    ensures items { passes.new.items ≡ passes.old.items ++ pass ∷ [] }
-    ensures room { vec_capacity passes.new ≡ vec_capacity passes.old }
-{
-    passes.push_reserved(pass);
-}
-
 /// The misuse of the first halt, and `None` exactly where there is none. It takes all passes, and adds no entry.
 pub(crate) fn first_of<P: Protocol + Worded, N: Note>(
     _crew: &Crew<N>,
