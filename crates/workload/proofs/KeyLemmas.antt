@@ -1,6 +1,7 @@
 -- The keys of the calls, as a set.
 use Rattle.std.proofs.Common.{◌≡◌, ℕ, zero, suc, ◌+◌, ◌<◌, ◌≤◌, Bool, true, false, cond, ◌||◌, List, [], ◌∷◌, ◌++◌, length, get_or, set, Option, Some, None, refl, sym, ap, ◌∙◌, arith}
 use Rattle.std.specs.Prelude.{is_some}
+use Rattle.std.specs.Option.{option_to_list}
 use Rattle.std.specs.List.{list_any, flat_map}
 use Rattle.std.specs.Str.{bytes_eq}
 use Rattle.std.specs.Ordering.{nat_cmp, eq_by_cmp}
@@ -10,7 +11,10 @@ use Rattle.std.proofs.lemmas.List.Folds.{list_any-append}
 use Rattle.std.proofs.lemmas.Slice.Eq.{bytes_eq-Decides}
 use Rattle.std.proofs.lemmas.Map.Text.{is_eq-slice_cmp}
 use Rattle.script_calls.specs.declared.call.Call.{Call}
-use Rattle.workload.specs.Draft.{keys_of, all_keys, distinct_count}
+use Rattle.script_calls.specs.declared.call.Operation.{Operation}
+use Rattle.script_calls.specs.declared.call.Operation.TheVariants as operations
+use Rattle.sync_types.specs.SequentialMap.{map_key}
+use Rattle.workload.specs.Draft.{keys_of, operation_keys, all_keys, key_count, distinct_count}
 use Rattle.workload.specs.Index.{marks, with_keys}
 
 abbrev pub Keys : Type 0
@@ -130,3 +134,37 @@ distinct_more (x ∷ xs) ys =
 pub distinct_same : (xs ys : List (List ℕ)) → ((q : List ℕ) → list_any (bytes_eq q) xs ≡ list_any (bytes_eq q) ys) → distinct_count xs ≡ distinct_count ys
 distinct_same xs ys e =
     sym (len_names xs) ∙ ap len (same_keys _ _ (λ q. has_name xs q ∙ e q ∙ sym (has_name ys q))) ∙ len_names ys
+
+-- one name more at most
+pub distinct_one : (xs ys : List (List ℕ)) → length xs ≤ 1 → distinct_count (xs ++ ys) ≤ distinct_count ys + 1
+distinct_one [] ys few = omega arith
+distinct_one (x ∷ []) ys few =
+    elim (list_any (bytes_eq x) ys) as (λ b. cond b (distinct_count ys) (distinct_count ys + 1) ≤ distinct_count ys + 1) [
+      | true ↦ omega arith
+      | false ↦ omega arith
+    ]
+distinct_one (x ∷ y ∷ xs) ys few = absurd (omega (arith, few))
+
+option_few : (o : Option (List ℕ)) → length (option_to_list o) ≤ 1
+option_few None = omega arith
+option_few (Some key) = omega arith
+
+-- a call has one key at most
+operation_few : (operation : Operation) → length (operation_keys operation) ≤ 1
+operation_few (operations.Map call) = option_few (map_key call)
+operation_few operations.Range = omega arith
+operation_few (operations.Atomic call) = omega arith
+operation_few (operations.Mutex call) = omega arith
+operation_few (operations.RwMutex call) = omega arith
+operation_few (operations.Cond call) = omega arith
+operation_few (operations.WaitGroup call) = omega arith
+operation_few operations.Once = omega arith
+operation_few operations.OnceFunc = omega arith
+operation_few operations.OnceValue = omega arith
+operation_few (operations.Pool call) = omega arith
+operation_few (operations.Var call) = omega arith
+operation_few (operations.Composed call) = omega arith
+
+-- so it brings one more at most
+pub key_more : (scripts : List (List Call)) (call : Call) → key_count scripts (keys_of call) ≤ distinct_count (all_keys scripts) + 1
+key_more scripts call = distinct_one (keys_of call) (all_keys scripts) (operation_few call.operation)

@@ -1,17 +1,17 @@
 //! What the lines of a text say so far.
-ghost use Rattle.std.specs.Prelude.{◌≡◌, ◌≤◌, ◌<◌, ◌+◌, ◌∷◌, [], true, false, length, nat_lt, is_some, vec_len, count_by, replicate, IfOk, OnOk};
+ghost use Rattle.std.specs.Prelude.{◌≡◌, ◌≤◌, ◌<◌, ◌+◌, ◌∷◌, [], true, false, length, nat_le, nat_lt, is_some, vec_len, count_by, replicate, IfOk, OnOk};
 ghost use Rattle.std.specs.Option.{option_copied, option_map_or, option_to_list};
 ghost use Rattle.std.specs.FinMap.{insert};
 ghost use Rattle.sync_types.specs.Name.{is_name};
-ghost use Rattle.workload.specs.declared.limits.TheConstants.{MAX_WORKERS};
+ghost use Rattle.workload.specs.declared.limits.TheConstants.{MAX_KEYS, MAX_WORKERS};
 ghost use Rattle.workload.specs.Index.{with_keys, marked};
 ghost use Rattle.workload.specs.Plan.{is_dormant};
 ghost use Rattle.workload.specs.Draft.{started, with_line, may_follow, declared, count_of, count_together, limit_of, call_count, key_count, keys_of, is_range, range_count, tries_of, try_count, is_access, access_count};
 ghost use Rattle.script_calls.specs.Starts.{started_by, start_count};
 
 use crate::keys::Keys;
-use crate::limits::{MAX_ATOMICS, MAX_MAPS, MAX_OTHERS};
-use crate::line::Line;
+use crate::limits::{MAX_ATOMICS, MAX_KEYS, MAX_MAPS, MAX_OTHERS};
+use crate::line::{Line, NameWord};
 use crate::object::{Declared, ObjectLine, ObjectWord};
 use crate::turn::Turn;
 use crate::workload::Workload;
@@ -318,13 +318,21 @@ impl Draft {
     }
 
     /// How many different keys there are with that of one more call, if it has one.
-    pub fn keys_with_call(&self, call: &Call) -> usize
+    fn keys_with_call(&self, call: &Call) -> usize
         ensures { result ≡ key_count self.now.plan.scripts (keys_of call.now) }
     {
         match call_key(call) {
             None => self.parts.keys.len(),
             Some(key) => self.keys_with(key.as_bytes()),
         }
+    }
+
+    /// Whether the key of one more call, if it has one, is within the limit. The key is looked up only where the limit is
+    /// reached.
+    pub fn has_room_for_key(&self, call: &Call) -> bool
+        ensures { result ≡ nat_le (key_count self.now.plan.scripts (keys_of call.now)) MAX_KEYS }
+    {
+        self.parts.keys.len() < MAX_KEYS || self.keys_with_call(call) <= MAX_KEYS
     }
 
     fn with_object(
@@ -377,12 +385,12 @@ impl Draft {
     fn with_call(
         self,
         alloc: Global,
-        name: Name,
+        name: NameWord,
         second: Option<Name>,
         call: Call,
     ) -> Result<Self, AllocError>
         requires { may_follow self (Line.Call name second call) ≡ true }
-        ensures { IfOk result (λ draft. draft ≡ with_line self (Line.Call name second call)) }
+        ensures { IfOk result (λ draft. draft ≡ with_line self (Line.Call name.entry second call)) }
     {
         let Draft { mut parts } = self;
         let known = &mut *parts;
@@ -402,7 +410,7 @@ impl Draft {
     /// The draft with one more line.
     pub fn with_line(self, alloc: Global, line: Line) -> Result<Self, AllocError>
         requires { may_follow self line ≡ true }
-        ensures { IfOk result (λ draft. draft ≡ with_line self line) }
+        ensures { IfOk result (λ draft. draft ≡ with_line self line.entry) }
     {
         match line {
             Line::Object(object, reference) => self.with_object(alloc, object, reference),

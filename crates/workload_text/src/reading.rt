@@ -9,7 +9,7 @@ ghost use Rattle.workload_text.specs.LineResult.{IsFault, IsTurns, IsWorkers, Is
 use crate::call_reading::read_call_on;
 use crate::number::number;
 use crate::object_reading::{parameter_count, read_kind};
-use crate::word_reading::{read_name, read_worker};
+use crate::word_reading::{check_name, read_name, read_worker};
 use script_calls::Call;
 use std::alloc::Global;
 use sync_types::{MAX_VALUE, Seq};
@@ -18,9 +18,9 @@ use workload::fault::LineFault;
 use workload::keyword::{Dialect, Keyword, Verb, read_keyword};
 use workload::laws::{calls_pass_their_checks, checks_go_in_order, dialects, keywords};
 use workload::limits::{
-    MAX_ACCESSES, MAX_ALL_TRIES, MAX_CALLS, MAX_KEYS, MAX_RANGES, MAX_TURNS, MAX_WORKERS,
+    MAX_ACCESSES, MAX_ALL_TRIES, MAX_CALLS, MAX_RANGES, MAX_TURNS, MAX_WORKERS,
 };
-use workload::line::Line;
+use workload::line::{Line, NameWord};
 use workload::object::{ObjectLine, ObjectWord};
 use workload::reason::Reason;
 use workload::turn::Turn;
@@ -55,7 +55,7 @@ fn check_limits(draft: &Draft, verb: Verb, call: &Call) -> Result<(), LineFault>
     let tries = draft.tries().saturating_add(tries_in(call));
     let accesses = draft.accesses().saturating_add(accesses_in(call));
     if draft.calls() >= MAX_CALLS
-        || draft.keys_with_call(call) > MAX_KEYS
+        || !draft.has_room_for_key(call)
         || ranges > MAX_RANGES
         || tries > MAX_ALL_TRIES
         || accesses > MAX_ACCESSES
@@ -66,12 +66,12 @@ fn check_limits(draft: &Draft, verb: Verb, call: &Call) -> Result<(), LineFault>
 }
 
 /// A call of the worker named last.
-fn read_call(
+fn read_call<'a>(
     alloc: Global,
     draft: &Draft,
     verb: Verb,
-    arguments: &[&[u8]],
-) -> Result<Line, LineFault>
+    arguments: &[&'a [u8]],
+) -> Result<Line<'a>, LineFault>
     ensures { IsLineOf draft.now (Keyword.Call verb) (map (λ word. word.now) arguments.now) result }
 {
     checks_go_in_order();
@@ -82,7 +82,7 @@ fn read_call(
     let Some((name, words)) = arguments.split_first() else {
         return Err(LineFault::Refused(Reason::WrongNumberOfWords));
     };
-    let object = read_name(alloc, name)?;
+    check_name(name)?;
     let Some(found) = draft.declared(name) else {
         return Err(LineFault::Refused(Reason::UnknownName));
     };
@@ -92,16 +92,16 @@ fn read_call(
         operation,
     };
     check_limits(draft, verb, &call)?;
-    Ok(Line::Call(object, second, call))
+    Ok(Line::Call(NameWord::new(name), second, call))
 }
 
 /// A line that declares an object.
-fn read_object(
+fn read_object<'a>(
     alloc: Global,
     draft: &Draft,
     word: ObjectWord,
-    arguments: &[&[u8]],
-) -> Result<Line, LineFault>
+    arguments: &[&'a [u8]],
+) -> Result<Line<'a>, LineFault>
     ensures { IsLineOf draft.now (Keyword.Object word) (map (λ word. word.now) arguments.now) result }
 {
     checks_go_in_order();
@@ -135,7 +135,7 @@ fn read_dormant(draft: &Draft, word: &[u8]) -> Result<u32, LineFault>
 }
 
 /// A line that says which worker waits to be started.
-fn read_dormant_line(draft: &Draft, arguments: &[&[u8]]) -> Result<Line, LineFault>
+fn read_dormant_line<'a>(draft: &Draft, arguments: &[&'a [u8]]) -> Result<Line<'a>, LineFault>
     ensures { IsLineOf draft.now Keyword.Dormant (map (λ word. word.now) arguments.now) result }
 {
     let [worker] = arguments else {
@@ -145,7 +145,7 @@ fn read_dormant_line(draft: &Draft, arguments: &[&[u8]]) -> Result<Line, LineFau
 }
 
 /// A line that says whose calls follow.
-fn read_worker_line(draft: &Draft, arguments: &[&[u8]]) -> Result<Line, LineFault>
+fn read_worker_line<'a>(draft: &Draft, arguments: &[&'a [u8]]) -> Result<Line<'a>, LineFault>
     ensures { IsLineOf draft.now Keyword.Worker (map (λ word. word.now) arguments.now) result }
 {
     let [worker] = arguments else {
@@ -167,7 +167,11 @@ fn read_turns(alloc: Global, workers: u32, words: &[&[u8]]) -> Result<Seq<Turn>,
 }
 
 /// A `schedule` line.
-fn read_schedule(alloc: Global, draft: &Draft, arguments: &[&[u8]]) -> Result<Line, LineFault>
+fn read_schedule<'a>(
+    alloc: Global,
+    draft: &Draft,
+    arguments: &[&'a [u8]],
+) -> Result<Line<'a>, LineFault>
     ensures { IsLineOf draft.now Keyword.Schedule (map (λ word. word.now) arguments.now) result }
 {
     checks_go_in_order();
@@ -182,13 +186,13 @@ fn read_schedule(alloc: Global, draft: &Draft, arguments: &[&[u8]]) -> Result<Li
 }
 
 /// A line of a text of this dialect, behind the first significant one: its first word and the others.
-pub fn read_line(
+pub fn read_line<'a>(
     alloc: Global,
     dialect: Dialect,
     draft: &Draft,
     word: &[u8],
-    arguments: &[&[u8]],
-) -> Result<Line, LineFault>
+    arguments: &[&'a [u8]],
+) -> Result<Line<'a>, LineFault>
     ensures { IsLine dialect draft.now word.now (map (λ word. word.now) arguments.now) result }
 {
     keywords();

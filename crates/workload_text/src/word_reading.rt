@@ -23,6 +23,16 @@ use workload::laws::checks_go_in_order;
 use workload::limits::{MAX_PASSES, MAX_TRIES};
 use workload::reason::Reason;
 
+/// Refuses a word that is no name.
+pub fn check_name(word: &[u8]) -> Result<(), LineFault>
+    ensures { MatchResult result (λ _. is_name word.now ≡ true) (IsFault ((is_name word.now, Reason.BadName) ∷ [])) }
+{
+    if !is_name(word) {
+        return Err(LineFault::Refused(Reason::BadName));
+    }
+    Ok(())
+}
+
 /// The name that a word is.
 pub fn read_name(alloc: Global, word: &[u8]) -> Result<Name, LineFault>
     ensures { MatchResult result (λ name. (is_name word.now ≡ true) × (name ≡ word.now)) (IsFault ((is_name word.now, Reason.BadName) ∷ [])) }
