@@ -26,7 +26,8 @@ use workload::laws::{checks_go_in_order, names_find_their_objects};
 use workload::object::{ObjectKind, ObjectWord};
 use workload::reason::Reason;
 
-/// A call that has no operands.
+/// A call that has no operands. It is inlined so that the call isn't copied on its way.
+#[inline(always)]
 fn read_bare(call: Operation, words: &[&[u8]]) -> Result<Operation, LineFault>
     ensures { IsOperands (λ read. (read ≡ call) × (map (λ word. word.now) words.now ≡ [])) [] (map (λ word. word.now) words.now) result }
 {
