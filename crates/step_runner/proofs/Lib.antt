@@ -11,6 +11,7 @@ mod NotedLemmas
 mod TraceLaws
 mod TraceLemmas
 mod TraceReplies
+mod OnceEnds
 mod OneTurnCalls
 mod Numbered
 mod PlacedRun

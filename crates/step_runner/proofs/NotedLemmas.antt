@@ -2,7 +2,7 @@
 use Rattle.std.proofs.Common.{◌≡◌, List, [], ◌∷◌, ◌++◌, refl, sym, ap, ◌∙◌, append_assoc, append-nil}
 use Rattle.step_runner.specs.declared.notes.Notes.{Notes}
 use Rattle.step_runner.specs.declared.notes.Notes.TheVariants.{Nothing, All}
-use Rattle.step_runner.specs.Noted.{one_noted, noted, begun_as, joined, noted_of}
+use Rattle.step_runner.specs.Noted.{one_noted, noted, begun_as, noted_of}
 
 module _ {A : Type 0} where
   pub noted_append : (first rest : List A) (notes : Notes A) → noted rest (noted first notes) ≡ noted (first ++ rest) notes
@@ -23,12 +23,6 @@ module _ {A : Type 0} where
   -- from the beginning
   pub all_from_none : (more : List A) → noted more (All []) ≡ All more
   all_from_none more = all_noted more []
-
-  -- what was noted apart, and something before it
-  pub noted_apart : (first apart : List A) (notes : Notes A) → joined (noted first notes) (noted apart (begun_as notes)) ≡ noted (first ++ apart) notes
-  noted_apart first apart Nothing =
-      ap (joined (noted first Nothing)) (none_noted apart) ∙ none_noted first ∙ sym (none_noted (first ++ apart))
-  noted_apart first apart (All so_far) = ap (joined (noted first (All so_far))) (all_from_none apart) ∙ noted_append first apart (All so_far)
 
 -- what is told of what was noted apart
 pub told_apart : {A B : Type 0} (told : List B → List A) (made : List B) (notes : Notes A) → noted_of told (noted made (begun_as notes)) notes ≡ noted (told made) notes

@@ -107,6 +107,11 @@ once_due value false once_place.Out = Some once_stage.Begin
 once_due value runs once_place.Waiting = None
 once_due value runs once_place.Released = Some once_stage.Leave
 
+-- whether the stage that is due ends the function
+abbrev pub ends_function : {T : Type 0} → Option (OnceStage T) → Bool
+ends_function (Some (once_stage.End value)) = true
+ends_function due = false
+
 -- the replies of the one that ran the function, and of another by what is kept
 abbrev pub ran_or : {T : Type 0} → Reply (List ℕ) → (T → Reply (List ℕ)) → OnceOutcome T → Answer
 ran_or ran had Run = answers.Unfinished

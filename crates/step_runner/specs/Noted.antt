@@ -19,11 +19,6 @@ module _ {A : Type 0} where
   begun_as Nothing = Nothing
   begun_as (All so_far) = All []
 
-  -- what was noted apart stands behind
-  abbrev pub joined : Notes A → Notes A → Notes A
-  joined notes Nothing = notes
-  joined notes (All more) = noted more notes
-
   -- as much of this as is noted of what it is told of
   abbrev pub noted_of : {B : Type 0} → (List B → List A) → Notes B → Notes A → Notes A
   noted_of told Nothing notes = notes

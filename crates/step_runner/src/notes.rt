@@ -1,6 +1,6 @@
 //! What is noted of a run as it goes.
 ghost use Rattle.std.specs.Prelude.{◌≡◌, OnOk};
-ghost use Rattle.step_runner.specs.Noted.{one_noted, noted, begun_as, joined, so_far_of};
+ghost use Rattle.step_runner.specs.Noted.{one_noted, begun_as, so_far_of};
 
 use std::alloc::{AllocError, Global};
 use sync_types::Seq;
@@ -35,33 +35,6 @@ impl<T> Notes<T> {
         match self {
             Notes::Nothing => Notes::Nothing,
             Notes::All(_) => Notes::All(Seq::new(alloc)),
-        }
-    }
-
-    /// Notes some things more, in order. It is cold, and never a part of a turn's own code: a run that isn't traced notes nothing.
-    #[cold]
-    #[inline(never)]
-    fn note_all(&mut self, more: Seq<T>) -> Result<(), AllocError>
-    where
-        T: Drop,
-        ensures { OnOk result (self.new ≡ noted more self.old) }
-    {
-        for one in more.into_vec() {
-            self.note(one)?;
-        }
-        Ok(())
-    }
-
-    /// Notes what was noted apart.
-    #[inline(always)]
-    pub fn join(&mut self, apart: Notes<T>) -> Result<(), AllocError>
-    where
-        T: Drop,
-        ensures { OnOk result (self.new ≡ joined self.old apart) }
-    {
-        match apart {
-            Notes::Nothing => Ok(()),
-            Notes::All(more) => self.note_all(more),
         }
     }
 

@@ -83,11 +83,7 @@ fn no_replies(alloc: Global, workers: u32) -> Result<Seq<Seq<Reply<Name>>>, Allo
 fn no_waits(alloc: Global, workers: u32) -> Result<Vec<u32>, AllocError>
     ensures { IfOk result (λ begun. begun.items ≡ replicate workers 0) }
 {
-    let mut begun = Vec::new(alloc);
-    for _ in 0..workers {
-        begun.push(0)?;
-    }
-    Ok(begun)
+    vec![in alloc; 0; workers as usize]
 }
 
 /// How each worker stands before the first turn.
@@ -105,11 +101,7 @@ fn first_stands(alloc: Global, workload: &Workload) -> Result<Vec<Stand>, AllocE
 fn first_places(alloc: Global, workers: u32) -> Result<Vec<usize>, AllocError>
     ensures { IfOk result (λ places. places.items ≡ replicate workers 0) }
 {
-    let mut places = Vec::new(alloc);
-    for _ in 0..workers {
-        places.push(0)?;
-    }
-    Ok(places)
+    vec![in alloc; 0; workers as usize]
 }
 
 /// The place of the group on which a worker is done behind its script, if it may be started.

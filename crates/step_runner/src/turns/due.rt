@@ -2,16 +2,19 @@
 //! isn't told to go on. With it, what an outcome makes of the call.
 ghost use Rattle.std.specs.Prelude.{◌≡◌, ◌*◌, ◌<◌, ◌≤◌};
 ghost use Rattle.pool_core.specs.Looks.{look};
+ghost use Rattle.run_record.specs.OnceKind.{failure};
 ghost use Rattle.run_record.specs.PoolKind.{stage_of};
-ghost use Rattle.step_runner.specs.Due.{mutex_due, rw_due, locked, group_due, returned, cond_due, cond_answer, once_due};
+ghost use Rattle.step_runner.specs.Due.{mutex_due, rw_due, locked, group_due, returned, cond_due, cond_answer, once_due, ran_or};
 ghost use Rattle.step_runner.specs.Stages.{answer_by};
 
 use crate::turns::answer::Answer;
 use mutex_core::Place as MutexPlace;
-use protocols::{CondStage, GroupStage, MutexStage, OnceStage, PoolStage, RwMutexStage};
+use protocols::{
+    CondStage, GroupStage, MutexStage, OnceOutcome, OnceStage, PoolStage, RwMutexStage,
+};
 use rw_core::Place as RwPlace;
 use script_calls::Reply;
-use sync_types::{CondCall, LockReply, MutexCall, RwMutexCall, WaitGroupCall};
+use sync_types::{CondCall, DoReply, LockReply, MutexCall, RwMutexCall, WaitGroupCall};
 use wait_cores::{GroupPlace, NotifyPlace, OncePlace};
 
 /// Of a call of a mutex: its first stage where the worker is out, and the going on where it was woken or
@@ -147,6 +150,53 @@ pub(crate) fn once_due<T: Copy>(value: T, runs: bool, place: OncePlace) -> Optio
         }
         OncePlace::Waiting => None,
         OncePlace::Released => Some(OnceStage::Leave),
+    }
+}
+
+/// What a `Do` answers, whose function came to this sum in the turn that ended it.
+pub(crate) fn did(sum: i64, made: Result<OnceOutcome<i64>, Answer>) -> Answer
+    ensures { result ≡ answer_by (ran_or (Reply.Once (DoReply.Ran sum)) (λ kept. Reply.Once DoReply.Done)) made }
+{
+    match made {
+        Ok(OnceOutcome::Run) => Answer::Unfinished,
+        Ok(OnceOutcome::Already(_)) => Answer::Completed(Reply::Once(DoReply::Done)),
+        Ok(OnceOutcome::Ended) => Answer::Completed(Reply::Once(DoReply::Ran(sum))),
+        Err(answer) => answer,
+    }
+}
+
+/// The reply with this code: 0 stands for no failure.
+fn failed(code: u32) -> Answer
+    ensures { result ≡ Answer.Completed (Reply.OnceFunc (failure code)) }
+{
+    if code == 0 {
+        Answer::Completed(Reply::OnceFunc(None))
+    } else {
+        Answer::Completed(Reply::OnceFunc(Some(code)))
+    }
+}
+
+/// What a call of a `OnceFunc` answers, whose function came to this code.
+pub(crate) fn func_returned(code: u32, made: Result<OnceOutcome<u32>, Answer>) -> Answer
+    ensures { result ≡ answer_by (ran_or (Reply.OnceFunc (failure code)) (λ kept. Reply.OnceFunc (failure kept))) made }
+{
+    match made {
+        Ok(OnceOutcome::Run) => Answer::Unfinished,
+        Ok(OnceOutcome::Already(kept)) => failed(kept),
+        Ok(OnceOutcome::Ended) => failed(code),
+        Err(answer) => answer,
+    }
+}
+
+/// What a call of a `OnceValue` answers, whose function came to this value.
+pub(crate) fn value_returned(value: u64, made: Result<OnceOutcome<u64>, Answer>) -> Answer
+    ensures { result ≡ answer_by (ran_or (Reply.OnceValue value) (λ kept. Reply.OnceValue kept)) made }
+{
+    match made {
+        Ok(OnceOutcome::Run) => Answer::Unfinished,
+        Ok(OnceOutcome::Already(kept)) => Answer::Completed(Reply::OnceValue(kept)),
+        Ok(OnceOutcome::Ended) => Answer::Completed(Reply::OnceValue(value)),
+        Err(answer) => answer,
     }
 }
 

@@ -1,29 +1,29 @@
 //! The turns of a worker that stands before a call of a once, or of a function made by `OnceFunc` or
 //! `OnceValue`.
-ghost use Rattle.std.specs.Prelude.{◌≡◌, ℕ, ℤ, ◌<◌, ◌++◌, IfOk, OnOk};
+ghost use Rattle.std.specs.Prelude.{◌≡◌, ℕ, ℤ, ◌<◌, [], ◌++◌, cond, IfOk, OnOk};
 ghost use Rattle.std.specs.Int.{w64, int_wrapping_add};
 ghost use Rattle.script_calls.specs.declared.call.Operation.TheVariants as operations;
+ghost use Rattle.script_calls.specs.declared.call.Reply.TheVariants as replies;
 ghost use Rattle.wait_cores.specs.OnceMachine as machine;
 ghost use Rattle.wait_cores.specs.OnceStanding.{runs_at};
-ghost use Rattle.run_record.specs.OnceKind.{failure};
 ghost use Rattle.run_record.specs.declared.entered.ObjectEvent.TheVariants as events;
 ghost use Rattle.run_record.specs.declared.entered.ObjectReply.TheVariants as answered;
-ghost use Rattle.step_runner.specs.Items.{once_items, add_items, items_on, items_on_both};
+ghost use Rattle.step_runner.specs.Due.{ends_function};
+ghost use Rattle.step_runner.specs.Items.{placed_at, once_items, add_items, items_on, items_on_both};
 ghost use Rattle.step_runner.specs.Noted.{noted};
 ghost use Rattle.step_runner.specs.TurnAtObjects.{once_made, added, turn_on, turn_on_both};
 ghost use Rattle.step_runner.specs.declared.turns.object_state.ObjectState.TheVariants as states;
 
 use crate::notes::Notes;
 use crate::turns::answer::Answer;
-use crate::turns::due::once_due;
+use crate::turns::due::{did, func_returned, once_due, value_returned};
 use crate::turns::item::Item;
 use crate::turns::noting::{FunctionValue, note_atomic_call};
 use crate::turns::object_state::ObjectState;
 use crate::turns::stages::{Places, Taker, make};
-use protocols::OnceOutcome;
-use script_calls::Reply;
-use std::alloc::{AllocError, Global};
-use sync_types::{AtomicCall, AtomicReply, DoReply, Number};
+use protocols::{OnceOutcome, OnceStage};
+use std::alloc::AllocError;
+use sync_types::{AtomicCall, AtomicReply, Number};
 use wait_cores::OnceCore;
 
 /// Whether the worker runs the function.
@@ -52,10 +52,33 @@ fn make_stage<T: FunctionValue>(
     make::<OnceCore<T>>(due, once, place, taker, notes)
 }
 
+/// Adds to the number, where the stage that is due ends the function, and notes it.
+fn add_at_end(
+    due: Option<OnceStage<i64>>,
+    number: &mut i64,
+    delta: i64,
+    sum: i64,
+    target: usize,
+    taker: Taker,
+    notes: &mut Notes<Item>,
+) -> Result<(), AllocError>
+    ensures number { OnOk result (number.new ≡ cond (ends_function due) sum number.old) }
+    ensures noted { OnOk result (notes.new ≡ noted (cond (ends_function due) (placed_at taker.worker target (operations.Atomic (AtomicCall.Add (Number.Int64 delta))) (replies.Atomic (AtomicReply.Held (Number.Int64 sum)))) []) notes.old) }
+{
+    match due {
+        Some(OnceStage::End(_)) => {
+            *number = sum;
+            let operand = Number::Int64(delta);
+            let held = AtomicReply::Held(Number::Int64(sum));
+            let add = AtomicCall::Add { operand };
+            note_atomic_call(notes, taker.worker, target, add, held)
+        }
+        _ => Ok(()),
+    }
+}
+
 /// Takes a turn at a once whose function adds this amount to the number. What it adds is noted before the end of the function.
-#[tactic(auto, using(crate::proofs::NotedLemmas::noted_apart))]
 fn take_adding_turn(
-    alloc: Global,
     once: &mut OnceCore<i64>,
     number: &mut i64,
     at: Places,
@@ -68,41 +91,15 @@ fn take_adding_turn(
     ensures noted { OnOk result (notes.new ≡ noted (add_items taker.worker at.target delta (Number.Int64 number.old) (once_made taker.worker taker.moment (int_wrapping_add w64 number.old delta) once.old).1 ++ once_items events.Once answered.Once taker.worker taker.moment at.object (int_wrapping_add w64 number.old delta) once.old) notes.old) }
 {
     let sum = number.wrapping_add(delta);
-    let mut made = notes.apart(alloc);
-    match make_stage(once, at.object, sum, taker, &mut made)? {
-        Ok(OnceOutcome::Run) => {
-            notes.join(made)?;
-            Ok(Answer::Unfinished)
-        }
-        Ok(OnceOutcome::Already(_)) => {
-            notes.join(made)?;
-            Ok(Answer::Completed(Reply::Once(DoReply::Done)))
-        }
-        Ok(OnceOutcome::Ended) => {
-            let operand = Number::Int64(delta);
-            let held = AtomicReply::Held(Number::Int64(sum));
-            note_atomic_call(
-                notes,
-                taker.worker,
-                at.target,
-                AtomicCall::Add { operand },
-                held,
-            )?;
-            notes.join(made)?;
-            *number = sum;
-            Ok(Answer::Completed(Reply::Once(DoReply::Ran(sum))))
-        }
-        Err(answer) => {
-            notes.join(made)?;
-            Ok(answer)
-        }
-    }
+    let due = once_due(sum, runs(once, taker.worker), once.place(taker.worker));
+    add_at_end(due, number, delta, sum, at.target, taker, notes)?;
+    let made = make::<OnceCore<i64>>(due, once, at.object, taker, notes)?;
+    Ok(did(sum, made))
 }
 
 /// Takes a turn before a `Do`, whose once adds to the target. The first one begins in one turn, and adds in
 /// its next. The others wait until it has, and leave then.
 pub(crate) fn take_once_turn(
-    alloc: Global,
     object: &mut ObjectState,
     target: &mut ObjectState,
     at: Places,
@@ -120,22 +117,11 @@ pub(crate) fn take_once_turn(
     match object {
         ObjectState::Once { once, .. } => match target {
             ObjectState::Atomic(Number::Int64(number)) => {
-                take_adding_turn(alloc, once, number, at, delta, taker, notes)
+                take_adding_turn(once, number, at, delta, taker, notes)
             }
             _ => Ok(Answer::Still),
         },
         _ => Ok(Answer::Still),
-    }
-}
-
-/// The reply with this code: 0 stands for no failure.
-fn failed(code: u32) -> Answer
-    ensures { result ≡ Answer.Completed (Reply.OnceFunc (failure code)) }
-{
-    if code == 0 {
-        Answer::Completed(Reply::OnceFunc(None))
-    } else {
-        Answer::Completed(Reply::OnceFunc(Some(code)))
     }
 }
 
@@ -151,14 +137,10 @@ pub(crate) fn take_once_func_turn(
     ensures noted { OnOk result (notes.new ≡ noted (items_on operations.OnceFunc taker.worker taker.moment place object.old) notes.old) }
 {
     match object {
-        ObjectState::OnceFunc { once, code } => match make_stage(
-            once, place, *code, taker, notes,
-        )? {
-            Ok(OnceOutcome::Run) => Ok(Answer::Unfinished),
-            Ok(OnceOutcome::Already(kept)) => Ok(failed(kept)),
-            Ok(OnceOutcome::Ended) => Ok(failed(*code)),
-            Err(answer) => Ok(answer),
-        },
+        ObjectState::OnceFunc { once, code } => {
+            let made = make_stage(once, place, *code, taker, notes)?;
+            Ok(func_returned(*code, made))
+        }
         _ => Ok(Answer::Still),
     }
 }
@@ -175,14 +157,10 @@ pub(crate) fn take_once_value_turn(
     ensures noted { OnOk result (notes.new ≡ noted (items_on operations.OnceValue taker.worker taker.moment place object.old) notes.old) }
 {
     match object {
-        ObjectState::OnceValue { once, value } => match make_stage(
-            once, place, *value, taker, notes,
-        )? {
-            Ok(OnceOutcome::Run) => Ok(Answer::Unfinished),
-            Ok(OnceOutcome::Already(kept)) => Ok(Answer::Completed(Reply::OnceValue(kept))),
-            Ok(OnceOutcome::Ended) => Ok(Answer::Completed(Reply::OnceValue(*value))),
-            Err(answer) => Ok(answer),
-        },
+        ObjectState::OnceValue { once, value } => {
+            let made = make_stage(once, place, *value, taker, notes)?;
+            Ok(value_returned(*value, made))
+        }
         _ => Ok(Answer::Still),
     }
 }

@@ -63,7 +63,6 @@ fn take_turn_on(
 
 /// Takes a turn at an object that refers to another one, the target.
 fn take_turn_on_both(
-    alloc: Global,
     object: &mut ObjectState,
     target: &mut ObjectState,
     at: Places,
@@ -79,7 +78,7 @@ fn take_turn_on_both(
 {
     match operation {
         Operation::Cond(call) => take_cond_turn(object, target, at, *call, taker, notes),
-        Operation::Once => take_once_turn(alloc, object, target, at, taker, notes),
+        Operation::Once => take_once_turn(object, target, at, taker, notes),
         _ => Ok(Answer::Still),
     }
 }
@@ -87,7 +86,6 @@ fn take_turn_on_both(
 /// Takes a turn at the object at a place and at the one to which it refers, which leaves every other object
 /// alone. While its turn is taken, the first one stands beside the others.
 fn take_turn_at_both(
-    alloc: Global,
     objects: &mut [ObjectState],
     at: Places,
     operation: &Operation,
@@ -106,7 +104,6 @@ fn take_turn_at_both(
     let beside = ObjectState::Atomic(Number::Bool(false));
     let mut object = mem::replace(&mut objects[at.object], beside);
     let answer = take_turn_on_both(
-        alloc,
         &mut object,
         &mut objects[at.target],
         at,
@@ -144,14 +141,13 @@ pub fn take_turn_at(
         ),
         Some(target) => {
             let at = Places { object, target };
-            take_turn_at_both(alloc, objects, at, &call.operation, taker, notes)
+            take_turn_at_both(objects, at, &call.operation, taker, notes)
         }
     }
 }
 
 /// Takes a turn of a wait on the cond at a place. Behind it the worker is ready for another one.
 pub(crate) fn take_wait_turn(
-    alloc: Global,
     objects: &mut [ObjectState],
     cond: usize,
     taker: Taker,
@@ -171,7 +167,7 @@ pub(crate) fn take_wait_turn(
                 object: cond,
                 target: mutex,
             };
-            take_turn_at_both(alloc, objects, at, &wait, taker, notes)
+            take_turn_at_both(objects, at, &wait, taker, notes)
         }
     }
 }

@@ -70,7 +70,6 @@ fn note_load(
 
 /// Begins one more wait: an event, after which the call hasn't returned, unless it is a misuse.
 fn begin_wait(
-    alloc: Global,
     objects: &mut [ObjectState],
     awaited: Awaited,
     begun: u32,
@@ -82,7 +81,7 @@ fn begin_wait(
     ensures turn { IfOk result (λ taken. begin_wait begun (turn_at (wait_on awaited.cond) taker.worker taker.moment objects.old) ≡ ((objects.new, taken.0), taken.1)) }
     ensures noted { OnOk result (notes.new ≡ noted (items_at (wait_on awaited.cond) taker.worker taker.moment objects.old) notes.old) }
 {
-    match take_wait_turn(alloc, objects, awaited.cond, taker, notes)? {
+    match take_wait_turn(objects, awaited.cond, taker, notes)? {
         Answer::Misused(misuse) => Ok((begun + 1, Answer::Misused(misuse))),
         _ => Ok((begun + 1, Answer::Unfinished)),
     }
@@ -91,7 +90,6 @@ fn begin_wait(
 /// Loads the atomic. Where it doesn't hold the number and fewer waits were begun than the call may make, one more begins in this
 /// turn; else the call is completed.
 fn look(
-    alloc: Global,
     objects: &mut [ObjectState],
     awaited: Awaited,
     begun: u32,
@@ -108,13 +106,12 @@ fn look(
     if met || awaited.tries <= begun {
         return Ok((begun, tells(met)));
     }
-    begin_wait(alloc, objects, awaited, begun, taker, notes)
+    begin_wait(objects, awaited, begun, taker, notes)
 }
 
 /// Takes a turn before a `waitfor`, or within it, where the turn goes on with the wait that was begun last. A wait that returns is
 /// followed by a load, in the same turn.
 fn take_wait_for_turn(
-    alloc: Global,
     objects: &mut [ObjectState],
     awaited: Awaited,
     begun: u32,
@@ -128,10 +125,10 @@ fn take_wait_for_turn(
 {
     turns_keep_kinds_and_machines();
     if begun == 0 {
-        return look(alloc, objects, awaited, begun, taker, notes);
+        return look(objects, awaited, begun, taker, notes);
     }
-    match take_wait_turn(alloc, objects, awaited.cond, taker, notes)? {
-        Answer::Completed(_) => look(alloc, objects, awaited, begun, taker, notes),
+    match take_wait_turn(objects, awaited.cond, taker, notes)? {
+        Answer::Completed(_) => look(objects, awaited, begun, taker, notes),
         answer => Ok((begun, answer)),
     }
 }
@@ -187,7 +184,7 @@ pub fn take_turn_within(
                 value,
                 tries,
             };
-            take_wait_for_turn(alloc, objects, awaited, begun, taker, notes)
+            take_wait_for_turn(objects, awaited, begun, taker, notes)
         }
         Operation::Composed(ComposedCall::Go { worker }) => {
             let added = take_go_turn(objects, call.object, worker, taker, notes)?;
