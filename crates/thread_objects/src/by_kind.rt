@@ -50,10 +50,13 @@ macro_rules! taking_arms {
 /// The same, with a pass that is of the column's kind.
 macro_rules! adding_arms {
     ([$($kind:ident)*] $column:expr, $pass:expr, |$count:ident| $none:expr, |$passes:ident, $p:ident| $go:expr) => {
-        match $column {
-            AnyColumn::None($count) => $none,
-            $(AnyColumn::$kind($passes) => match $pass {
-                AnyPass::$kind($p) => $go,
+        match $pass {
+            AnyPass::None => match $column {
+                AnyColumn::None($count) => $none,
+                _ => unreachable!(),
+            },
+            $(AnyPass::$kind($p) => match $column {
+                AnyColumn::$kind($passes) => $go,
                 _ => unreachable!(),
             },)*
         }
