@@ -54,8 +54,7 @@ fn make_declared<K: DeclaredKind, N: Note>(
     ensures untouched { IfOk result (λ made. AreUntouched made.1.items) }
 {
     let start = K::start(alloc, crew.workers, declared)?;
-    let (object, passes) = begin(alloc, crew, start, note)?;
-    Ok((object, passes))
+    begin(alloc, crew, start, note)
 }
 
 // An object of this kind.
@@ -101,8 +100,7 @@ pub fn make_object<N: Note>(
 {
     let _workers = workload.workers();
     let kind = workload.objects()[place].kind;
-    let (object, column) = make_kind(alloc, crew, workload, place, kind, note)?;
-    Ok((object, column))
+    make_kind(alloc, crew, workload, place, kind, note)
 }
 
 /// A part of the pool that the workload declares at this place, as it begins, and a pass of each worker. It keeps `note` for what

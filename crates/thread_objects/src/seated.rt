@@ -30,8 +30,7 @@ pub(crate) fn begin<P: Protocol + Worded, N: Note>(
     ensures room { IfOk result (λ made. crew.now.workers ≤ vec_capacity made.1) }
     ensures untouched { IfOk result (λ made. AreUntouched made.1.items) }
 {
-    let (object, passes) = call_loop::new(alloc, crew.workers, 0, start, note)?;
-    Ok((object, passes))
+    call_loop::new(alloc, crew.workers, 0, start, note)
 }
 
 /// The misuse of the first halt, and `None` exactly where there is none. It takes all passes, and adds no entry.
