@@ -10,6 +10,8 @@ mod finish;
 mod gather;
 pub mod laws;
 mod look;
+mod made;
+mod maker;
 mod new;
 pub mod object;
 mod park;
@@ -22,6 +24,7 @@ pub mod view;
 mod word;
 
 pub use assembly::{Assembly, AssemblyOf};
+pub use maker::Maker;
 pub use new::MAX_CALLS;
 pub use object::Object;
 pub use pass::{Pass, PassOf};
