@@ -136,7 +136,7 @@ module _ {G O E R : Type 0} (event_of : G → ℕ → E) (meaning : G → R → 
   reply_of due step (Done r) means = (r, ap (λ (z : Answer (Step G O)). done_or step z) means)
   reply_of due step (Halted m) means = cc
 
-  ends_by : (due : G) (event : E) (step : Answer (Step G O)) (reply : Answer R) (d : Deed E R) (answer : CallAnswer O) → d ≡ deed_of event reply → step ≡ meant meaning due reply → IsEventOf event_of due event → IsEnd step answer
+  pub ends_by : (due : G) (event : E) (step : Answer (Step G O)) (reply : Answer R) (d : Deed E R) (answer : CallAnswer O) → d ≡ deed_of event reply → step ≡ meant meaning due reply → IsEventOf event_of due event → IsEnd step answer
       → Spells event_of meaning due (d ∷ []) answer
   ends_by due event step (Done r) d answer is means of end =
       subst (λ (x : Deed E R). Spells event_of meaning due (x ∷ []) answer) (sym is) (of, rest_end (meaning due r) [] (λ later. Spells event_of meaning later [] answer) answer refl (subst (λ (s : Answer (Step G O)). IsEnd s answer) means end))
@@ -144,7 +144,7 @@ module _ {G O E R : Type 0} (event_of : G → ℕ → E) (meaning : G → R → 
       let halted : answer ≡ Halted m = subst (λ (s : Answer (Step G O)). IsEnd s answer) means end in
       subst (λ (x : Deed E R). Spells event_of meaning due (x ∷ []) answer) (sym is) (of, refl, halted)
 
-  meets_end : (due : G) (es : List (Placed E R)) (step : Answer (Step G O)) (reply : Answer R) (answer : CallAnswer O) → step ≡ meant meaning due reply → IsEnd step answer → MeetsHalt es reply → MeetsHalt es answer
+  pub meets_end : (due : G) (es : List (Placed E R)) (step : Answer (Step G O)) (reply : Answer R) (answer : CallAnswer O) → step ≡ meant meaning due reply → IsEnd step answer → MeetsHalt es reply → MeetsHalt es answer
   meets_end due es step (Done r) answer means end meets = done (meaning due r) (subst (λ (s : Answer (Step G O)). IsEnd s answer) means end)
     where
       done : (s : Step G O) → IsEnd (Done s) answer → MeetsHalt es answer

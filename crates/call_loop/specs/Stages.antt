@@ -1,14 +1,16 @@
 -- What one stage of a running call did.
-use Rattle.std.specs.Prelude.{◌≡◌, ℕ, Bool, false, [], ◌∷◌, Option}
+use Rattle.std.specs.Prelude.{◌≡◌, ◌⊎◌, ℕ, Bool, false, List, [], ◌∷◌, Option}
 use Rattle.sync_model.specs.declared.answer.Answer.{Answer}
 use Rattle.sync_model.specs.declared.answer.Answer.TheVariants.{Done, Halted}
+use Rattle.sync_model.specs.declared.journal.Deed.{Deed}
+use Rattle.sync_model.specs.declared.journal.Deed.TheVariants.{Event, Refused, Halt}
 use Rattle.sync_model.specs.Front.{Front}
 use Rattle.ruled_object.specs.declared.pass.Pass.{Pass}
 use Rattle.ruled_object.specs.Cells.{deed_of}
 use Rattle.ruled_object.specs.Growth.{Placed, Grows, MeetsHalt}
 use Rattle.protocols.specs.declared.step.Step.{Step}
 use Rattle.protocols.specs.declared.step.Step.TheVariants.{Finished, Misused, Waits, Next, Never}
-use Rattle.protocols.specs.Spelling.{IsEventOf}
+use Rattle.protocols.specs.Spelling.{IsEventOf, AreTimely}
 use Rattle.protocols.specs.Steps.{IsAt, IsExpected, LeadsOn}
 
 module _ {G O R : Type 0} where
@@ -49,3 +51,40 @@ module _ {G O W : Type 0} where
   abbrev pub StandsOn : W → (O → W) → (W → G → Bool) → W → Answer (Step G O) → Type 0
   StandsOn out left allows stand (Done step) = LeadsOn out left allows stand step
   StandsOn out left allows stand (Halted misuse) = stand ≡ out
+
+module _ {G O : Type 0} where
+  -- the call doesn't go on after this
+  abbrev pub EndsCall : Step G O → Type 0
+  EndsCall (Finished outcome) = Unit {0}
+  EndsCall (Misused misuse) = Unit {0}
+  EndsCall (Waits later) = ⊥
+  EndsCall (Next later) = ⊥
+  EndsCall Never = Unit {0}
+
+  -- Which moments a stage's event may have that came to this: the clock's, or any where the machine took the event and the call ends with it.
+  abbrev pub NeededBy : (ℕ → Type 0) → Answer (Step G O) → ℕ → Type 0
+  NeededBy shows (Done (Finished outcome)) = λ now. Unit {0}
+  NeededBy shows (Done (Misused misuse)) = λ now. Unit {0}
+  NeededBy shows (Done (Waits later)) = shows
+  NeededBy shows (Done (Next later)) = shows
+  NeededBy shows (Done Never) = λ now. Unit {0}
+  NeededBy shows (Halted misuse) = shows
+
+module _ {G E : Type 0} (event_of : G → ℕ → E) (moment : E → Option ℕ) (shows : ℕ → Type 0) (stage : G) where
+  -- it is the stage's event, at a moment that the clock may show
+  abbrev pub IsClocked : E → Type 0
+  IsClocked event = IsEventOf event_of stage event × IsAt shows (moment event)
+
+module _ {S E R G O : Type 0} (next : S → ℕ → E → S × R) (event_of : G → ℕ → E) (moment : E → Option ℕ) (meaning : G → R → Step G O) (shows : ℕ → Type 0) (stage : G) where
+  -- it is the stage's event, at a moment that the clock may show, or at any where the call ends with it, whoever makes it in this state
+  abbrev pub IsMadeByNeed : S → E → Type 0
+  IsMadeByNeed state event = IsEventOf event_of stage event × (IsAt shows (moment event) ⊎ ((caller : ℕ) → EndsCall (meaning stage (next state caller event).1)))
+
+module _ {E R : Type 0} (moment : E → Option ℕ) (shows : ℕ → Type 0) where
+  -- The moments of a call that reads the clock where it needs to. They are the clock's, but for the moment of an event that the machine took and that is the call's only one.
+  abbrev pub AreTimelyByNeed : List (Deed E R) → Type 0
+  AreTimelyByNeed [] = Unit {0}
+  AreTimelyByNeed (Event event reply ∷ []) = Unit {0}
+  AreTimelyByNeed (Event event reply ∷ (deed ∷ rest)) = AreTimely moment shows (Event event reply ∷ (deed ∷ rest))
+  AreTimelyByNeed (Refused event misuse ∷ rest) = AreTimely moment shows (Refused event misuse ∷ rest)
+  AreTimelyByNeed (Halt misuse ∷ rest) = AreTimely moment shows (Halt misuse ∷ rest)

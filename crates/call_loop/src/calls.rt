@@ -98,7 +98,7 @@ pub fn call_within<P: Protocol + Worded, N: Note, C: Clock, R: Wait>(
 // Goes on with a call whose first stage didn't end it. It stands apart, so that a call that ends with its first stage, as most
 // do, is compiled for that stage alone.
 #[inline(never)]
-fn go_on<P: Protocol + Worded, N: Note, C: Clock, R: Wait>(
+pub(crate) fn go_on<P: Protocol + Worded, N: Note, C: Clock, R: Wait>(
     object: &Object<P, N>,
     rt: &R,
     at: &At<N, C>,
