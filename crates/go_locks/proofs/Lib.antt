@@ -2,3 +2,4 @@ pub mod CallSpelling
 pub mod MutexSpelling
 pub mod RwSpelling
 pub mod Logs
+pub mod Newcomers

@@ -55,8 +55,14 @@ IsTimed shows Try = Unit {0}
 IsTimed shows Unlock = Unit {0}
 IsTimed shows (Woken now) = shows now
 
+-- That is so of each deed, but for an arrival by which the mutex is acquired at once: its moment decides nothing, and may be any.
 abbrev pub IsClocked : (ℕ → Type 0) → MutexDeed → Type 0
-IsClocked shows (Event event reply) = IsTimed shows event
+IsClocked shows (Event event (Arrived AtOnce)) = Unit {0}
+IsClocked shows (Event event (Arrived (Queued _))) = IsTimed shows event
+IsClocked shows (Event event (Tried _)) = IsTimed shows event
+IsClocked shows (Event event (Unlocked _)) = IsTimed shows event
+IsClocked shows (Event event (Resumed _)) = IsTimed shows event
+IsClocked shows (Event event Still) = IsTimed shows event
 IsClocked shows (Refused event misuse) = IsTimed shows event
 IsClocked shows (Halt misuse) = Unit {0}
 

@@ -6,6 +6,7 @@ ghost use Rattle.sync_model.specs.declared.journal.Deed.TheVariants.{Event};
 ghost use Rattle.sync_model.specs.declared.journal.Entry.{Entry};
 ghost use Rattle.sync_model.specs.Journal.{log_of, state_after, Follows};
 ghost use Rattle.mutex_core.specs.declared.event.MutexEvent.{MutexEvent};
+ghost use Rattle.mutex_core.specs.declared.reply.Arrival.{Arrival};
 ghost use Rattle.mutex_core.specs.declared.reply.MutexReply.{MutexReply};
 ghost use Rattle.mutex_core.specs.MutexMachine as mutex;
 ghost use Rattle.mutex_core.specs.HandOff.{HandsOff};
@@ -30,6 +31,14 @@ pub fn mutual_exclusion()
     journal_is_log::<MutexCore>();
     mutex_core::laws::mutual_exclusion();
 }
+
+/// The moment of an arrival by which a caller acquires the mutex decides nothing: at any other moment the machine would have
+/// answered the same, and come to the same state.
+pub fn a_newcomers_moment_decides_nothing()
+    ensures { (state : mutex.State) (caller now other : ℕ)
+        → (mutex.next state caller (MutexEvent.Arrive now)).1 ≡ MutexReply.Arrived Arrival.Acquired
+        → mutex.next state caller (MutexEvent.Arrive other) ≡ mutex.next state caller (MutexEvent.Arrive now) }
+{}
 
 /// In starvation mode an unlock hands the mutex to the foremost waiter: nobody else acquires it, however fast, and
 /// where the mutex isn't halted before, the waiter has it as soon as it goes on.

@@ -14,7 +14,7 @@ ghost use Rattle.go_locks.specs.MutexCalls.{Locks, Tries, Unlocks, AreClocked};
 
 use super::{Mutex, MutexPass};
 use crate::answers::{locked, tried, unlocked};
-use call_loop::call;
+use call_loop::{call, call_by_need};
 use protocols::MutexStage;
 use std::sync::Wait;
 use sync_model::{Answer, Note};
@@ -25,6 +25,9 @@ impl<N: Note> Mutex<N> {
     /// Go's `Lock`: waits until the caller has the mutex. It answers `Halted` exactly where the mutex was halted before.
     ///
     /// Each earlier `unlock` is synchronized before it, but where it is answered `Halted`: then its note knows what it knew.
+    ///
+    /// It reads the clock where its arrival is queued or refused, and each time that it goes on, and not where it has the mutex
+    /// at once.
     pub fn lock<C: Clock, R: Wait>(
         &self,
         rt: &R,
@@ -42,7 +45,7 @@ impl<N: Note> Mutex<N> {
         ensures journal { IsLawful next true (λ event reply. releases reply) (λ event reply. acquires reply) (mutex_start self.now) pass.new }
         ensures turns { NeedsNoTurn next true is_uncontended (mutex_start self.now) pass.old (N.front note.old) pass.new (N.front note.new) }
     {
-        locked(call(&self.object, rt, at, pass, note, MutexStage::Lock))
+        locked(call_by_need(&self.object, rt, at, pass, note, MutexStage::Lock))
     }
 
     /// Go's `TryLock`: whether the caller has the mutex, which it has exactly where an arrival would get it at once.
