@@ -20,7 +20,7 @@ use Rattle.sync_model.specs.Shared.{IsMapCall, values_of}
 use Rattle.workload.specs.declared.object.ObjectLine.{ObjectLine}
 use Rattle.workload.specs.CallWords.{map_values}
 use Rattle.workload.specs.Draft.{all_keys, is_call, is_map_call, is_value, keys_of, operation_keys}
-use Rattle.workload.specs.Keys.{number_in, key_number}
+use Rattle.workload.specs.Keys.{number_in, key_number, map_call_number}
 use Rattle.workload.specs.Plan.{Plan, is_on, is_turn, refers, is_valid, starts_dormant}
 use Rattle.workload.specs.Readable.{IsReadable}
 use Rattle.thread_runner.specs.Sites.{IsScripted}
@@ -128,6 +128,18 @@ number_within keys name at any =
 -- values that may stand in a text are below 2^63
 values_fit : (values : List ℕ) (i value : ℕ) → list_all is_value values ≡ true → slice_get values i ≡ Some value → value < 2 ^ 63
 values_fit values i value all at = omega (arith, leb-true value MAX_VALUE (all_at is_value values i value all at))
+
+-- the call with its key's number is the call with its key renamed
+pub by_its_number : (keys : List (List ℕ)) (number : ℕ) (call : MapCall (List ℕ)) → number ≡ map_call_number keys call → renamed_call (λ (name : List ℕ). number) call ≡ renamed_call (key_number keys) call
+by_its_number keys number (Load name) is = ap (λ (key : ℕ). Load key) is
+by_its_number keys number (Store name value) is = ap (λ (key : ℕ). Store key value) is
+by_its_number keys number (LoadOrStore name value) is = ap (λ (key : ℕ). LoadOrStore key value) is
+by_its_number keys number (LoadAndDelete name) is = ap (λ (key : ℕ). LoadAndDelete key) is
+by_its_number keys number (Delete name) is = ap (λ (key : ℕ). Delete key) is
+by_its_number keys number (Swap name value) is = ap (λ (key : ℕ). Swap key value) is
+by_its_number keys number (CompareAndSwap name old new) is = ap (λ (key : ℕ). CompareAndSwap key old new) is
+by_its_number keys number (CompareAndDelete name old) is = ap (λ (key : ℕ). CompareAndDelete key old) is
+by_its_number keys number Clear is = refl
 
 module _ (keys : List (List ℕ)) (takes : ℕ → Type 0) (each : (key : ℕ) → key < length keys → takes key) where
   key_taken : (name : List ℕ) (key : ℕ) → key_number keys name < length keys → Some (key_number keys name) ≡ Some key → takes key

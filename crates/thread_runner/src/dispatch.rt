@@ -7,7 +7,7 @@ ghost use Rattle.sync_model.specs.Note.{SameHome};
 ghost use Rattle.sync_model.specs.Shared.{IsCallerAt, items_of};
 ghost use Rattle.workload.specs.declared.object.ObjectKind.TheVariants.{Pool};
 ghost use Rattle.workload.specs.Draft.{all_keys, is_operation, operation_keys};
-ghost use Rattle.workload.specs.Keys.{keys_in};
+ghost use Rattle.workload.specs.Keys.{keys_in, call_number, operation_number};
 ghost use Rattle.workload.specs.Plan.{has_among, refers, starts_dormant};
 ghost use Rattle.run_record.specs.Calls.{SpellsCall, call_on};
 ghost use Rattle.run_record.specs.Limits.{IsCallOf};
@@ -77,7 +77,7 @@ fn first_part_of<S: Shared>(site: &Site<S>, place: usize) -> usize
     part_behind(lines.len(), pools, workers)
 }
 
-// Makes a call on the object at a place, which is of this kind and has the call.
+// Makes a call on the object at a place, which is of this kind and has the call. The number is that of the call's key.
 fn call_at<S: Shared, C: Clock, R: Wait>(
     rt: &R,
     site: &Site<S>,
@@ -88,6 +88,7 @@ fn call_at<S: Shared, C: Clock, R: Wait>(
     place: usize,
     kind: ObjectKind,
     operation: &Operation,
+    number: u32,
 ) -> Option<CallAnswer>
     requires site { IsSite S.Mark.at worker.now.at.home.now site.now.catalog.workload.now (S.maps site.now.catalog.shared.now) (S.kinds site.now.catalog.shared.now) (S.takes site.now.catalog.shared.now) site.now.objects.now site.now.catalog.numbers.now }
     requires homes { S.home_of site.now.catalog.shared.now ≡ worker.now.at.home.now }
@@ -98,6 +99,7 @@ fn call_at<S: Shared, C: Clock, R: Wait>(
     requires reference { refers site.now.catalog.workload.now.objects kind ≡ true }
     requires dormant { starts_dormant site.now.catalog.workload.now.dormant operation.now ≡ true }
     requires ranged { is_operation operation.now ≡ true }
+    requires number { number ≡ operation_number (keys_in site.now.catalog.workload.now.scripts) operation.now }
     requires keys { (name : List ℕ) → list_any (bytes_eq name) (operation_keys operation.now) ≡ true → list_any (bytes_eq name) (all_keys site.now.catalog.workload.now.scripts) ≡ true }
     requires caller { IsCallerAt S.Mark.at S.Mark.own worker.now.at.home.now caller.old }
     requires spare { ForSome (S.Mark.own caller.old.note) (λ holding. operation_cost operation.now ≤ holding.spare) }
@@ -117,7 +119,7 @@ fn call_at<S: Shared, C: Clock, R: Wait>(
     objects_are_of_their_kinds::<S::Mark>();
     only_variables_are_read_and_written();
     match operation {
-        Operation::Map(call) => Some(map_at(rt, site, caller, place, call)),
+        Operation::Map(call) => Some(map_at(rt, site, caller, place, call, number)),
         Operation::Atomic(call) => Some(atomic_at(rt, &site.catalog, caller, place, *call)),
         Operation::Composed(call) => Some(composed_at(
             rt, site, worker, caller, passes, place, kind, *call,
@@ -159,9 +161,9 @@ fn call_at<S: Shared, C: Clock, R: Wait>(
     }
 }
 
-/// Makes a call of the worker's script. It may wait for other workers. `None`, where it has seen what can't be, and gives the call
-/// up: a `range` that shows more pairs than the workload has keys, or an int64 that answers by a number of another type. What all
-/// workers did shows that neither was, once they have ended.
+/// Makes a call of the worker's script; the number is that of its key. It may wait for other workers. `None`, where it has seen what
+/// can't be, and gives the call up: a `range` that shows more pairs than the workload has keys, or an int64 that answers by a number
+/// of another type. What all workers did shows that neither was, once they have ended.
 pub(crate) fn make_call<S: Shared, C: Clock, R: Wait>(
     rt: &R,
     site: &Site<S>,
@@ -170,11 +172,13 @@ pub(crate) fn make_call<S: Shared, C: Clock, R: Wait>(
     passes: &mut [AnyPass<S::Mark>],
     rooms: &mut Vec<BoundedSeq<(u32, u64)>>,
     call: &Call,
+    number: u32,
 ) -> Option<CallAnswer>
     requires site { IsSite S.Mark.at worker.now.at.home.now site.now.catalog.workload.now (S.maps site.now.catalog.shared.now) (S.kinds site.now.catalog.shared.now) (S.takes site.now.catalog.shared.now) site.now.objects.now site.now.catalog.numbers.now }
     requires homes { S.home_of site.now.catalog.shared.now ≡ worker.now.at.home.now }
     requires workers { site.now.catalog.workload.now.workers ≡ worker.now.workers }
     requires call { IsScripted site.now.catalog.workload.now worker.now.number call.now }
+    requires number { number ≡ call_number (keys_in site.now.catalog.workload.now.scripts) call.now }
     requires caller { IsCallerAt S.Mark.at S.Mark.own worker.now.at.home.now caller.old }
     requires spare { ForSome (S.Mark.own caller.old.note) (λ holding. cost_of_call call.now ≤ holding.spare) }
     requires seats { AreSeats S.Mark.at worker.now.at.home.now worker.now.workers worker.now.number site.now.objects.now passes.old }
@@ -203,5 +207,6 @@ pub(crate) fn make_call<S: Shared, C: Clock, R: Wait>(
         call.object,
         kind,
         operation,
+        number,
     )
 }

@@ -8,7 +8,7 @@ ghost use Rattle.sync_types.specs.SequentialMap.{map_key};
 ghost use Rattle.sync_model.specs.Shared.{cost_of, IsCallerAt, items_of};
 ghost use Rattle.workload.specs.declared.object.ObjectKind.TheVariants.{Map};
 ghost use Rattle.workload.specs.Draft.{all_keys, is_map_call};
-ghost use Rattle.workload.specs.Keys.{keys_in};
+ghost use Rattle.workload.specs.Keys.{keys_in, map_call_number};
 ghost use Rattle.run_record.specs.Limits.{IsCallOf};
 ghost use Rattle.run_record.specs.MapKind.{map_call, range_call};
 ghost use Rattle.run_record.specs.Objects.{map_number};
@@ -27,18 +27,20 @@ use sync_types::{BoundedSeq, MapCall, Name};
 use thread_objects::{CallAnswer, call_map, call_range};
 use workload::laws::keys_are_numbered_by_first_appearance;
 
-/// Makes a call on the map at a place. It may wait for other callers.
+/// Makes a call on the map at a place; the number is that of its key. It may wait for other callers.
 pub(crate) fn map_at<S: Shared, R: Wait>(
     rt: &R,
     site: &Site<S>,
     caller: &mut Caller<S::Mark>,
     place: usize,
     call: &MapCall<Name>,
+    number: u32,
 ) -> CallAnswer
     requires site { IsSite S.Mark.at (S.home_of site.now.catalog.shared.now) site.now.catalog.workload.now (S.maps site.now.catalog.shared.now) (S.kinds site.now.catalog.shared.now) (S.takes site.now.catalog.shared.now) site.now.objects.now site.now.catalog.numbers.now }
     requires place { IsAt site.now.catalog.workload.now place Map }
     requires caller { IsCallerAt S.Mark.at S.Mark.own (S.home_of site.now.catalog.shared.now) caller.old }
     requires call { is_map_call call.now ≡ true }
+    requires number { number ≡ map_call_number (keys_in site.now.catalog.workload.now.scripts) call.now }
     requires key { (name : List ℕ) → map_key call.now ≡ Some name → list_any (bytes_eq name) (all_keys site.now.catalog.workload.now.scripts) ≡ true }
     requires spare { ForSome (S.Mark.own caller.old.note) (λ holding. cost_of call.now ≤ holding.spare) }
     ensures home { SameHome S.Mark.at caller.old.note caller.new.note }
@@ -48,7 +50,7 @@ pub(crate) fn map_at<S: Shared, R: Wait>(
 {
     keys_are_numbered_by_first_appearance();
     let map = site.catalog.numbers[place];
-    let by_number = numbered(site.catalog.workload.keys(), call);
+    let by_number = numbered(number, call);
     call_map(rt, site.catalog.shared, caller, map, by_number)
 }
 

@@ -86,11 +86,13 @@ fn make_calls<S: Shared, C: Clock, G: Gate, R: Wait>(
     a_run_goes_along_by_places();
     runs_go_on::<u32>();
     let script = site.catalog.workload.script(worker.number);
+    let numbers = site.catalog.workload.key_numbers(worker.number);
     let mut place = 0;
     while place < script.len() {
         gate.before(rt, worker.number, place as u32);
         let call = &script[place];
-        let answer = make_call(rt, site, worker, caller, passes, rooms, call);
+        let number = numbers[place];
+        let answer = make_call(rt, site, worker, caller, passes, rooms, call, number);
         gate.after(rt, worker.number, place as u32);
         match answer {
             None => return None,
