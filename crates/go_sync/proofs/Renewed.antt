@@ -53,3 +53,8 @@ made_again next halts start spells old mid new answer same made = record {
   spelt = made.spelt;
   halted = made.halted;
 }
+
+-- the note that the call began with was a new one
+pub did_fresh : {S N E R A : Type 0} (next : S → ℕ → E → S × R) (start : S) (spells : List (Deed E R) → Answer A → Type 0) (clocked : List (Deed E R) → Type 0) (old new : Pass S N E R) (first last : ℕ) (answer : Answer A)
+    → first ≡ 0 → Did next start spells clocked old (no_front first) answer new (no_front last) → (time : ℕ) × Did next start spells clocked old (no_front 0) answer new (no_front time)
+did_fresh next start spells clocked old new first last answer fresh did = (last, subst (λ t. Did next start spells clocked old (no_front t) answer new (no_front last)) fresh did)

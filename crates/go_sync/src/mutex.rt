@@ -4,7 +4,6 @@ ghost use Rattle.go_locks.specs.Mutexes.{IsPassOfMutex};
 
 mod calls;
 
-pub(crate) use calls::ready_for_lock;
 use go_locks::{Mutex, MutexPass};
 use ruled_object::MAX_CALLS;
 use std::alloc::{AllocError, Global};

@@ -1,7 +1,8 @@
-//! `unlock` and `lock` as parts of a longer call, which takes one off the calls that are left: a cond's `wait`.
-ghost use Rattle.std.specs.Prelude.{◌≡◌, ◌<◌, true};
+//! `lock`, `try_lock` and `unlock` that take nothing off the calls that are left: for a longer call, which takes one off for all its
+//! parts, as a cond's `wait`, and for who counts no calls.
+ghost use Rattle.std.specs.Prelude.{◌≡◌, ◌≢◌, ◌<◌, true};
 ghost use Rattle.sync_types.specs.declared.misuse.Misuse.{Misuse};
-ghost use Rattle.sync_model.specs.declared.answer.Answer.TheVariants.{Halted};
+ghost use Rattle.sync_model.specs.declared.answer.Answer.TheVariants.{Done, Halted};
 ghost use Rattle.sync_model.specs.Front.{SameCounts};
 ghost use Rattle.mutex_core.specs.Edges.{acquires, releases};
 ghost use Rattle.mutex_core.specs.MutexMachine.{next};
@@ -10,10 +11,10 @@ ghost use Rattle.ruled_object.specs.Growth.{IsLawful, KeepsNote, NeedsNoTurn};
 ghost use Rattle.ruled_object.specs.Passes.{left_of, IsSpent, SamePass};
 ghost use Rattle.go_locks.specs.Calls.{Did};
 ghost use Rattle.go_locks.specs.Mutexes.{mutex_start, IsHomeOfMutex, IsPassOfMutex};
-ghost use Rattle.go_locks.specs.MutexCalls.{Locks, Unlocks, AreClocked};
+ghost use Rattle.go_locks.specs.MutexCalls.{Locks, Tries, Unlocks, AreClocked};
 
 use super::{Mutex, MutexPass};
-use crate::answers::{locked, unlocked};
+use crate::answers::{locked, tried, unlocked};
 use call_loop::{call_within, call_within_by_need};
 use protocols::MutexStage;
 use std::sync::Wait;
@@ -48,6 +49,26 @@ impl<N: Note> Mutex<N> {
         ensures turns { NeedsNoTurn next true is_uncontended (mutex_start self.now) pass.old (N.front note.old) pass.new (N.front note.new) }
     {
         locked(call_within_by_need(&self.object, rt, at, pass, note, MutexStage::Lock))
+    }
+
+    /// The event of `try_lock`, and its answer. It takes nothing off the calls that are left.
+    pub fn try_lock_within<C: Clock, R: Wait>(
+        &self,
+        rt: &R,
+        at: &At<N, C>,
+        pass: &mut MutexPass<N>,
+        note: &mut N,
+    ) -> Answer<bool>
+        requires pass { IsPassOfMutex self.now pass.old }
+        requires home { IsHomeOfMutex N.at self.now at.now.home.now × N.at at.now.home.now note.old }
+        ensures pass { IsPassOfMutex self.now pass.new × SamePass pass.old pass.new }
+        ensures note { KeepsNote N.at N.own N.front note.old note.new }
+        ensures events { Did next (mutex_start self.now) Tries (AreClocked (C.shows at.now.clock.now)) pass.old (N.front note.old) result pass.new (N.front note.new) }
+        ensures no_edge { result ≢ Done true → SameCounts (N.front note.new) (N.front note.old) }
+        ensures journal { IsLawful next true (λ event reply. releases reply) (λ event reply. acquires reply) (mutex_start self.now) pass.new }
+        ensures turns { NeedsNoTurn next true is_uncontended (mutex_start self.now) pass.old (N.front note.old) pass.new (N.front note.new) }
+    {
+        tried(call_within(&self.object, rt, at, pass, note, MutexStage::TryLock))
     }
 
     /// The event of `unlock`, and its answer. It takes nothing off the calls that are left.

@@ -1,5 +1,6 @@
 //! The calls of a cond's caller.
 ghost use Rattle.std.specs.Prelude.{◌<◌};
+ghost use Rattle.go_locks.specs.Mutexes.{IsPassOfMutex};
 ghost use Rattle.wait_cores.specs.declared.notify.NotifyEvent.{NotifyEvent};
 ghost use Rattle.go_waits.specs.Conds.{IsPassOf};
 ghost use Rattle.ruled_object.specs.Passes.{left_of};
@@ -7,7 +8,8 @@ ghost use Rattle.go_sync.specs.CondCallers.{Notifies, Waited};
 ghost use Rattle.go_sync.specs.Renewing.{IsSame};
 
 use super::CondCaller;
-use crate::mutex::{MutexCaller, ready_for_lock};
+use crate::mutex::MutexCaller;
+use go_locks::{Mutex, MutexPass};
 use go_waits::{Cond, CondPass};
 use ruled_object::MAX_CALLS;
 use std::sync::Wait;
@@ -23,6 +25,17 @@ fn ready(cond: &Cond<NoNote>, pass: &mut CondPass<NoNote>)
 {
     if pass.left() == 0 {
         cond.renew(pass, MAX_CALLS);
+    }
+}
+
+// The same of a pass to the mutex.
+fn ready_for_lock(mutex: &Mutex<NoNote>, pass: &mut MutexPass<NoNote>)
+    requires { IsPassOfMutex mutex.now pass.old }
+    ensures pass { IsPassOfMutex mutex.now pass.new × (0 < left_of pass.new) }
+    ensures same { IsSame pass.old pass.new }
+{
+    if pass.left() == 0 {
+        mutex.renew(pass, MAX_CALLS);
     }
 }
 

@@ -1,42 +1,26 @@
 //! The calls of a mutex's caller.
-ghost use Rattle.std.specs.Prelude.{◌≡◌, ◌<◌};
 ghost use Rattle.go_locks.specs.MutexCalls.{Locks, Tries, Unlocks};
-ghost use Rattle.go_locks.specs.Mutexes.{IsPassOfMutex};
-ghost use Rattle.ruled_object.specs.Passes.{left_of};
 ghost use Rattle.go_sync.specs.MutexCallers.{LocksSoon, Makes};
-ghost use Rattle.go_sync.specs.Renewing.{IsSame};
 
 use super::MutexCaller;
-use go_locks::{Mutex, MutexPass};
-use ruled_object::MAX_CALLS;
 use std::sync::Wait;
 use sync_model::{Answer, NoNote};
 use sync_outside::{At, Clock};
 use sync_types::Misuse;
 
-// A pass that is good for a call: where none is left it is renewed.
-pub(crate) fn ready_for_lock(mutex: &Mutex<NoNote>, pass: &mut MutexPass<NoNote>)
-    requires { IsPassOfMutex mutex.now pass.old }
-    ensures pass { IsPassOfMutex mutex.now pass.new × (0 < left_of pass.new) }
-    ensures same { IsSame pass.old pass.new }
-{
-    if pass.left() == 0 {
-        mutex.renew(pass, MAX_CALLS);
-    }
-}
-
+// No call is taken off those that the pass is good for, so it never has to be renewed.
 impl<C: Clock> MutexCaller<'_, C> {
     /// Go's `Lock`: waits until the caller has the mutex. `lock_soon` is quicker where the mutex is mostly free.
-    #[tactic(auto, using(crate::proofs::Renewed::did_so))]
+    #[tactic(auto, using(crate::proofs::Renewed::did_fresh))]
     pub fn lock<R: Wait>(&mut self, rt: &R) -> Answer<()>
         ensures { Makes Locks (C.shows self.old.clock.now) self.old result self.new }
     {
-        ready_for_lock(self.mutex, &mut self.pass);
         let at: At<NoNote, C> = At {
             home: &(),
             clock: self.clock,
         };
-        self.mutex.lock(rt, &at, &mut self.pass, &mut NoNote::new())
+        self.mutex
+            .lock_within(rt, &at, &mut self.pass, &mut NoNote::new())
     }
 
     /// Go's `Lock`, by a try first: where the mutex is free no clock is read.
@@ -50,30 +34,28 @@ impl<C: Clock> MutexCaller<'_, C> {
     }
 
     /// Go's `TryLock`: whether the caller has the mutex, which it has exactly where it was free and nobody waits before it.
-    #[tactic(auto, using(crate::proofs::Renewed::did_so))]
+    #[tactic(auto, using(crate::proofs::Renewed::did_fresh))]
     pub fn try_lock<R: Wait>(&mut self, rt: &R) -> Answer<bool>
         ensures { Makes Tries (C.shows self.old.clock.now) self.old result self.new }
     {
-        ready_for_lock(self.mutex, &mut self.pass);
         let at: At<NoNote, C> = At {
             home: &(),
             clock: self.clock,
         };
         self.mutex
-            .try_lock(rt, &at, &mut self.pass, &mut NoNote::new())
+            .try_lock_within(rt, &at, &mut self.pass, &mut NoNote::new())
     }
 
     /// Go's `Unlock`. Of a mutex that isn't locked it is a misuse, which it answers, and nothing changes.
-    #[tactic(auto, using(crate::proofs::Renewed::did_so))]
+    #[tactic(auto, using(crate::proofs::Renewed::did_fresh))]
     pub fn unlock<R: Wait>(&mut self, rt: &R) -> Answer<Result<(), Misuse>>
         ensures { Makes Unlocks (C.shows self.old.clock.now) self.old result self.new }
     {
-        ready_for_lock(self.mutex, &mut self.pass);
         let at: At<NoNote, C> = At {
             home: &(),
             clock: self.clock,
         };
         self.mutex
-            .unlock(rt, &at, &mut self.pass, &mut NoNote::new())
+            .unlock_within(rt, &at, &mut self.pass, &mut NoNote::new())
     }
 }
