@@ -1,12 +1,19 @@
-//! What one thread hands in, another one finds.
+//! Four threads each store a result in one map, and are done. A fifth waits for all four, and reads what they stored: what one hands in, the other one finds.
 ghost use Rattle.std.specs.Prelude.{◌≡◌, ◌<◌, ◌^◌, true, IfSome};
-ghost use Rattle.gathered_results.specs.Results.{FindsResults, HandsIn};
+ghost use Rattle.library_programs.specs.Results.{FindsResults, HandsIn};
 
+use std::alloc::Global;
 use std::sync::Wait;
+use std::thread::{Threads, map_vec};
+use std::{io, rt};
 use synced_map::laws::what_was_stored_before_is_found_after;
-use synced_map::{Answer, Clock, SyncedMapCaller};
+use synced_map::{Answer, Clock, SyncedMap, SyncedMapCaller};
+use system_io::SystemClock;
 
-/// What one thread works with. Those of number 0 to 3 work, and the last one reads.
+/// How many threads work.
+const WORKERS: u32 = 4;
+
+/// What one thread works with. Those whose number is below `WORKERS` work, and the last one reads.
 #[derive(Drop)]
 pub struct Worker<'a, C: Clock> {
     pub map: SyncedMapCaller<'a, C>,
@@ -16,13 +23,13 @@ pub struct Worker<'a, C: Clock> {
 impl<C: Clock> Worker<'_, C> {
     /// The sum of all results, for the one who reads.
     pub fn run<R: Wait>(&mut self, rt: &R) -> Option<u64> {
-        if self.number < 4 {
+        if self.number < WORKERS {
             let result = work(self.number);
             hand_in(rt, &mut self.map, self.number, result);
             return None;
         }
         let mut sum: u64 = 0;
-        for number in 0..4 {
+        for number in 0..WORKERS {
             let result = collect(rt, &mut self.map, number)?;
             sum = sum.wrapping_add(result?);
         }
@@ -72,4 +79,23 @@ pub fn collect<C: Clock, R: Wait>(
         return None;
     };
     Some(map.get(rt, number))
+}
+
+/// Hands all results in, and prints their sum.
+pub fn run<R: Threads + Wait + Print + rt::Clock + Sync>(rt: &R, alloc: Global) -> io::Result<()> {
+    let clock = SystemClock::new(rt);
+    let (map, passes) = SyncedMap::new(alloc, WORKERS + 1, 10, WORKERS as i32)?;
+    let mut callers = map.callers(alloc, &clock, passes)?;
+    let mut workers = Vec::new(alloc);
+    for number in 0..WORKERS + 1 {
+        if let Some(map) = callers.pop() {
+            workers.push(Worker { map, number })?;
+        }
+    }
+    for found in map_vec(rt, workers, &|mut worker: Worker<_>| worker.run(rt))? {
+        if let Some(sum) = found {
+            println!(rt; "{sum}")?;
+        }
+    }
+    Ok(())
 }

@@ -1,12 +1,10 @@
 //! One thread fills a queue and three empty it, as Go does by a mutex and a cond. What is printed is the sum of all they took.
-#![tactic(auto)]
-
 use go_sync::{Clock, CondCaller, Guarded, GuardedCaller, cond_callers, new_cond};
-use std::alloc::AllocError;
+use std::alloc::{AllocError, Global};
 use std::collections::VecDeque;
-use std::io;
 use std::sync::Wait;
-use std::thread::map_vec;
+use std::thread::{Threads, map_vec};
+use std::{io, rt};
 use system_io::SystemClock;
 
 /// The jobs that nobody has taken yet, and whether no more will come.
@@ -59,9 +57,9 @@ impl<C: Clock> Worker<'_, '_, C> {
     }
 }
 
-fn main(rt: HostRuntime) -> io::Result<()> {
-    let alloc = rt.alloc();
-    let clock = SystemClock::new(&rt);
+/// Fills and empties the queue, and prints the sum.
+pub fn run<R: Threads + Wait + Print + rt::Clock + Sync>(rt: &R, alloc: Global) -> io::Result<()> {
+    let clock = SystemClock::new(rt);
     let (jobs, closed) = (VecDeque::new(alloc), false);
     let (queue, passes) = Guarded::new(alloc, 4, Queue { jobs, closed })?;
     let mut queues = queue.callers(alloc, &clock, passes)?;
@@ -75,7 +73,7 @@ fn main(rt: HostRuntime) -> io::Result<()> {
         }
     }
     let mut sum: u64 = 0;
-    for taken in map_vec(&rt, workers, &|mut worker: Worker<_>| worker.run(&rt))? {
+    for taken in map_vec(rt, workers, &|mut worker: Worker<_>| worker.run(rt))? {
         sum = sum.wrapping_add(taken?);
     }
     println!(rt; "{sum}")

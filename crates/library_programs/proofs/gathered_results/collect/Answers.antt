@@ -5,7 +5,7 @@ use Rattle.sync_types.specs.declared.map_object.MapReply.TheVariants.{Done, Foun
 use Rattle.sync_model.specs.Journal.{Begins}
 use Rattle.ruled_object.specs.Passes.{seen_by}
 use Rattle.go_map.specs.Maps.{MakesCall}
-use Rattle.gathered_results.proofs.results.collect.Goals as goal
+use Rattle.library_programs.proofs.gathered_results.collect.Goals as goal
 
 pub returns : goal.returns
 returns g c =

@@ -4,7 +4,7 @@ use Rattle.wait_cores.specs.GroupEdges.{group_releases}
 use Rattle.shared_table.specs.Notes.{counts_by, IsNoteOf}
 use Rattle.synced_map.specs.SyncedCalls.{CallsIf}
 use Rattle.synced_map.specs.Telling.{Tells}
-use Rattle.gathered_results.proofs.results.hand_in.Goals as goal
+use Rattle.library_programs.proofs.gathered_results.hand_in.Goals as goal
 
 pub returns : goal.returns
 returns g c = λ is_true.

@@ -1,5 +1,5 @@
 use Rattle.std.specs.Prelude.{◌≡◌, ◌+◌, ◌*◌, vec_len}
-use Rattle.exact_counter.proofs.counter.run.Given as goal
+use Rattle.library_programs.proofs.exact_counter.count_hits.Given as goal
 
 abbrev pub invariant-loop-i : goal.invariant-loop-i
 invariant-loop-i g l = (l.all.parts + l._i ≡ l.threads + 1) × (l.all.amount + l._i * l.each ≡ l.threads * l.each) × (vec_len l.workers ≡ l._i)

@@ -1,16 +1,14 @@
 //! Four threads look up values in one cache, which they read together. What isn't there is worked out by one thread for all who come for it, and what the
 //! work needs is set up once.
-#![tactic(auto)]
-
 use go_sync::{
     Answer, Clock, FlightCaller, OnceValueCaller, RwGuarded, RwGuardedCaller, flight_callers,
     new_flights, new_once_value, once_value_callers,
 };
-use std::alloc::AllocError;
+use std::alloc::{AllocError, Global};
 use std::collections::BTreeMap;
-use std::io;
 use std::sync::Wait;
-use std::thread::map_vec;
+use std::thread::{Threads, map_vec};
+use std::{io, rt};
 use system_io::SystemClock;
 
 /// How many keys each thread looks up.
@@ -72,9 +70,9 @@ fn work(base: i64, key: u32) -> i64 {
     base.wrapping_add(i64::from(key))
 }
 
-fn main(rt: HostRuntime) -> io::Result<()> {
-    let alloc = rt.alloc();
-    let clock = SystemClock::new(&rt);
+/// Looks all keys up, and prints each thread's sum and how many keys the cache then has.
+pub fn run<R: Threads + Wait + Print + rt::Clock + Sync>(rt: &R, alloc: Global) -> io::Result<()> {
+    let clock = SystemClock::new(rt);
     let (cache, passes) = RwGuarded::new(alloc, 4, BTreeMap::new(alloc))?;
     let mut caches = cache.callers(alloc, &clock, passes)?;
     let (base, passes) = new_once_value(alloc, 4)?;
@@ -95,7 +93,7 @@ fn main(rt: HostRuntime) -> io::Result<()> {
             })?;
         }
     }
-    for sum in map_vec(&rt, workers, &|mut worker: Worker<_>| worker.run(&rt))? {
+    for sum in map_vec(rt, workers, &|mut worker: Worker<_>| worker.run(rt))? {
         let sum = sum?;
         println!(rt; "{sum}")?;
     }

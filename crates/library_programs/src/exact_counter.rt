@@ -1,4 +1,4 @@
-//! A counter that is its threads' hits, together.
+//! Four threads add to one counter under a mutex, and what it ends at is proved: each thread's number, together.
 ghost use Rattle.std.specs.Prelude.{◌≡◌, ℕ, ◌+◌, ◌*◌, ◌<◌, ◌≤◌, ◌^◌, IfOk, IfSome};
 ghost use Rattle.std.specs.Thread.{IsSync};
 
@@ -8,6 +8,8 @@ use std::marker::Brand;
 use std::sync::Wait;
 use std::sync::ledger::{Blank, Book, Ledger, Share};
 use std::thread::{Threads, map_vec};
+use std::{io, rt};
+use system_io::SystemClock;
 
 /// A count to come.
 pub trait Job: Ledger {
@@ -98,7 +100,8 @@ fn work<J: Job, C: Clock, R: Wait>(rt: &R, worker: Worker<J, C>) -> Option<Spent
     Some(Spent { share })
 }
 
-fn run<J: Job + Send + Sync, C: Clock + Sync, R: Threads + Wait + Sync>(
+// The counter, its callers and their tickets. All parts of the ledger are back at the end.
+fn count_hits<J: Job + Send + Sync, C: Clock + Sync, R: Threads + Wait + Sync>(
     rt: &R,
     alloc: Global,
     clock: &C,
@@ -157,7 +160,7 @@ pub fn count<C: Clock + Sync, R: Threads + Wait + Sync>(
     requires { (0 < threads) × (threads ≤ 64) }
     ensures { IfOk result (λ total. IfSome total (λ n. n ≡ threads * each)) }
 {
-    run::<Brand, C, R>(
+    count_hits::<Brand, C, R>(
         rt,
         alloc,
         clock,
@@ -165,4 +168,13 @@ pub fn count<C: Clock + Sync, R: Threads + Wait + Sync>(
         threads,
         each,
     )
+}
+
+/// Counts, and prints the total.
+pub fn run<R: Threads + Wait + Print + rt::Clock + Sync>(rt: &R, alloc: Global) -> io::Result<()> {
+    let clock = SystemClock::new(rt);
+    match count(rt, alloc, &clock, 4, 1000)? {
+        Some(total) => println!(rt; "{total}"),
+        None => println!(rt; "no call was left")
+    }
 }

@@ -1,11 +1,9 @@
 //! Four threads count the words of a text in one map, a line each. Then each word is printed with its count.
-#![tactic(auto)]
-
 use go_sync::{MapCaller, map_callers, new_map};
 use std::alloc::{AllocError, Global};
 use std::io;
 use std::sync::Wait;
-use std::thread::map_vec;
+use std::thread::{Threads, map_vec};
 
 /// What is counted.
 const TEXT: [&str; 4] = [
@@ -84,8 +82,8 @@ fn show<R: Wait + Print>(rt: &R, counts: &mut MapCaller, words: &[&'static str])
     Ok(())
 }
 
-fn main(rt: HostRuntime) -> io::Result<()> {
-    let alloc = rt.alloc();
+/// Counts, and prints each word with its count.
+pub fn run<R: Threads + Wait + Print + Sync>(rt: &R, alloc: Global) -> io::Result<()> {
     let words = words_of(alloc, &TEXT)?;
     // Four threads, and this one.
     let (table, callers) = new_map(alloc, 5, ROOM)?;
@@ -97,9 +95,9 @@ fn main(rt: HostRuntime) -> io::Result<()> {
             workers.push(Worker { counts, keys })?;
         }
     }
-    let counted = map_vec(&rt, workers, &|mut worker: Worker| worker.work(&rt))?;
+    let counted = map_vec(rt, workers, &|mut worker: Worker| worker.work(rt))?;
     match callers.pop() {
-        Some(mut counts) if counted.iter().all(|all| *all) => show(&rt, &mut counts, &words),
+        Some(mut counts) if counted.iter().all(|all| *all) => show(rt, &mut counts, &words),
         _ => println!(rt; "the map had no room left"),
     }
 }

@@ -1,11 +1,10 @@
 //! One thread starts two others, as Go does by `wg.Go`, waits until they have returned, and prints what they counted. A third one waits to be started, and nobody
 //! starts it.
-#![tactic(auto)]
-
 use go_sync::{Clock, GoCaller, GoGroup, Guarded, GuardedCaller};
-use std::io;
+use std::alloc::Global;
 use std::sync::Wait;
-use std::thread::map_vec;
+use std::thread::{Threads, map_vec};
+use std::{io, rt};
 use system_io::SystemClock;
 
 /// What one thread works with.
@@ -43,9 +42,9 @@ fn add<C: Clock, R: Wait>(rt: &R, total: &mut GuardedCaller<u64, C>) -> u64 {
     1000
 }
 
-fn main(rt: HostRuntime) -> io::Result<()> {
-    let alloc = rt.alloc();
-    let clock = SystemClock::new(&rt);
+/// Starts them, and prints what each one found.
+pub fn run<R: Threads + Wait + Print + rt::Clock + Sync>(rt: &R, alloc: Global) -> io::Result<()> {
+    let clock = SystemClock::new(rt);
     let (group, passes) = GoGroup::new(alloc, 4)?;
     let mut groups = group.callers(alloc, &clock, passes)?;
     let (total, passes) = Guarded::new(alloc, 4, 0u64)?;
@@ -56,7 +55,7 @@ fn main(rt: HostRuntime) -> io::Result<()> {
             workers.push(Worker { group, total })?;
         }
     }
-    for found in map_vec(&rt, workers, &|mut worker: Worker<_>| worker.run(&rt))? {
+    for found in map_vec(rt, workers, &|mut worker: Worker<_>| worker.run(rt))? {
         match found {
             Some(found) => println!(rt; "{found}")?,
             None => println!(rt; "not started")?,
