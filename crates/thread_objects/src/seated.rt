@@ -1,11 +1,9 @@
 //! The passes of one object, of one kind.
-ghost use Rattle.std.specs.Prelude.{◌≡◌, ℕ, ◌+◌, ◌<◌, ◌≤◌, [], ◌∷◌, ◌++◌, IsTrue, IfOk, Some, slice_get, vec_capacity};
-ghost use Rattle.ruled_object.specs.declared.pass.Pass.{Pass};
+ghost use Rattle.std.specs.Prelude.{◌≡◌, ◌<◌, ◌≤◌, IsTrue, IfOk, vec_capacity};
 ghost use Rattle.ruled_object.specs.Gathered.{SameOwn};
 ghost use Rattle.ruled_object.specs.Passes.{start_of};
 ghost use Rattle.thread_objects.specs.AsDeclared.{Began};
 ghost use Rattle.thread_objects.specs.Columns.{AreSeated, AreUntouched, IsHistoryOf};
-ghost use Rattle.thread_objects.specs.Seats.{IsSeat};
 
 use crate::crew::Crew;
 use protocols::Protocol;

@@ -1,5 +1,4 @@
 use Rattle.std.proofs.Common.{refl}
-use Rattle.script_calls.specs.declared.call.Reply.{Reply}
 use Rattle.script_calls.specs.declared.call.Reply.TheVariants as replies
 use Rattle.starts_core.specs.declared.protocol.StartsStage.TheVariants as stage
 use Rattle.starts_core.specs.StartsStages.{starts_gives}
