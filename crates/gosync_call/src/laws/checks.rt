@@ -25,7 +25,9 @@ ghost use Rattle.gosync_call.specs.declared.status.Status.{Status};
 ghost use Rattle.gosync_call.specs.declared.status.Status.TheVariants as statuses;
 
 use record_text::laws::a_text_tells_one_thing;
-use run_check::completeness::{a_yes_is_exactly_that_a_record_explains, nothing_that_explains_is_lost};
+use run_check::completeness::{
+    a_yes_is_exactly_that_a_record_explains, nothing_that_explains_is_lost,
+};
 use run_check::laws::yes_is_that_a_record_of_the_text_explains;
 
 /// Status 0 says that the verdict is yes, and that it was written. Status 7 says the same of a no, with the first clause that fails. Status

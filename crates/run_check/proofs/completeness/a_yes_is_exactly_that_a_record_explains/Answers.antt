@@ -31,7 +31,7 @@ pub returns-clause-bytes : goal.returns-clause-bytes
 returns-clause-bytes c bytes verdict (told, is, readable, comes) = (
   λ yes. (told, is, (exactly c bytes told is readable).0 (subst (λ v. ComesTo told v) yes comes)),
   λ (other, says, (claim, lines, holds)).
-    let same = c.a_text_tells_one_thing.ensures bytes other told says is in
-    c.a_text_comes_to_one_verdict.ensures.one bytes told told verdict Yes is is comes
+      let same = c.a_text_tells_one_thing.ensures bytes other told says is in
+      c.a_text_comes_to_one_verdict.ensures.one bytes told told verdict Yes is is comes
       ((exactly c bytes told is readable).1 (claim, subst (λ (t : Told). AreLinesOf t claim) same lines, holds)),
 )
