@@ -27,6 +27,10 @@ module _ {A B : Type 0} (f : A → B) where
   pub mapped_more : (old new : List A) (x : A) (ys : List B) (y : B) → new ≡ old ++ x ∷ [] → map f old ≡ ys → f x ≡ y → map f new ≡ ys ++ y ∷ []
   mapped_more old new x ys y grown same is = ap (map f) grown ∙ map_push f old x ∙ ap (λ (l : List B). l ++ f x ∷ []) same ∙ ap (λ (z : B). ys ++ z ∷ []) is
 
+  -- what items come to, with one more behind it
+  pub taken_more : (yielded : List A) (x : A) (old new : List B) → new ≡ old ++ f x ∷ [] → old ≡ map f yielded → new ≡ map f (yielded ++ x ∷ [])
+  taken_more yielded x old new grown same = grown ∙ ap (λ (l : List B). l ++ f x ∷ []) same ∙ sym (map_push f yielded x)
+
 module _ {A : Type 0} (P : A → Type 0) where
   pub all_more : (old new : List A) (x : A) → new ≡ old ++ x ∷ [] → All P old → P x → All P new
   all_more old new x grown all is = subst (All P) (sym grown) (All-push P old x all is)
@@ -47,3 +51,8 @@ module _ {A B : Type 0} (yielded : List (A × B)) (xs : List A) (ys : List B) (a
 
   pub all_seconds : {C : Type 0} (f : B → C) → map (λ (p : A × B). f p.1) yielded ≡ map f ys
   all_seconds f = sym (mapped_twice (λ (p : A × B). f p.1) (λ (p : A × B). (p.0, p.1)) yielded) ∙ ap (map (λ (p : A × B). f p.1)) all ∙ seconds f xs ys same
+
+module _ {A B : Type 0} (f : A → B) where
+  -- what all items come to, once all were taken
+  pub all_taken : (yielded xs : List A) → map (λ x. x) yielded ≡ xs → map f yielded ≡ map f xs
+  all_taken yielded xs all = sym (mapped_twice f (λ x. x) yielded) ∙ ap (map f) all

@@ -117,7 +117,6 @@ fn call_at<S: Shared, C: Clock, R: Wait>(
         (desk_with S.Mark.own S.Mark.front (owns_of passes.old) caller.old.note) answer (desk_with S.Mark.own S.Mark.front (owns_of passes.new) caller.new.note)) }
 {
     objects_are_of_their_kinds::<S::Mark>();
-    only_variables_are_read_and_written();
     match operation {
         Operation::Map(call) => Some(map_at(rt, site, caller, place, call, number)),
         Operation::Atomic(call) => Some(atomic_at(rt, &site.catalog, caller, place, *call)),
@@ -137,7 +136,10 @@ fn call_at<S: Shared, C: Clock, R: Wait>(
             )),
             _ => unreachable!(),
         },
-        Operation::Var(_) => unreachable!(),
+        Operation::Var(_) => {
+            only_variables_are_read_and_written();
+            unreachable!()
+        }
         Operation::Pool(call) => Some(call_pool(
             rt,
             worker,

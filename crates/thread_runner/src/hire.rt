@@ -41,6 +41,42 @@ fn room_for(alloc: Global, script: &[Call], keys: usize) -> Result<Room, AllocEr
     Ok(Room { replies, pairs })
 }
 
+// The job of the worker with this number, which is this caller and has these passes.
+fn job_of<'a, S: Shared, C: Clock, G: Gate>(
+    alloc: Global,
+    site: &'a Site<'a, S>,
+    clock: &'a C,
+    gate: &'a G,
+    number: u32,
+    caller: Caller<S::Mark>,
+    passes: Vec<AnyPass<S::Mark>>,
+) -> Result<Job<'a, S, C, G>, AllocError>
+    requires { number < site.now.catalog.workload.now.workers }
+    ensures number { IfOk result (λ job. job.worker.number ≡ number) }
+    ensures caller { IfOk result (λ job. job.caller ≡ caller) }
+    ensures passes { IfOk result (λ job. job.passes.items ≡ passes.items) }
+    ensures shared { IfOk result (λ job. (job.site.now ≡ site.now) × (job.worker.at.home.now ≡ S.home_of site.now.catalog.shared.now) × (job.worker.workers ≡ site.now.catalog.workload.now.workers)) }
+    ensures room { IfOk result (λ job. HasRoom (length (keys_in site.now.catalog.workload.now.scripts)) (get_or site.now.catalog.workload.now.scripts number []) job.room.replies job.room.pairs.items) }
+{
+    let workload = site.catalog.workload;
+    let workers = workload.workers();
+    let keys = workload.keys().names().len();
+    let room = room_for(alloc, workload.script(number), keys)?;
+    let home = site.catalog.shared.home();
+    Ok(Job {
+        site,
+        worker: Worker {
+            at: At { home, clock },
+            workers,
+            number,
+        },
+        gate,
+        caller,
+        passes,
+        room,
+    })
+}
+
 /// The jobs of all workers, in order of number: each with its caller, its passes, and room for what it answers.
 pub(crate) fn hire<'a, S: Shared, C: Clock, G: Gate>(
     alloc: Global,
@@ -59,26 +95,12 @@ pub(crate) fn hire<'a, S: Shared, C: Clock, G: Gate>(
     ensures each { IfOk result (λ jobs. All (λ job. (job.site.now ≡ site.now) × (job.worker.at.home.now ≡ S.home_of site.now.catalog.shared.now) × (job.worker.workers ≡ site.now.catalog.workload.now.workers)
         × HasRoom (length (keys_in site.now.catalog.workload.now.scripts)) (get_or site.now.catalog.workload.now.scripts job.worker.number []) job.room.replies job.room.pairs.items) jobs.items) }
 {
-    let workload = site.catalog.workload;
-    let workers = workload.workers();
-    let keys = workload.keys().names().len();
+    let workers = site.catalog.workload.workers();
     let mut jobs = Vec::with_capacity(alloc, workers as usize)?;
     for (caller, passes) in callers.into_iter().zip(dealt) {
         let number = jobs.len() as u32;
-        let room = room_for(alloc, workload.script(number), keys)?;
-        let home = site.catalog.shared.home();
-        jobs.push_reserved(Job {
-            site,
-            worker: Worker {
-                at: At { home, clock },
-                workers,
-                number,
-            },
-            gate,
-            caller,
-            passes,
-            room,
-        });
+        let job = job_of(alloc, site, clock, gate, number, caller, passes)?;
+        jobs.push_reserved(job);
     }
     Ok(jobs)
 }
