@@ -73,9 +73,9 @@ def text(workers, objects, calls):
     return "\n".join(lines) + "\n"
 
 
-def milliseconds(words, dropped):
+def milliseconds(words, dropped, variables=os.environ):
     begin = time.perf_counter()
-    process = os.posix_spawn(words[0], words, os.environ, file_actions=[(os.POSIX_SPAWN_DUP2, dropped, 1)])
+    process = os.posix_spawn(words[0], words, variables, file_actions=[(os.POSIX_SPAWN_DUP2, dropped, 1)])
     status = os.waitstatus_to_exitcode(os.wait4(process, 0)[1])
     ended = time.perf_counter()
     if status:
