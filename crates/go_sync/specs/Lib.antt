@@ -7,6 +7,7 @@ pub mod GroupCallers
 pub mod GuardedCallers
 pub mod Made
 pub mod MapCallers
+pub mod MapWalks
 pub mod MutexCallers
 pub mod OnceCallers
 pub mod OnceValueCallers

@@ -1,5 +1,5 @@
 -- What one call of a mutex's caller did.
-use Rattle.std.specs.Prelude.{◌≡◌, ◌⊎◌, ℕ, Bool, true, List}
+use Rattle.std.specs.Prelude.{◌≡◌, ◌≢◌, ◌⊎◌, ℕ, Bool, true, List}
 use Rattle.sync_model.specs.declared.answer.Answer.{Answer}
 use Rattle.sync_model.specs.declared.answer.Answer.TheVariants.{Done}
 use Rattle.mutex_core.specs.Edges.{acquires, releases}
@@ -19,8 +19,8 @@ pub record Makes {C A : Type 0} {clock : Ghosts C} (spells : List MutexDeed → 
   pub did : (time : ℕ) × Did next (mutex_start old.mutex.now) spells (AreClocked shows) old.pass (no_front 0) answer new.pass (no_front time)
   pub lawful : IsLawful next true (λ event reply. releases reply) (λ event reply. acquires reply) (mutex_start old.mutex.now) new.pass
 
--- The caller acquired the mutex by a try, or tried it in vain and then locked it.
+-- The caller acquired the mutex by a try, or tried it in vain, which it was told, and then locked it.
 abbrev pub LocksSoon : {C : Type 0} {clock : Ghosts C} → (C → ℕ → Type 0) → MutexCaller C clock → Answer (Unit {0}) → MutexCaller C clock → Type 0
 LocksSoon {C} {clock} shows old answer new =
     (Makes Tries (shows old.clock.now) old (Done true) new × (answer ≡ Done tt))
-    ⊎ ((tried : Answer Bool) × (mid : MutexCaller C clock) × Makes Tries (shows old.clock.now) old tried mid × Makes Locks (shows mid.clock.now) mid answer new)
+    ⊎ ((tried : Answer Bool) × (mid : MutexCaller C clock) × (tried ≢ Done true) × Makes Tries (shows old.clock.now) old tried mid × Makes Locks (shows mid.clock.now) mid answer new)

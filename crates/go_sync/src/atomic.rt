@@ -1,7 +1,8 @@
 //! The typed atomics of Go's `sync/atomic`: atomics of a table, and the callers that threads use them by.
-ghost use Rattle.std.specs.Prelude.{◌≡◌, ◌+◌, ◌<◌, ◌≤◌, All, IfOk, IfSome, Some, slice_get, MatchOption, vec_len};
+ghost use Rattle.std.specs.Prelude.{◌≡◌, ◌+◌, ◌<◌, ◌≤◌, All, IfOk, IfSome, Some, slice_get, MatchOption, replicate, vec_len};
 ghost use Rattle.sync_model.specs.Shared.{IsCallerAt};
 ghost use Rattle.shared_table.specs.CallerProps.{caller_prop};
+ghost use Rattle.shared_table.specs.NewCallers.{AreNewCallers};
 ghost use Rattle.shared_table.specs.Notes.{own_by, IsNoteOf};
 ghost use Rattle.shared_table.specs.Tables.{kinds_of};
 
@@ -20,6 +21,7 @@ pub fn new_atomic<V: AtomicValue>(
 ) -> Result<(SharedTable, TableCallers), AllocError>
     requires threads { (0 < threads) × (threads ≤ 64) }
     ensures kind { IfOk result (λ made. slice_get (kinds_of made.0) 0 ≡ Some V.kind) }
+    ensures new { IfOk result (λ made. AreNewCallers made.0 (replicate threads 0) made.1.items) }
     ensures callers { IfOk result (λ made. All (IsCallerAt IsNoteOf own_by made.0) made.1.items) }
     ensures count { IfOk result (λ made. vec_len made.1 ≡ threads) }
 {

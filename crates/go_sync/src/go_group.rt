@@ -1,6 +1,7 @@
 //! Go's `WaitGroup.Go`: a wait group whose workers wait to be started, and the callers that threads use it by.
-ghost use Rattle.std.specs.Prelude.{◌≡◌, ◌+◌, ◌<◌, ◌≤◌, All, IfOk, IfSome, MatchOption, vec_len};
-ghost use Rattle.go_waits.specs.Groups.{IsPassOf};
+ghost use Rattle.std.specs.Prelude.{◌≡◌, ◌+◌, ◌<◌, ◌≤◌, ◌-◌, true, false, pos, ◌∷◌, replicate, All, IfOk, IfSome, MatchOption, vec_len};
+ghost use Rattle.starts_core.specs.StartsMachine.{begun};
+ghost use Rattle.go_waits.specs.Groups.{start_of, IsBegun, IsPassOf};
 ghost use Rattle.go_waits.specs.Startings as startings;
 ghost use Rattle.ruled_object.specs.Passes.{number_of};
 
@@ -33,6 +34,8 @@ impl GoGroup {
     /// A group whose counter is 0, for so many threads, 64 at most, with their passes.
     pub fn new(alloc: Global, threads: u32) -> Result<(Self, GoPasses), AllocError>
         requires { (0 < threads) × (threads ≤ 64) }
+        ensures group { IfOk result (λ made. IsBegun threads (pos 0) (start_of made.0.group)) }
+        ensures starts { IfOk result (λ made. startings.start_of made.0.starts ≡ begun (false ∷ replicate (threads - 1) true)) }
         ensures members { IfOk result (λ made. All (IsPassOf made.0.group) made.1.members.items) }
         ensures workers { IfOk result (λ made. All (startings.IsPassOf made.0.starts) made.1.workers.items) }
         ensures count { IfOk result (λ made. (vec_len made.1.members ≡ threads) × (vec_len made.1.workers ≡ threads)) }

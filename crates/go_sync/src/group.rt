@@ -1,6 +1,6 @@
 //! Go's `sync.WaitGroup`: a wait group, and the callers that threads use it by.
 ghost use Rattle.std.specs.Prelude.{◌≡◌, ◌+◌, ◌<◌, ◌≤◌, ◌≤ℤ◌, pos, All, IfOk, IfSome, MatchOption, vec_len};
-ghost use Rattle.go_waits.specs.Groups.{IsPassOf};
+ghost use Rattle.go_waits.specs.Groups.{start_of, IsBegun, IsPassOf};
 
 mod calls;
 
@@ -22,6 +22,7 @@ pub fn new_group(
 ) -> Result<(WaitGroup<NoNote>, GroupPasses), AllocError>
     requires threads { (0 < threads) × (threads ≤ 64) }
     requires start { (pos 0 ≤ℤ start) × (start ≤ℤ pos 10000) }
+    ensures group { IfOk result (λ made. IsBegun threads start (start_of made.0)) }
     ensures passes { IfOk result (λ made. All (IsPassOf made.0) made.1.items) }
     ensures count { IfOk result (λ made. vec_len made.1 ≡ threads) }
 {

@@ -1,6 +1,7 @@
 //! Data that only the holder of a mutex reaches.
-ghost use Rattle.std.specs.Prelude.{◌≡◌, ◌<◌, ◌≤◌, All, IfOk, IfSome, vec_len};
-ghost use Rattle.sync_model.specs.declared.answer.Answer.TheVariants.{Done};
+ghost use Rattle.std.specs.Prelude.{◌≡◌, ◌<◌, ◌≤◌, All, IfNone, IfOk, IfSome, vec_len};
+ghost use Rattle.sync_types.specs.declared.misuse.Misuse.{Misuse};
+ghost use Rattle.sync_model.specs.declared.answer.Answer.TheVariants.{Done, Halted};
 ghost use Rattle.go_locks.specs.MutexCalls.{Unlocks};
 ghost use Rattle.go_locks.specs.Mutexes.{IsPassOfMutex};
 ghost use Rattle.go_sync.specs.MutexCallers.{LocksSoon, Makes};
@@ -78,6 +79,7 @@ impl<T: Drop, C: Clock> GuardedCaller<'_, T, C> {
         requires { F.IsAlwaysCallable change }
         ensures held { IfSome result (λ answer. (mid : _) × (end : _) × LocksSoon C.shows self.old.caller (Done tt) mid × Makes Unlocks (C.shows mid.clock.now) mid end self.new.caller) }
         ensures changed { IfSome result (λ answer. (before after : T) × FnOnceReturnsAtMut F.FnOnce change before answer after) }
+        ensures halted { IfNone result ((misuse : Misuse) × LocksSoon C.shows self.old.caller (Halted misuse) self.new.caller) }
     {
         let Answer::Done(()) = self.caller.lock_soon(rt) else {
             return None;

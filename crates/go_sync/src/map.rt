@@ -1,10 +1,11 @@
 //! Go's `sync.Map`: maps of a table, and the callers that threads use them by.
-ghost use Rattle.std.specs.Prelude.{◌≡◌, ◌+◌, ◌<◌, ◌≤◌, ◌*◌, All, IfOk, IfSome, MatchOption, vec_len};
+ghost use Rattle.std.specs.Prelude.{◌≡◌, ◌+◌, ◌<◌, ◌≤◌, ◌*◌, [], All, IfOk, IfSome, MatchOption, replicate, vec_len};
 ghost use Rattle.std.specs.Option.{ForSome};
 ghost use Rattle.sync_model.specs.Shared.{IsCallerAt};
 ghost use Rattle.shared_table.specs.CallerProps.{caller_prop};
+ghost use Rattle.shared_table.specs.NewCallers.{AreNewCallers};
 ghost use Rattle.shared_table.specs.Notes.{own_by, IsNoteOf};
-ghost use Rattle.shared_table.specs.Tables.{maps_of};
+ghost use Rattle.shared_table.specs.Tables.{kinds_of, maps_of};
 
 mod calls;
 mod pairs;
@@ -26,7 +27,8 @@ pub fn new_map(
 ) -> Result<(SharedTable, TableCallers), AllocError>
     requires threads { (0 < threads) × (threads ≤ 64) }
     requires room { threads * room ≤ 1000000 }
-    ensures map { IfOk result (λ made. 0 < maps_of made.0) }
+    ensures map { IfOk result (λ made. (maps_of made.0 ≡ 1) × (kinds_of made.0 ≡ [])) }
+    ensures room { IfOk result (λ made. AreNewCallers made.0 (replicate threads room) made.1.items) }
     ensures callers { IfOk result (λ made. All (IsCallerAt IsNoteOf own_by made.0) made.1.items) }
     ensures count { IfOk result (λ made. vec_len made.1 ≡ threads) }
 {

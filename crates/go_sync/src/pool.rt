@@ -1,7 +1,7 @@
 //! Go's `sync.Pool`, of numbers: a pool, and the callers that threads put and get by.
 ghost use Rattle.std.specs.Prelude.{◌≡◌, ◌+◌, ◌<◌, ◌≤◌, All, IfOk, IfSome, MatchOption, vec_len};
 ghost use Rattle.std.proofs.Props.{props};
-ghost use Rattle.go_pool.specs.Pools.{ArePasses, IsPassOf};
+ghost use Rattle.go_pool.specs.Pools.{parts_of, room_of, fresh_of, ArePasses, IsPassOf};
 ghost use Rattle.go_sync.specs.PassProps.{follows_prop};
 
 mod calls;
@@ -27,6 +27,7 @@ pub fn new_pool(
     fresh: u64,
 ) -> Result<(Pool<NoNote>, PoolPasses), AllocError>
     requires { (0 < threads) × (threads ≤ 64) }
+    ensures pool { IfOk result (λ made. (parts_of made.0 ≡ threads) × (room_of made.0 ≡ room) × (fresh_of made.0 ≡ fresh)) }
     ensures passes { IfOk result (λ made. ArePasses made.0 made.1.items) }
     ensures count { IfOk result (λ made. vec_len made.1 ≡ threads) }
 {

@@ -1,7 +1,8 @@
 //! Data that the holders of a reader/writer lock reach: readers together, a writer alone.
-ghost use Rattle.std.specs.Prelude.{◌≡◌, ◌<◌, ◌≤◌, All, IfOk, IfSome, vec_len};
+ghost use Rattle.std.specs.Prelude.{◌≡◌, ◌<◌, ◌≤◌, All, IfNone, IfOk, IfSome, vec_len};
 ghost use Rattle.std.specs.Fn.{FnOnceReturnsAt, FnOnceReturnsAtMut};
-ghost use Rattle.sync_model.specs.declared.answer.Answer.TheVariants.{Done};
+ghost use Rattle.sync_types.specs.declared.misuse.Misuse.{Misuse};
+ghost use Rattle.sync_model.specs.declared.answer.Answer.TheVariants.{Done, Halted};
 ghost use Rattle.rw_core.specs.declared.event.RwEvent.{RwEvent};
 ghost use Rattle.go_locks.specs.RwCalls.{ReadLocks, WriteLocks, Unlocks};
 ghost use Rattle.go_locks.specs.RwMutexes.{IsPassOfRwMutex};
@@ -72,6 +73,7 @@ impl<T: Drop, C: Clock> RwGuardedCaller<'_, T, C> {
         requires { F.IsAlwaysCallable look }
         ensures held { IfSome result (λ answer. (mid : _) × (end : _) × Makes ReadLocks (C.shows self.old.caller.clock.now) self.old.caller (Done tt) mid × Makes (Unlocks RwEvent.ReadUnlock) (C.shows mid.clock.now) mid end self.new.caller) }
         ensures seen { IfSome result (λ answer. (value : T) × FnOnceReturnsAt F.FnOnce look value answer) }
+        ensures halted { IfNone result ((misuse : Misuse) × Makes ReadLocks (C.shows self.old.caller.clock.now) self.old.caller (Halted misuse) self.new.caller) }
     {
         let Answer::Done(()) = self.caller.r_lock(rt) else {
             return None;
@@ -89,6 +91,7 @@ impl<T: Drop, C: Clock> RwGuardedCaller<'_, T, C> {
         requires { F.IsAlwaysCallable change }
         ensures held { IfSome result (λ answer. (mid : _) × (end : _) × Makes WriteLocks (C.shows self.old.caller.clock.now) self.old.caller (Done tt) mid × Makes (Unlocks RwEvent.WriteUnlock) (C.shows mid.clock.now) mid end self.new.caller) }
         ensures changed { IfSome result (λ answer. (before after : T) × FnOnceReturnsAtMut F.FnOnce change before answer after) }
+        ensures halted { IfNone result ((misuse : Misuse) × Makes WriteLocks (C.shows self.old.caller.clock.now) self.old.caller (Halted misuse) self.new.caller) }
     {
         let Answer::Done(()) = self.caller.lock(rt) else {
             return None;

@@ -1,7 +1,7 @@
 //! Waiting until guarded data is as it has to be.
-ghost use Rattle.std.specs.Prelude.{false, IfSome};
+ghost use Rattle.std.specs.Prelude.{false, IfNone, IfSome};
 ghost use Rattle.std.specs.Fn.{FnReturnsAt, FnOnceReturnsAtMut};
-ghost use Rattle.go_sync.specs.GuardedCallers.{WaitsFor, WaitsHeld};
+ghost use Rattle.go_sync.specs.GuardedCallers.{IsCutOff, IsUnchanged, WaitsFor, WaitsHeld};
 
 use super::{GuardedCaller, changed};
 use crate::cond::CondCaller;
@@ -25,11 +25,21 @@ impl<T: Drop, C: Clock> GuardedCaller<'_, T, C> {
         requires change { F.IsAlwaysCallable change }
         ensures waited { IfSome result (λ answer. WaitsHeld C.shows cond.old self.old.caller cond.new self.new.caller) }
         ensures changed { IfSome result (λ answer. (before after : T) × FnReturnsAt B.Fn blocked before false × FnOnceReturnsAtMut F.FnOnce change before answer after) }
+        ensures unchanged { IfNone result (IsUnchanged C.shows cond.old self.old.caller cond.new self.new.caller) }
     {
         let Answer::Done(()) = self.caller.lock_soon(rt) else {
             return None;
         };
-        let answer = changed_unblocked(rt, self.value, &mut self.caller, cond, blocked, change)?;
+        let Some(answer) = changed_unblocked(
+            rt,
+            self.value,
+            &mut self.caller,
+            cond,
+            blocked,
+            change,
+        ) else {
+            return None;
+        };
         self.caller.unlock(rt);
         Some(answer)
     }
@@ -48,6 +58,7 @@ fn changed_unblocked<T: Drop, A, B: Fn(&T) -> bool, F: FnOnce(&mut T) -> A, C: C
     requires change { F.IsAlwaysCallable change }
     ensures waited { IfSome result (λ answer. WaitsFor C.shows cond.old mutex.old cond.new mutex.new) }
     ensures changed { IfSome result (λ answer. (before after : T) × FnReturnsAt B.Fn blocked before false × FnOnceReturnsAtMut F.FnOnce change before answer after) }
+    ensures unchanged { IfNone result (IsCutOff C.shows cond.old mutex.old cond.new mutex.new) }
 {
     for _ in rt.forever() {
         {
@@ -57,9 +68,11 @@ fn changed_unblocked<T: Drop, A, B: Fn(&T) -> bool, F: FnOnce(&mut T) -> A, C: C
                 return Some(changed(now, change));
             }
         }
-        let Answer::Done(Ok(())) = cond.wait(rt, mutex) else {
-            return None;
-        };
+        match cond.wait(rt, mutex) {
+            Answer::Done(Ok(())) => {}
+            Answer::Done(Err(_)) => return None,
+            Answer::Halted(_) => return None,
+        }
     }
     unreachable!()
 }

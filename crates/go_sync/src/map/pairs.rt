@@ -2,6 +2,7 @@
 ghost use Rattle.std.specs.Prelude.{◌≡◌, ◌<◌, ◌^◌, All, IfOk};
 ghost use Rattle.sync_model.specs.Shared.{IsCallerAt};
 ghost use Rattle.shared_table.specs.Notes.{own_by, IsNoteOf};
+ghost use Rattle.go_sync.specs.MapWalks.{Walks};
 
 use super::MapCaller;
 use go_map::{Cursor, Map};
@@ -15,6 +16,7 @@ impl MapCaller<'_> {
     pub fn pairs<R: Wait>(&mut self, rt: &R, alloc: Global) -> Result<Vec<(u32, u64)>, AllocError>
         ensures map { self.new.map ≡ self.old.map }
         ensures found { IfOk result (λ pairs. All (λ pair. pair.1 < 2 ^ 63) pairs.items) }
+        ensures walked { IfOk result (λ pairs. Walks self.old.map.table.now self.old.map.number pairs.items self.old.caller.note self.new.caller.note) }
     {
         walked(rt, alloc, &self.map, &mut self.caller)
     }
@@ -30,6 +32,7 @@ fn walked<R: Wait>(
     requires { IsCallerAt IsNoteOf own_by map.now.table.now caller.old }
     ensures caller { IsCallerAt IsNoteOf own_by map.now.table.now caller.new }
     ensures found { IfOk result (λ pairs. All (λ pair. pair.1 < 2 ^ 63) pairs.items) }
+    ensures walked { IfOk result (λ pairs. Walks map.now.table.now map.now.number pairs.items caller.old.note caller.new.note) }
 {
     let mut pairs = Vec::new(alloc);
     let mut cursor = Cursor::begin(map, caller);

@@ -27,10 +27,11 @@ impl<C: Clock> MutexCaller<'_, C> {
     pub fn lock_soon<R: Wait>(&mut self, rt: &R) -> Answer<()>
         ensures { LocksSoon C.shows self.old result self.new }
     {
-        if self.try_lock(rt) == Answer::Done(true) {
-            return Answer::Done(());
+        match self.try_lock(rt) {
+            Answer::Done(true) => Answer::Done(()),
+            Answer::Done(false) => self.lock(rt),
+            Answer::Halted(_) => self.lock(rt),
         }
-        self.lock(rt)
     }
 
     /// Go's `TryLock`: whether the caller has the mutex, which it has exactly where it was free and nobody waits before it.

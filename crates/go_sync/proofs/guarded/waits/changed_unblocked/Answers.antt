@@ -1,4 +1,5 @@
 use Rattle.go_sync.specs.GuardedCallers.{at_once, woken}
+use Rattle.go_sync.proofs.Otherwise.{halted_is_other, misused_is_other}
 use Rattle.go_sync.proofs.guarded.waits.changed_unblocked.Goals as goal
 
 pub loop-init : goal.loop-init
@@ -6,3 +7,23 @@ loop-init g c = at_once
 
 pub loop-preserved : goal.loop-preserved
 loop-preserved g c = woken _ _ _ _ c.loop.invariant (rw c.in-Done-Ok.field-0-is at c.in-Done-Ok.ensures)
+
+pub returns-in-Done-Err-clause-unchanged : goal.returns-in-Done-Err-clause-unchanged
+returns-in-Done-Err-clause-unchanged g c = record {
+  mid = c.loop.cond;
+  between = c.loop.mutex;
+  waits = c.loop.invariant;
+  answer = c.wait.result;
+  cut = c.wait.ensures;
+  other = misused_is_other _ _ _ c.in-Done-Err.is c.in-Done-Err.field-0-is;
+}
+
+pub returns-in-Halted-clause-unchanged : goal.returns-in-Halted-clause-unchanged
+returns-in-Halted-clause-unchanged g c = record {
+  mid = c.loop.cond;
+  between = c.loop.mutex;
+  waits = c.loop.invariant;
+  answer = c.wait.result;
+  cut = c.wait.ensures;
+  other = halted_is_other _ _ _ c.in-Halted.is;
+}
