@@ -38,7 +38,7 @@ impl<N: FreshNote> Measured for Flights<N> {
 
     fn new(alloc: Global, plan: Plan) -> Result<(Self, Vec<GroupPass<N>>), AllocError> {
         let (group, passes) = Group::new(alloc, plan.callers, MAX_CALLS, N::fresh())?;
-        let one_key = plan.what == What::Flight(Keys::One);
+        let one_key = matches!(plan.what, What::Flight(Keys::One));
         Ok((Flights { group, one_key }, passes))
     }
 

@@ -21,7 +21,7 @@ mod table_objects;
 use crate::flight::Flights;
 use crate::fresh::FreshNote;
 use crate::map_and_int::MapAndInt;
-use crate::one_call::{Add, Churn, Load, Mix, On, Path, Store, Wide};
+use crate::one_call::{Add, Churn, Load, Mix, On, OneCall, Path, Store, Wide};
 use crate::plain_objects::PlainObjects;
 use crate::plan::{Call, Notes, Plan, Reads, What, plan_of};
 use crate::run::measure;
@@ -55,22 +55,30 @@ Prints how many nanoseconds a pair of calls takes, for each thread.
            Maps and atomics have one for each thread
   ROUNDS   the pairs of each thread: 1 to 100000, with churn 1 to 50000, with path 1 to 25000";
 
-/// How many tenths of a nanosecond a call on a shared map or atomic takes.
-fn with_shared_call<S: MapAndInt, C: Clock + Sync, R: Threads + Wait + rt::Clock + Sync>(
+/// How many tenths of a nanosecond this call on a shared map or atomic takes. It reads no clock.
+fn with_one_call<S: MapAndInt, K: OneCall, R: Threads + Wait + rt::Clock + Sync>(
     rt: &R,
     alloc: Global,
-    clock: &C,
+    plan: Plan,
+) -> Result<u64, AllocError> {
+    measure::<On<S, K>, StandingClock, R>(rt, alloc, &StandingClock, plan)
+}
+
+/// How many tenths of a nanosecond a call on a shared map or atomic takes.
+fn with_shared_call<S: MapAndInt, R: Threads + Wait + rt::Clock + Sync>(
+    rt: &R,
+    alloc: Global,
     plan: Plan,
     call: Call,
 ) -> Result<u64, AllocError> {
     match call {
-        Call::Load => measure::<On<S, Load>, C, R>(rt, alloc, clock, plan),
-        Call::Store => measure::<On<S, Store>, C, R>(rt, alloc, clock, plan),
-        Call::Churn => measure::<On<S, Churn>, C, R>(rt, alloc, clock, plan),
-        Call::Path => measure::<On<S, Path>, C, R>(rt, alloc, clock, plan),
-        Call::Wide => measure::<On<S, Wide>, C, R>(rt, alloc, clock, plan),
-        Call::Mix => measure::<On<S, Mix>, C, R>(rt, alloc, clock, plan),
-        Call::Add => measure::<On<S, Add>, C, R>(rt, alloc, clock, plan),
+        Call::Load => with_one_call::<S, Load, R>(rt, alloc, plan),
+        Call::Store => with_one_call::<S, Store, R>(rt, alloc, plan),
+        Call::Churn => with_one_call::<S, Churn, R>(rt, alloc, plan),
+        Call::Path => with_one_call::<S, Path, R>(rt, alloc, plan),
+        Call::Wide => with_one_call::<S, Wide, R>(rt, alloc, plan),
+        Call::Mix => with_one_call::<S, Mix, R>(rt, alloc, plan),
+        Call::Add => with_one_call::<S, Add, R>(rt, alloc, plan),
     }
 }
 
@@ -90,8 +98,8 @@ fn with_notes<N: FreshNote, C: Clock + Sync, R: Threads + Wait + rt::Clock + Syn
         What::Pool => measure::<Pool<N>, C, R>(rt, alloc, clock, plan),
         What::Sema(_) => measure::<Sema<N>, C, R>(rt, alloc, clock, plan),
         What::Flight(_) => measure::<Flights<N>, C, R>(rt, alloc, clock, plan),
-        What::Plain(call) => with_shared_call::<PlainObjects, C, R>(rt, alloc, clock, plan, call),
-        What::Table(call) => with_shared_call::<TableObjects, C, R>(rt, alloc, clock, plan, call),
+        What::Plain(call) => with_shared_call::<PlainObjects, R>(rt, alloc, plan, call),
+        What::Table(call) => with_shared_call::<TableObjects, R>(rt, alloc, plan, call),
     }
 }
 

@@ -2,7 +2,7 @@
 ghost use Rattle.std.specs.Prelude.{◌<◌, ◌≤◌};
 
 /// The object, and the pair of calls on it.
-#[derive(Clone, Copy, PartialEq, Eq)]
+#[derive(Clone, Copy)]
 pub enum What {
     /// A mutex's `lock` and `unlock`.
     Mutex,
@@ -27,7 +27,7 @@ pub enum What {
 }
 
 /// How many callers a semaphore has room for.
-#[derive(Clone, Copy, PartialEq, Eq)]
+#[derive(Clone, Copy)]
 pub enum Room {
     /// All of them, so nobody waits.
     All,
@@ -36,7 +36,7 @@ pub enum Room {
 }
 
 /// Which keys callers come for.
-#[derive(Clone, Copy, PartialEq, Eq)]
+#[derive(Clone, Copy)]
 pub enum Keys {
     /// Each for its own, so it leads a flight of its own. Its work is nothing.
     Own,
@@ -45,7 +45,7 @@ pub enum Keys {
 }
 
 /// The call on a shared map or atomic.
-#[derive(Clone, Copy, PartialEq, Eq)]
+#[derive(Clone, Copy)]
 pub enum Call {
     /// One load of a map.
     Load,
@@ -101,7 +101,7 @@ fn of_word<T: Copy>(word: &str, rows: &[(&str, T)]) -> Option<T> {
 }
 
 /// How many threads call, each as one caller.
-#[derive(Clone, Copy, PartialEq, Eq)]
+#[derive(Clone, Copy)]
 pub enum How {
     /// So many threads, each on an object of its own.
     Own(usize),
@@ -132,7 +132,7 @@ impl How {
 }
 
 /// The notes of the callers.
-#[derive(Clone, Copy, PartialEq, Eq)]
+#[derive(Clone, Copy)]
 pub enum Notes {
     /// `FrontNote`: 64 counts.
     Front,
@@ -144,7 +144,7 @@ pub enum Notes {
 const NOTES: [(&str, Notes); 2] = [("front", Notes::Front), ("empty", Notes::Empty)];
 
 /// The clock that the calls read.
-#[derive(Clone, Copy, PartialEq, Eq)]
+#[derive(Clone, Copy)]
 pub enum Reads {
     /// The machine's clock.
     Machine,
@@ -156,7 +156,7 @@ pub enum Reads {
 const CLOCKS: [(&str, Reads); 2] = [("machine", Reads::Machine), ("standing", Reads::Standing)];
 
 /// One measurement.
-#[derive(Clone, Copy, PartialEq, Eq)]
+#[derive(Clone, Copy)]
 pub struct Plan {
     pub what: What,
     pub how: How,
