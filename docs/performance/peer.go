@@ -696,11 +696,11 @@ func split(line []byte, words [][]byte) ([]byte, [][]byte) {
 }
 
 // read makes a run of a text.
-func read(bytesOf []byte) *text {
+func read(source []byte) *text {
 	t := &text{run: &run{ended: make(chan string, 1)}, objects: map[string]object{}, keys: map[string]any{}}
 	var named *worker
 	var words [][]byte
-	for rest := bytesOf; len(rest) > 0; {
+	for rest := source; len(rest) > 0; {
 		var line []byte
 		line, rest, _ = bytes.Cut(rest, []byte{'\n'})
 		line, words = split(line, words)
@@ -829,17 +829,17 @@ func main() {
 	if len(words) != 1 {
 		end(5, "usage: peer [-dry] FILE")
 	}
-	var bytesOf []byte
+	var source []byte
 	var err error
 	if words[0] == "-" {
-		bytesOf, err = io.ReadAll(os.Stdin)
+		source, err = io.ReadAll(os.Stdin)
 	} else {
-		bytesOf, err = os.ReadFile(words[0])
+		source, err = os.ReadFile(words[0])
 	}
 	if err != nil {
 		end(3, err)
 	}
-	t := readOrEnd(bytesOf)
+	t := readOrEnd(source)
 	ended := t.run.start()
 	if err := t.write(out, ended != ""); err != nil {
 		end(3, err)
@@ -850,11 +850,11 @@ func main() {
 }
 
 // readOrEnd reads a text, or ends the program where a line isn't one of a workload.
-func readOrEnd(bytesOf []byte) *text {
+func readOrEnd(source []byte) *text {
 	defer func() {
 		if found := recover(); found != nil {
 			end(1, "peer: this text isn't read")
 		}
 	}()
-	return read(bytesOf)
+	return read(source)
 }

@@ -16,9 +16,9 @@ row without a call tells what loading the library takes.
 call for reading the text, and a call for running it and making the report. Reading is what gosync takes for the text with a last line
 that it refuses.
 
-It needs cc for --dry, valgrind for --instructions, and Go 1.23 or later. Only from 1.24 on a sync.Map is a hash trie. GO=PROGRAM names
-another `go`. The program is that of `rt run`. The wrapper ./gosync lets its memory lie in large pages by GLIBC_TUNABLES, which both
-programs get as it stands here. The machine should do nothing else meanwhile.
+It needs Go 1.23 or later, a C compiler for --dry, and valgrind for --instructions. Only from Go 1.24 on a sync.Map is a hash trie.
+GO=PROGRAM names another `go`. The program is that of `rt run`. The wrapper ./gosync lets its memory lie in large pages by
+GLIBC_TUNABLES, which both programs get as it stands here. The machine should do nothing else meanwhile.
 """
 import argparse
 import os
@@ -176,7 +176,7 @@ def main():
         commands = {"gosync": ([gosync, given.command], {}), "Go": ([peer], {})}
         compare(texts, *(words for words, _ in commands.values()))
         if given.dry:
-            made(["cc", "-O2", "-shared", "-fPIC", "-x", "c", "-o", library, "-"], input=NO_WRITE.encode())
+            made([os.environ.get("CC", "cc"), "-O2", "-shared", "-fPIC", "-x", "c", "-o", library, "-"], input=NO_WRITE.encode())
             commands["gosync, dry"] = ([gosync, given.command], {"LD_PRELOAD": library})
             commands["Go, dry"] = ([peer, "-dry"], {})
         print_times(given.turns, texts, commands)
