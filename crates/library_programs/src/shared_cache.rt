@@ -70,15 +70,13 @@ fn work(base: i64, key: u32) -> i64 {
     base.wrapping_add(i64::from(key))
 }
 
-/// Looks all keys up, and prints each thread's sum and how many keys the cache then has.
-pub fn run<R: Threads + Wait + Print + rt::Clock + Sync>(rt: &R, alloc: Global) -> io::Result<()> {
-    let clock = SystemClock::new(rt);
-    let (cache, passes) = RwGuarded::new(alloc, 4, BTreeMap::new(alloc))?;
-    let mut caches = cache.callers(alloc, &clock, passes)?;
-    let (base, passes) = new_once_value(alloc, 4)?;
-    let mut bases = once_value_callers(alloc, &base, &clock, passes)?;
-    let (flights, passes) = new_flights(alloc, 4)?;
-    let mut flyers = flight_callers(alloc, &flights, &clock, passes)?;
+// A worker of one caller of each.
+fn workers_of<'c, 'b, 'f, C: Clock>(
+    alloc: Global,
+    mut caches: Vec<RwGuardedCaller<'c, Cache, C>>,
+    mut bases: Vec<OnceValueCaller<'b, i64, C>>,
+    mut flyers: Vec<FlightCaller<'f, C>>,
+) -> Result<Vec<Worker<'c, 'b, 'f, C>>, AllocError> {
     let mut workers = Vec::new(alloc);
     for _ in 0..4 {
         if let (Some(cache), Some(base), Some(flights)) = (
@@ -93,11 +91,23 @@ pub fn run<R: Threads + Wait + Print + rt::Clock + Sync>(rt: &R, alloc: Global) 
             })?;
         }
     }
+    Ok(workers)
+}
+
+/// Looks all keys up, and prints each thread's sum and how many keys the cache then has.
+pub fn run<R: Threads + Wait + Print + rt::Clock + Sync>(rt: &R, alloc: Global) -> io::Result<()> {
+    let clock = SystemClock::new(rt);
+    let (cache, passes) = RwGuarded::new(alloc, 4, BTreeMap::new(alloc))?;
+    let caches = cache.callers(alloc, &clock, passes)?;
+    let (base, passes) = new_once_value(alloc, 4)?;
+    let bases = once_value_callers(alloc, &base, &clock, passes)?;
+    let (flights, passes) = new_flights(alloc, 4)?;
+    let flyers = flight_callers(alloc, &flights, &clock, passes)?;
+    let workers = workers_of(alloc, caches, bases, flyers)?;
     for sum in map_vec(rt, workers, &|mut worker: Worker<_>| worker.run(rt))? {
         let sum = sum?;
         println!(rt; "{sum}")?;
     }
-    drop(caches);
     let known = cache.into_inner().len();
     println!(rt; "{known} keys")
 }
