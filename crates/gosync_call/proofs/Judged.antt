@@ -27,7 +27,7 @@ use Rattle.gosync_call.proofs.Runs.{told_so}
 pub whole_judged : (told : Option (List ℕ)) (bytes : List ℕ) (verdict : Verdict) → IsInputTo MAX_RECORD told bytes → ComeTo bytes verdict → IsJudged told verdict
 whole_judged None bytes verdict h judged = (bytes, tt, judged)
 whole_judged (Some held) bytes verdict h judged =
-    (held, refl, (judged.0, subst (λ (b : List ℕ). IsTold b judged.0) (fits_whole MAX_RECORD held bytes h judged.1.fits) judged.1, judged.2))
+    (held, refl, (judged.0, subst (λ (b : List ℕ). IsTold b judged.0) (fits_whole MAX_RECORD held bytes h judged.1.fits) judged.1, judged.2, judged.3))
 
 refused_whole : (held bytes : List ℕ) (line : ℕ) (reason : CheckReason) → bytes ≡ take (MAX_RECORD + 1) held → IsRecordRefused bytes line reason → IsRecordRefused held line reason
 refused_whole held bytes line reason e (inl long) = inl (omega (arith, long.0, ap length e, length-take (MAX_RECORD + 1) held), long.1, long.2)
@@ -63,7 +63,7 @@ module _ (told old new : Option (List ℕ)) (bytes : List ℕ) (Read Write : Typ
   completes_check text verdict one (statuses.Judged other) judges is tells comes read write no_read no_write =
       let read_so = told_so bytes judges.0.0 told is judges.0.1 in
       let found = judges.0.2 in
-      inl (ap (λ (v : Verdict). statuses.Judged v) (one bytes found.0 text other verdict (subst (λ (b : List ℕ). IsTold b found.0) read_so found.1) tells found.2.2 comes))
+      inl (ap (λ (v : Verdict). statuses.Judged v) (one bytes found.0 text other verdict (subst (λ (b : List ℕ). IsTold b found.0) read_so found.1) tells found.3 comes))
   completes_check text verdict one (statuses.Unread (unreads.NotAccepted line reason)) judges is tells comes read write no_read no_write = absurd judges.0
   completes_check text verdict one (statuses.Unread (unreads.NoRecord line reason)) judges is tells comes read write no_read no_write =
       absurd (judges.0.3 text (subst (λ (b : List ℕ). IsTold b text) (sym (told_so bytes judges.0.0 told is judges.0.1)) tells))
@@ -128,7 +128,7 @@ module _ (told old new : Option (List ℕ)) where
 pub judged_so : (bytes : List ℕ) (text : Told) (verdict : Verdict) → ((b : List ℕ) (t other : Told) → IsTold b t → IsTold b other → t ≡ other) → IsTold bytes text → IsJudged (Some bytes) verdict → ComesTo text verdict
 judged_so bytes text verdict one tells judged =
     let found = judged.2 in
-    subst (λ (t : Told). ComesTo t verdict) (one bytes found.0 text (subst (λ (b : List ℕ). IsTold b found.0) judged.1 found.1) tells) found.2.2
+    subst (λ (t : Told). ComesTo t verdict) (one bytes found.0 text (subst (λ (b : List ℕ). IsTold b found.0) judged.1 found.1) tells) found.3
 
 -- the bytes that are told come to the verdict
 pub come_so : (bytes : List ℕ) (verdict : Verdict) → IsJudged (Some bytes) verdict → ComeTo bytes verdict

@@ -6,7 +6,7 @@ use Rattle.gosync_call.proofs.judge.verdict_of.Goals as goal
 
 pub returns-in-Ok-check-clause-judged : goal.returns-in-Ok-check-clause-judged
 returns-in-Ok-check-clause-judged g c =
-    whole_judged _ c.in-Ok.bytes.items _ c.in-Ok.ensures.bytes (subst (λ (b : List ℕ). ComeTo b _) c.deref.ensures.value c.in-Ok-check.ensures.comes)
+    whole_judged _ c.in-Ok.bytes.items _ c.in-Ok.ensures.bytes (subst (λ (b : List ℕ). ComeTo b c.in-Ok-check.verdict) c.deref.ensures.value c.in-Ok-check.ensures.comes)
 
 pub returns-in-Err-Refused-clause-judged : goal.returns-in-Err-Refused-clause-judged
 returns-in-Err-Refused-clause-judged g c =
