@@ -160,7 +160,7 @@ fn later_callers<R: Threads + Wait + Sync>(
 
 // Caller 1 is woken, and loses against caller 0 at the moment `late`, when caller 2 has queued behind it. The word is then
 // `lost`, and caller 0's try after its unlock takes the mutex or doesn't. The answers that were wrong, and how often each
-// caller looked at its clock.
+// caller looked at its clock. Caller 0 never does, since it has the mutex at once each time.
 fn loses_at<R: Threads + Wait + Sync>(
     rt: &R,
     alloc: Global,
@@ -216,13 +216,13 @@ fn loses_at<R: Threads + Wait + Sync>(
 // More than a millisecond after its arrival caller 1 starves: the mutex is handed to it, and a try fails.
 #[test]
 fn a_starving_loser_is_handed_the_mutex(rt: HostRuntime) -> Result<(), Fail> {
-    assert!(rt; loses_at(&rt, rt.alloc(), 1_000_001, 21, false)? == (0, 2, 3, 2));
+    assert!(rt; loses_at(&rt, rt.alloc(), 1_000_001, 21, false)? == (0, 0, 3, 2));
     Ok(())
 }
 
 // After a millisecond itself it doesn't, and a try takes the mutex.
 #[test]
 fn a_loser_that_does_not_starve_loses_again(rt: HostRuntime) -> Result<(), Fail> {
-    assert!(rt; loses_at(&rt, rt.alloc(), 1_000_000, 17, true)? == (0, 2, 3, 2));
+    assert!(rt; loses_at(&rt, rt.alloc(), 1_000_000, 17, true)? == (0, 0, 3, 2));
     Ok(())
 }

@@ -61,8 +61,6 @@ fn two_threads_lose_no_increment(rt: HostRuntime) -> Result<(), Fail> {
     let number = AtomicU64::new(0);
     add_beside(&rt, &clock, zero, one, &number, 10_000);
     assert!(rt; number.load(Ordering::SeqCst) == 20_000);
-    // Arrivals took the clock's moments.
-    assert!(rt; clock.now() == 8);
     Ok(())
 }
 
