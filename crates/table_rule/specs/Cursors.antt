@@ -85,9 +85,10 @@ GoesUp before found after = (after.1 ≡ before.1) × ((z : Spot) → before.0.s
 abbrev pub ShowsNone : Me (Unit {0}) View → ℕ → Me (Unit {0}) View → Type 0
 ShowsNone before found after = (after.1 ≡ before.1) × ((z : Spot) → before.0.spot ≡ Some z → Sweeps (calls.Next z.begin) (replies.Shown None) (Some z) before.0.leaf before.0 after.0)
 
--- a caller's seat with a cursor, which stands in a slot of a node
+-- a caller's seat with a cursor, which stands in a slot of a node. The seat is on no way to a key
 pub record Sweeping (k : Begin) (me : Me (Unit {0}) View) (z : Spot) : Type 0 where
   pub live : me.0.live ≡ true
+  pub walk : me.0.walk ≡ None
   pub begin : me.0.begin ≡ k
   pub own : Own
   pub owns : List Own
