@@ -18,9 +18,10 @@ ghost use Rattle.table_rule.specs.Writing.{holding, HasRoomWithin};
 ghost use Rattle.shared_table.specs.Notes.{front_by, own_by, seen_by, IsLawfulFor, IsNoteOf};
 ghost use Rattle.shared_table.specs.Tables.{maps_of, first_of};
 
-use crate::note::SharedNote;
+use crate::note::{SharedNote, time_of};
 use crate::table::SharedTable;
 use atomic_table::Seat;
+use stamps::Stamp;
 use crossbeam_utils::Backoff;
 use std::sync::Wait;
 use table_words::View;
@@ -39,38 +40,46 @@ impl SharedTable {
         ensures called { Called (first_of self.now) (calls.Map map Clear) (replies.Map Done) 1 (state_of own_by front_by seen_by note.old) (state_of own_by front_by seen_by note.new) }
         ensures lawful { IsLawfulFor self.now note.new }
     {
-        self.clear(rt, &mut note.seat, map, note.next);
+        self.clear(rt, &mut note.seat, map, note.next, note.stamp.same());
         note.next += NODE_WORDS as u64;
         note.spare -= 1;
+        note.stamp = time_of(&note.seat);
     }
 
-    // The same, by a seat whose caller's room begins here.
-    fn clear<R: Wait>(&self, rt: &R, seat: &mut Seat<(), View>, map: u32, next: u64)
+    // The same, by a seat whose caller's room begins here, and whose caller's last event has this number.
+    fn clear<R: Wait>(
+        &self,
+        rt: &R,
+        seat: &mut Seat<(), View>,
+        map: u32,
+        next: u64,
+        time: Stamp,
+    )
         requires table { IsSeatOf self.now.words seat.old }
         requires free { IsFree (begin_of self.now.words) seat.old.me }
         requires unit { HasUnit seat.old.me.0.owns next }
         requires map { map < maps_of self.now }
         ensures table { seat.new.table_id ≡ seat.old.table_id }
-        ensures made { Clears map seat.old.me seat.new.me }
+        ensures made { Clears map (told_at time.time seat.old.me) seat.new.me }
         ensures room { HasRoomWithin seat.new.me.0 }
     {
-        self.close(rt, seat, map);
+        self.close(rt, seat, map, time);
         self.wait_alone(rt, seat, map);
         self.words.replace_root(seat, map, next);
         self.words.open(seat, map);
     }
 
-    // Closes the map's gate. It waits while another has closed it.
-    fn close<R: Wait>(&self, rt: &R, seat: &mut Seat<(), View>, map: u32)
+    // Closes the map's gate, for a caller whose last event has this number. It waits while another has closed it.
+    fn close<R: Wait>(&self, rt: &R, seat: &mut Seat<(), View>, map: u32, time: Stamp)
         requires table { IsSeatOf self.now.words seat.old }
         requires free { IsFree (begin_of self.now.words) seat.old.me }
         requires map { map < maps_of self.now }
         ensures table { seat.new.table_id ≡ seat.old.table_id }
-        ensures closed { (seat.new.me.1 ≡ seat.old.me.1) × (seat.new.me.0 ≡ holding seat.old.me.0 (Closed map false) None None) }
+        ensures closed { (seat.new.me.1 ≡ seat.old.me.1) × (seat.new.me.0 ≡ holding (at_time seat.old.me.0 time.time) (Closed map false) None None) }
     {
         let backoff = Backoff::new();
         for _ in rt.forever() {
-            if self.words.try_close(rt, seat, map) {
+            if self.words.try_close(rt, seat, map, time.same()) {
                 return;
             }
             backoff.snooze();

@@ -13,6 +13,7 @@ ghost use Rattle.trie_nodes.specs.PlaceLists.{slots_of};
 ghost use Rattle.trie_nodes.specs.Places.{last_of, steps_left};
 
 use atomic_table::Seat;
+use stamps::Stamp;
 use std::mem;
 use table_words::{TableWords, View};
 use trie_nodes::{Place, SLOTS, Slot};
@@ -35,37 +36,42 @@ pub(crate) enum Move {
 }
 
 impl TableCursor {
-    /// A caller's seat begins a cursor over a map, at the first slot of the map's root.
-    pub fn begin(words: &TableWords, seat: &mut Seat<(), View>, map: u32) -> Self
+    /// The seat of a caller whose last event has this number begins a cursor over a map, at the first slot of the map's root.
+    pub fn begin(words: &TableWords, seat: &mut Seat<(), View>, map: u32, time: Stamp) -> Self
         requires table { IsSeatOf words.now seat.old }
         requires free { IsFree (begin_of words.now) seat.old.me }
         requires map { map < (begin_of words.now).maps }
         ensures table { seat.new.table_id ≡ seat.old.table_id }
-        ensures begun { (seat.new.me.1 ≡ seat.old.me.1) × RangesOn words.now result map (made_by seat.old.me.0.owns) (calls.Begin map) replies.Begun seat.old.me.0 seat.new.me.0 }
+        ensures begun { (seat.new.me.1 ≡ seat.old.me.1) × RangesOn words.now result map (made_by seat.old.me.0.owns) (calls.Begin map) replies.Begun (at_time seat.old.me.0 time.time) seat.new.me.0 }
     {
-        let root = words.begin_at(seat, map);
+        let root = words.begin_at(seat, map, time);
         TableCursor {
             seat: words.unmount(seat),
             place: Place::first(root),
         }
     }
 
-    /// A caller's seat makes a step of its cursor, whose seat it takes in for the step. The cursor goes on from where it stands: from
+    /// The seat of a caller whose last event has this number makes a step of its cursor, whose seat it takes in for the step. The cursor goes on from where it stands: from
     /// slot to slot, the low ones first, and down into each node that it finds before it goes on behind it. The step ends at the first
     /// entry, which it shows, or where the cursor has passed all slots of the root that it began at.
-    pub fn next(&mut self, words: &TableWords, seat: &mut Seat<(), View>) -> Option<(u32, u64)>
+    pub fn next(
+        &mut self,
+        words: &TableWords,
+        seat: &mut Seat<(), View>,
+        time: Stamp,
+    ) -> Option<(u32, u64)>
         requires table { IsSeatOf words.now seat.old }
         requires free { IsFree (begin_of words.now) seat.old.me }
         requires cursor { (map : ℕ) × (begin : ℕ) × IsCursor words.now self.old map begin (items_of (view_state seat.old.me.0).own) }
         ensures table { seat.new.table_id ≡ seat.old.table_id }
         ensures slots { seat.new.me.1 ≡ seat.old.me.1 }
         ensures stepped { (map begin : ℕ) → IsCursor words.now self.old map begin (items_of (view_state seat.old.me.0).own)
-            → RangesOn words.now self.new map begin (calls.Next begin) (replies.Shown result) seat.old.me.0 seat.new.me.0 }
+            → RangesOn words.now self.new map begin (calls.Next begin) (replies.Shown result) (at_time seat.old.me.0 time.time) seat.new.me.0 }
         ensures passed { result ≡ None → HasPassedAll self.new }
         ensures ended { HasPassedAll self.old → result ≡ None }
     {
         let copy = words.unmount(seat);
-        words.mount(seat, mem::replace(&mut self.seat, copy));
+        words.mount(seat, mem::replace(&mut self.seat, copy), time);
         let shown = step(words, seat, &mut self.place);
         self.seat = words.unmount(seat);
         shown

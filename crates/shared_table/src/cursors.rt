@@ -10,7 +10,7 @@ ghost use Rattle.shared_table.specs.Notes.{front_by, own_by, seen_by, IsNoteOf, 
 ghost use Rattle.shared_table.specs.Tables.{maps_of, first_of};
 
 use crate::cursor::TableCursor;
-use crate::note::SharedNote;
+use crate::note::{SharedNote, time_of};
 use crate::table::SharedTable;
 
 impl SharedTable {
@@ -23,7 +23,9 @@ impl SharedTable {
         ensures stands { ForSome (own_by note.old) (λ was. ForSome (own_by note.new) (λ becomes. IsCursor self.now.words result map (length was.items) becomes.items)) }
         ensures lawful { IsLawfulFor self.now note.new }
     {
-        TableCursor::begin(&self.words, &mut note.seat, map)
+        let cursor = TableCursor::begin(&self.words, &mut note.seat, map, note.stamp.same());
+        note.stamp = time_of(&note.seat);
+        cursor
     }
 
     /// Makes a step of a cursor, whose map and caller are those of its begin: it shows the next pair, or none where the cursor has
@@ -44,6 +46,8 @@ impl SharedTable {
         ensures passed { result ≡ None → HasPassedAll cursor.new }
         ensures ended { HasPassedAll cursor.old → result ≡ None }
     {
-        cursor.next(&self.words, &mut note.seat)
+        let shown = cursor.next(&self.words, &mut note.seat, note.stamp.same());
+        note.stamp = time_of(&note.seat);
+        shown
     }
 }

@@ -13,9 +13,10 @@ ghost use Rattle.table_rule.specs.Walking.{standing, given_by, HasWords, IsFree,
 ghost use Rattle.shared_table.specs.Notes.{front_by, own_by, seen_by, IsLawfulFor, IsNoteOf};
 ghost use Rattle.shared_table.specs.Tables.{maps_of, first_of};
 
-use crate::note::SharedNote;
+use crate::note::{SharedNote, time_of};
 use crate::table::SharedTable;
 use atomic_table::Seat;
+use stamps::Stamp;
 use std::sync::ledger::Ledger;
 use sync_types::MapCall;
 use table_words::{Steps, View};
@@ -40,26 +41,29 @@ impl SharedTable {
         ensures cost { steps.new ≤ steps.old + 11 }
         ensures least { MatchOption result (steps.old + 2 ≤ steps.new) (λ value. steps.old + 4 ≤ steps.new) }
     {
-        self.walk(&mut note.seat, map, key, steps)
+        let value = self.walk(&mut note.seat, map, key, note.stamp.same(), steps);
+        note.stamp = time_of(&note.seat);
+        value
     }
 
-    // The same, by a seat.
+    // The same, by the seat of a caller whose last event has this number.
     fn walk<L: Ledger>(
         &self,
         seat: &mut Seat<(), View>,
         map: u32,
         key: u32,
+        time: Stamp,
         steps: &mut Steps<L>,
     ) -> Option<u64>
         requires table { IsSeatOf self.now.words seat.old }
         requires free { IsFree (begin_of self.now.words) seat.old.me }
         requires map { map < maps_of self.now }
         ensures table { seat.new.table_id ≡ seat.old.table_id }
-        ensures called { (seat.new.me.1 ≡ seat.old.me.1) × PlacesCall (calls.Map map (Load key)) (replies.Map (Found result)) seat.old.me.0 seat.new.me.0 }
+        ensures called { (seat.new.me.1 ≡ seat.old.me.1) × PlacesCall (calls.Map map (Load key)) (replies.Map (Found result)) (at_time seat.old.me.0 time.time) seat.new.me.0 }
         ensures cost { steps.new ≤ steps.old + 11 }
         ensures least { MatchOption result (steps.old + 2 ≤ steps.new) (λ value. steps.old + 4 ≤ steps.new) }
     {
-        let mut node = self.words.enter(seat, map, key, steps);
+        let mut node = self.words.enter(seat, map, key, time.same(), steps);
         for level in 0..LEVELS {
             match self
                 .words

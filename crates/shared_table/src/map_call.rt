@@ -21,10 +21,11 @@ ghost use Rattle.shared_table.specs.Tables.{maps_of, first_of};
 ghost use Rattle.table_rule.specs.Walking.{standing, walk_at, given_by, HasWords, Affords, IsFree, AtEntry, IsUncounted};
 
 use crate::changes::{Change, reply_of};
-use crate::note::SharedNote;
+use crate::note::{SharedNote, time_of};
 use crate::publish::{remove, show_chain, show_entry};
 use crate::table::SharedTable;
 use atomic_table::Seat;
+use stamps::Stamp;
 use crossbeam_utils::Backoff;
 use std::sync::Wait;
 use sync_types::{MapCall, MapReply};
@@ -100,9 +101,19 @@ impl SharedTable {
         ensures called { Called (first_of self.now) (calls.Map map call) (replies.Map result) (cost_of call) (state_of own_by front_by seen_by note.old) (state_of own_by front_by seen_by note.new) }
         ensures lawful { IsLawfulFor self.now note.new }
     {
-        let made = self.make(rt, &mut note.seat, call, map, key, note.number, note.next);
+        let made = self.make(
+            rt,
+            &mut note.seat,
+            call,
+            map,
+            key,
+            note.number,
+            note.next,
+            note.stamp.same(),
+        );
         note.next += made.words;
         note.spare -= 1;
+        note.stamp = time_of(&note.seat);
         made.reply
     }
 
@@ -220,17 +231,17 @@ impl SharedTable {
         }
     }
 
-    // Comes in as a writer of the map. It waits while the gate is closed.
-    pub(crate) fn come_in<R: Wait>(&self, rt: &R, seat: &mut Seat<(), View>, map: u32)
+    // Comes in as a writer of the map, for a caller whose last event has this number. It waits while the gate is closed.
+    pub(crate) fn come_in<R: Wait>(&self, rt: &R, seat: &mut Seat<(), View>, map: u32, time: Stamp)
         requires table { IsSeatOf self.now.words seat.old }
         requires free { IsFree (begin_of self.now.words) seat.old.me }
         requires map { map < maps_of self.now }
         ensures table { seat.new.table_id ≡ seat.old.table_id }
-        ensures inside { (seat.new.me.1 ≡ seat.old.me.1) × (seat.new.me.0 ≡ holding seat.old.me.0 (Inside map) None None) }
+        ensures inside { (seat.new.me.1 ≡ seat.old.me.1) × (seat.new.me.0 ≡ holding (at_time seat.old.me.0 time.time) (Inside map) None None) }
     {
         let backoff = Backoff::new();
         for _ in rt.forever() {
-            if self.words.try_come_in(rt, seat, map) {
+            if self.words.try_come_in(rt, seat, map, time.same()) {
                 return;
             }
             backoff.snooze();
@@ -382,7 +393,7 @@ impl SharedTable {
         unreachable!()
     }
 
-    // Makes a call, by a seat.
+    // Makes a call, by the seat of a caller whose last event has this number.
     fn make<R: Wait>(
         &self,
         rt: &R,
@@ -392,6 +403,7 @@ impl SharedTable {
         key: u32,
         caller: u32,
         next: u64,
+        time: Stamp,
     ) -> Paid
         requires table { IsSeatOf self.now.words seat.old }
         requires call { (map_key call ≡ Some key) × (cost_of call ≡ 1) }
@@ -401,10 +413,10 @@ impl SharedTable {
         requires map { map < maps_of self.now }
         requires caller { caller ≡ seat.old.me.0.number }
         ensures table { seat.new.table_id ≡ seat.old.table_id }
-        ensures made { (seat.new.me.1 ≡ seat.old.me.1) × MakesAndPrunes map call result.reply result.words seat.old.me.0 seat.new.me.0 }
+        ensures made { (seat.new.me.1 ≡ seat.old.me.1) × MakesAndPrunes map call result.reply result.words (at_time seat.old.me.0 time.time) seat.new.me.0 }
         ensures room { HasRoomWithin seat.new.me.0 }
     {
-        self.come_in(rt, seat, map);
+        self.come_in(rt, seat, map, time);
         let made = self.make_inside(rt, seat, call, map, key, caller, next);
         self.words.go_out(seat, map);
         made

@@ -7,7 +7,7 @@ ghost use Rattle.sync_model.specs.Shared.{state_of};
 ghost use Rattle.table_rule.specs.Operations.{IsAtEnd};
 ghost use Rattle.table_rule.specs.WordSteps.{word_after};
 
-use crate::note::SharedNote;
+use crate::note::{SharedNote, time_of};
 use crate::table::SharedTable;
 use sync_types::AtomicCall;
 use table_words::WordStep;
@@ -30,6 +30,10 @@ impl SharedTable {
         ensures lawful { IsLawfulFor self.now note.new }
         ensures last { IsAtEnd (state_of own_by front_by seen_by note.new) }
     {
-        self.words.operate(&mut note.seat, atomic, call, step)
+        let found = self
+            .words
+            .operate(&mut note.seat, atomic, call, step, note.stamp.same());
+        note.stamp = time_of(&note.seat);
+        found
     }
 }

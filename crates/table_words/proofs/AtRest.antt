@@ -10,7 +10,7 @@ use Rattle.table_rule.specs.Views.{new_owns, first_view}
 
 new_own_at : (next : ℕ) (spares : List ℕ) (i : ℕ) → i < length spares → (own : Own) × (slice_get (new_owns next spares) i ≡ Some own)
 new_own_at next [] i below = absurd (omega arith)
-new_own_at next (spare ∷ spares) zero below = (record { items = []; next = next; spare = spare; draft = [] }, refl)
+new_own_at next (spare ∷ spares) zero below = (record { items = []; times = []; next = next; spare = spare; draft = [] }, refl)
 new_own_at next (spare ∷ spares) (suc i) below = new_own_at (next + unit_words * spare) spares i (omega arith)
 
 pub at_rest : (k : Begin) (words : List ℕ) → AllAtRest k (opening words [] (first_view k))

@@ -36,13 +36,15 @@ use Rattle.table_rule.specs.Values.{AreInRange}
 use Rattle.table_rule.specs.Views.{called_view, with_item, spend, spend_own, view_state}
 use Rattle.table_words.proofs.Closing.{at_gate, not_inside}
 use Rattle.table_words.proofs.Frames.{Later, Apart, cut_on, room_on}
-use Rattle.table_words.proofs.Ledgers.{longer, MayPlace, with_one, adds_one, lawful_after, history_on, grows_on, none_after, fits_after, called, first, contents_on, more_in_range}
+use Rattle.table_words.proofs.Ledgers.{longer, MayPlace, adds_one, lawful_after, history_on, grows_on, none_after, fits_after, called, first, contents_on, more_in_range}
 use Rattle.table_words.proofs.Lists.{past_end, in_more, words_at, words_at-index}
 use Rattle.table_words.proofs.Looking.{looks_so}
 use Rattle.table_words.proofs.Moves.{Keeps, moves}
 use Rattle.table_rule.specs.Unused.{IsUndrafted}
 use Rattle.table_words.proofs.Unused.{others_too, mine_now}
 use Rattle.table_words.proofs.NewRoots.{with_root, old_node, cut_here, Ground, EmptiesMap, behind_heads, fine_rooted, gates_rooted, later_rooted, apart_rooted, part_out, was_held}
+use Rattle.table_words.proofs.Placing.{call_number, at_the_end, places}
+use Rattle.table_words.proofs.Timing.{GoesOn, goes_placed, owns_placed, past, with_one}
 
 module _ (k : Begin) (laws : HistoryLaws) (s : TableState) (r : Kept k s) (id : ℕ) (me : Me (Unit {0}) View) (at_me : get_elem? s.views id ≡ some me.0) (own : Own) (owns : List Own) (is : me.0.owns ≡ own ∷ owns)
     (m : ℕ) (has : HasClosed k me m true) (spare : 0 < own.spare) (blank : own.draft ≡ []) where
@@ -107,14 +109,14 @@ module _ (k : Begin) (laws : HistoryLaws) (s : TableState) (r : Kept k s) (id : 
       }
 
   abbrev pub own_after : Own
-  own_after = spend_own 18 (record own { items = own.items ++ item ∷ [] })
+  own_after = spend_own 18 (record own { items = own.items ++ item ∷ []; times = own.times ++ call_number k s r me.0 (length r.log) ∷ [] })
 
   -- the old root is cut off
   abbrev pub node_cut : CutNode
   node_cut = record { node = slice_index s.words (root_word k m); map = m; level = 0; key = 0; before = r.log; words = words_at s.words (slice_index s.words (root_word k m)) 18 }
 
   abbrev pub view_after : View
-  view_after = having_cut (called_view me.0 (own_after ∷ owns) (history_with r.log me.0.number item)) (node_cut ∷ [])
+  view_after = having_cut (called_view me.0 (own_after ∷ owns) (history_with r.log me.0.number item) (call_number k s r me.0 (length r.log))) (node_cut ∷ [])
 
   abbrev shape : Shape
   shape = with_root r.shape m own.next (length r.log)
@@ -212,8 +214,12 @@ module _ (k : Begin) (laws : HistoryLaws) (s : TableState) (r : Kept k s) (id : 
   in_range : AreInRange (history_with r.log me.0.number item)
   in_range = more_in_range r.log me.0.number item r.values tt
 
+  goes : GoesOn r.shape r.log r.calls s.views r.ordered shape (history_with r.log me.0.number item) (with_one r.calls me.0.number item) me.0.number view_after
+  goes = goes_placed r.shape r.log r.calls s.views r.ordered me.0.number item me.0.time may.to may.last (places k s r) (at_the_end k s r me.0) shape view_after
+      (owns_placed r.ordered.times me.0.number (call_number k s r me.0 (length r.log)) own own_after owns (subst (λ os. (i : ℕ) (o : Own) → slice_get os i ≡ Some o → r.ordered.times (me.0.number + i) ≡ o.times) is (r.ordered.seats id me.0 at_me has.live).owns) refl) has.walk
+
   fits_now : Fits (callers_of k) (history_with r.log me.0.number item) (with_one r.calls me.0.number item) r.claim id view_after
-  fits_now = let f = fits_after k laws r.log r.calls (callers_of k) r.claim id r.lawful me.0 own owns is fits item may own_after refl in record { seen = f.seen; heard = f.heard; long = f.long; front = f.front; owns = f.owns }
+  fits_now = let f = fits_after k laws r.log r.calls (callers_of k) r.claim id r.lawful me.0 own owns is fits item may own_after refl (call_number k s r me.0 (length r.log)) in record { seen = f.seen; heard = f.heard; long = f.long; front = f.front; owns = f.owns }
 
   keeps_all : Keeps k s r id me.0.number words view_after
   keeps_all = record {
@@ -232,6 +238,7 @@ module _ (k : Begin) (laws : HistoryLaws) (s : TableState) (r : Kept k s) (id : 
     grows = grows;
     others = (adds_one r.calls me.0.number item).others;
     fits = fits_now;
+    goes = goes;
     suits = suits_after;
     old = me.0;
     at_old = at_me;
@@ -251,12 +258,14 @@ module _ (k : Begin) (laws : HistoryLaws) (s : TableState) (r : Kept k s) (id : 
   pub is_made : MadeCall m Clear Done 18 (having_cut me.0 (node_cut ∷ [])) view_after
   is_made = record {
     item = item;
+    time = call_number k s r me.0 (length r.log);
     seen = history_with r.log me.0.number item;
-    is = ap (λ o. called_view (having_cut me.0 (node_cut ∷ [])) o (history_with r.log me.0.number item)) (ap (λ o. spend 18 (with_item o item)) (sym is));
+    is = ap (λ o. called_view (having_cut me.0 (node_cut ∷ [])) o (history_with r.log me.0.number item) (call_number k s r me.0 (length r.log))) (ap (λ o. spend 18 (with_item o item (call_number k s r me.0 (length r.log)))) (sym is));
     called = subst (λ b. Called (start_of b) (calls.Map m Clear) (replies.Map Done) 1 (view_state me.0) (view_state view_after)) (sym has.begin)
-        (called k laws r.log r.calls (callers_of k) r.claim id r.lawful me.0 own owns is fits item may own_after refl 1 (let left = spare in omega arith));
+        (called k laws r.log r.calls (callers_of k) r.claim id r.lawful me.0 own owns is fits item may own_after refl (call_number k s r me.0 (length r.log))
+        (past r.shape r.log r.calls s.views r.ordered me.0.number item me.0.time may.to may.last (places k s r) (at_the_end k s r me.0)) refl 1 (let left = spare in omega arith));
     looks = looks_so k (history_with r.log me.0.number item) (with_one r.calls me.0.number item) r.claim id view_after (lawful_after k laws r.log r.calls (callers_of k) r.claim id r.lawful me.0 own owns is fits item may)
-        (none_after k laws r.log r.calls (callers_of k) r.claim id r.lawful me.0 own owns is fits item may r.none_else) fits_now in_range has.begin;
+        (none_after k laws r.log r.calls (callers_of k) r.claim id r.lawful me.0 own owns is fits item may r.none_else) fits_now in_range goes.entry_times goes.times goes.order goes.mine.owns has.begin;
   }
 
 -- a seat that has closed a map's gate, and knows that no writer is inside, may write a new root

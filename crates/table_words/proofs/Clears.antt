@@ -23,8 +23,8 @@ module _ (table : TableWords) (id : ℕ) (me : Me (Unit {0}) View) (word : ℕ) 
   abbrev pub MayChange : (ℕ → ℕ) → (ℕ → Me (Unit {0}) View → Type 0) → Type 0
   MayChange = May table id me word
 
-  pub may_close : (m told old : ℕ) → IsFree table.table.shared.key me → m < table.table.shared.key.maps → old < 2 ^ 32 → told ≡ m → word ≡ gate_word table.table.shared.key m → MayChange (λ n. either (n == old) (old + 2 ^ 32) n) (Closes told old me)
-  may_close m told old free below small same is = subst (λ n. MayChange (λ n. either (n == old) (old + 2 ^ 32) n) (Closes n old me)) (sym same) (may table id me word (gate_word key m) (λ n. either (n == old) (old + 2 ^ 32) n) (Closes m old me) (sym is) (omega arith) (closes key laws id me m old free below small))
+  pub may_close : (m told before old : ℕ) → IsFree table.table.shared.key me → m < table.table.shared.key.maps → old < 2 ^ 32 → told ≡ m → word ≡ gate_word table.table.shared.key m → MayChange (λ n. either (n == old) (old + 2 ^ 32) n) (Closes told before old me)
+  may_close m told before old free below small same is = subst (λ n. MayChange (λ n. either (n == old) (old + 2 ^ 32) n) (Closes n before old me)) (sym same) (may table id me word (gate_word key m) (λ n. either (n == old) (old + 2 ^ 32) n) (Closes m before old me) (sym is) (omega arith) (closes key laws id me m before old free below small))
 
   pub may_look_inside : (m told : ℕ) → HasClosed table.table.shared.key me m false → m < table.table.shared.key.maps → told ≡ m → word ≡ gate_word table.table.shared.key m → MayChange (λ n. n) (LooksInside told me)
   may_look_inside m told has below same is = subst (λ n. MayChange (λ n. n) (LooksInside n me)) (sym same) (may table id me word (gate_word key m) (λ n. n) (LooksInside m me) (sym is) (omega arith) (looks_inside key laws id me m has))

@@ -1,5 +1,5 @@
 -- A seat closes a map's gate, sees that no writer is inside, and opens the gate. The gate's word says whether it is closed.
-use Rattle.std.proofs.Common.{◌≡◌, ◌≢◌, ℕ, zero, suc, ◌+◌, ◌*◌, ◌^◌, ◌<◌, ◌≤◌, ◌==◌, eq-eqb, Bool, true, false, cond, List, [], ◌∷◌, length, set, None, Some, slice_get, slice_index, inl, inr, refl, sym, ap, ◌∙◌, subst, arith, get_or-set_same}
+use Rattle.std.proofs.Common.{◌≡◌, ◌≢◌, ℕ, zero, suc, ◌+◌, ◌*◌, ◌^◌, ◌<◌, ◌≤◌, ◌==◌, eq-eqb, Bool, true, false, cond, List, [], ◌∷◌, length, set, None, Some, slice_get, slice_index, inl, inr, refl, sym, ap, ◌∙◌, subst, arith, get_or-set_same, set-set}
 use Rattle.std.proofs.lemmas.Bool.{cases_eq, eqb-true}
 use Rattle.std.proofs.lemmas.List.{set-get_or}
 use Rattle.std.proofs.lemmas.Option.{none-some}
@@ -21,14 +21,16 @@ use Rattle.table_rule.specs.Layout.{root_word, gate_word, heads, callers_of, siz
 use Rattle.table_rule.specs.Owed.{AtGate}
 use Rattle.table_rule.specs.Rule.{TableState, Kept}
 use Rattle.table_rule.specs.Shape.{Shape, Fine}
-use Rattle.table_rule.specs.Walking.{IsFree}
+use Rattle.table_rule.specs.Walking.{IsFree, told_at}
 use Rattle.table_rule.specs.Writing.{holding, GoesOut}
 use Rattle.table_words.proofs.Frames.{Later, Apart}
-use Rattle.table_words.proofs.Gating.{free, behind, no_root, no_gate, gate_within, closed_large, open_at, tries}
+use Rattle.table_words.proofs.Gating.{free, behind, no_root, no_gate, gate_within, closed_large, open_at, tries, still_free}
 use Rattle.table_words.proofs.Outside.{same, later_out, apart_out, fine_out}
-use Rattle.table_words.proofs.Quiet.{later_same, apart_same, kept_standing}
+use Rattle.table_words.proofs.Quiet.{later_same, apart_same, kept_standing, timely_there, kept_told}
 use Rattle.table_words.proofs.Unused.{map_gate, no_word}
-use Rattle.table_words.proofs.Still.{owned, still, fits_holding, suits_holding, holds_none}
+use Rattle.table_words.proofs.Still.{owned, still, fits_holding, suits_holding, holds_none, own_times}
+use Rattle.table_rule.specs.Views.{at_time}
+use Rattle.table_words.proofs.Lists.{set_here}
 
 -- the same shape, with gates closed by others
 abbrev pub with_closers : Shape → (ℕ → ℕ) → Shape
@@ -184,6 +186,8 @@ module _ (k : Begin) (laws : HistoryLaws) (s : TableState) (r : Kept k s) (id : 
       (λ l e. absurd (none-some l e))
       (λ l e. absurd (none-some l e))
       (λ e. absurd (let none_there : suc (length owns) ≡ 0 = sym (ap length is) ∙ e in omega arith)))
+      (own_times k laws s r id v at_me live own owns is)
+      (inl nowhere)
 
 -- a seat outside closes the gate
 module _ (k : Begin) (laws : HistoryLaws) (s : TableState) (r : Kept k s) (id : ℕ) (me : Me (Unit {0}) View) (at_me : get_elem? s.views id ≡ some me.0) (outside : IsFree k me) (own : Own) (owns : List Own) (is : me.0.owns ≡ own ∷ owns)
@@ -218,8 +222,13 @@ module _ (k : Begin) (laws : HistoryLaws) (s : TableState) (r : Kept k s) (id : 
       ])
       (below, closer_here r.shape.closed_by m (suc me.0.number), λ e. absurd (let f : false ≡ true = e in (cc)))
 
-pub closes : (k : Begin) → HistoryLaws → (id : ℕ) (me : Me (Unit {0}) View) (m old : ℕ) → IsFree k me → m < k.maps → old < 2 ^ 32 → Allows (Kept k) 0 id me (gate_word k m) (λ n. either (n == old) (old + 2 ^ 32) n) (Closes m old me)
-closes k laws id me m old outside below small = tries k id me m old (old + 2 ^ 32) (holding me.0 (Closed m false) None None) outside (λ own owns is s r at_me found. kept_closed k laws s r id me at_me outside own owns is m below old found small)
+-- it is told its caller's number at that step
+pub closes : (k : Begin) → HistoryLaws → (id : ℕ) (me : Me (Unit {0}) View) (m before old : ℕ) → IsFree k me → m < k.maps → old < 2 ^ 32 → Allows (Kept k) 0 id me (gate_word k m) (λ n. either (n == old) (old + 2 ^ 32) n) (Closes m before old me)
+closes k laws id me m before old outside below small = tries k id me m old (old + 2 ^ 32) (holding (at_time me.0 before) (Closed m false) None None) outside (λ own owns is s r at_me found.
+    let v = at_time me.0 before in
+    subst (λ vs. Kept k record { words = set s.words (gate_word k m) (old + 2 ^ 32); homes = s.homes; views = vs }) (set-set s.views id v (holding v (Closed m false) None None))
+    (kept_closed k laws (record { words = s.words; homes = s.homes; views = set s.views id v }) (kept_told k s r id me.0 at_me outside.live outside.idle.walk before) id (told_at before me) (set_here s.views id me.0 v at_me)
+    (still_free k me before outside) own owns is m below old found small))
 
 -- a seat that has closed the gate
 module _ (k : Begin) (laws : HistoryLaws) (s : TableState) (r : Kept k s) (id : ℕ) (me : Me (Unit {0}) View) (at_me : get_elem? s.views id ≡ some me.0) (own : Own) (owns : List Own) (is : me.0.owns ≡ own ∷ owns)
@@ -248,6 +257,8 @@ module _ (k : Begin) (laws : HistoryLaws) (s : TableState) (r : Kept k s) (id : 
       (λ l e. absurd (none-some l e))
       (λ l e. absurd (none-some l e))
       (λ e. absurd (let none_there : suc (length owns) ≡ 0 = sym (ap length is) ∙ e in omega arith)))
+      (own_times k laws s r id me.0 at_me has.live own owns is)
+      (inl has.walk)
     where
       none_counted : count_below (r.shape.inside m) (callers_of k) ≡ 0
       none_counted =
@@ -288,7 +299,7 @@ looks_inside k laws id me m has = by_owns me.0.owns refl
           me.0,
           keeps,
           tt,
-          unmoved s me.0 (kept_standing k s r id me.0 at_me has.live me.0.walk me.0.leaf u.walk u.steady u.leaf),
+          unmoved s me.0 (kept_standing k s r id me.0 at_me has.live me.0.walk me.0.leaf u.walk u.steady u.leaf (timely_there k s r id me.0 at_me has.live me.0.leaf)),
           (refl, refl),
         )
 

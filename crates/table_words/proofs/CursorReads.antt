@@ -1,5 +1,5 @@
 -- A table's own seats may make the steps of a cursor.
-use Rattle.std.proofs.Common.{◌≡◌, ℕ, ◌+◌, ◌<◌, ◌≤◌, true, List, [], ◌∷◌, ◌++◌, length, sym, subst, arith}
+use Rattle.std.proofs.Common.{◌≡◌, ℕ, ◌+◌, ◌<◌, ◌≤◌, true, List, [], ◌∷◌, ◌++◌, length, None, sym, subst, arith}
 use Rattle.atomic_table.specs.Table.{Me, Allows}
 use Rattle.table_rule.specs.declared.begin.Begin.{Begin}
 use Rattle.table_words.specs.declared.words.TableWords.{TableWords}
@@ -38,7 +38,7 @@ module _ (table : TableWords) (laws : HistoryLaws) (sweep : SweepLaws) (id : ℕ
   pub may_show_none : (z : Spot) → Sweeping table.table.shared.key me z → z.slots ≡ 16 ∷ [] → May 0 (ShowsNone me)
   may_show_none z with_cursor ended = may 0 (ShowsNone me) (omega arith) (shows_none key laws sweep id me z 0 with_cursor ended)
 
-  pub may_begin : (m told word : ℕ) → me.0.live ≡ true → me.0.begin ≡ table.table.shared.key → 0 < length me.0.owns → m < table.table.shared.key.maps → told ≡ m → word ≡ root_word table.table.shared.key m → May word (BeginsCursor told me)
-  may_begin m told word live begin some_owns below same is =
+  pub may_begin : (m told before word : ℕ) → me.0.live ≡ true → me.0.begin ≡ table.table.shared.key → 0 < length me.0.owns → me.0.walk ≡ None → m < table.table.shared.key.maps → told ≡ m → word ≡ root_word table.table.shared.key m → May word (BeginsCursor told before me)
+  may_begin m told before word live begin some_owns nowhere below same is =
       let here = sym is in
-      may word (BeginsCursor told me) (omega arith) (subst (λ (x : ℕ × ℕ). Allows (Kept key) 0 id me x.0 (λ n. n) (BeginsCursor x.1 me)) (λ i. (here i, sym same i)) (begins_cursor key laws sweep id me m live begin some_owns below))
+      may word (BeginsCursor told before me) (omega arith) (subst (λ (x : ℕ × ℕ). Allows (Kept key) 0 id me x.0 (λ n. n) (BeginsCursor x.1 before me)) (λ i. (here i, sym same i)) (begins_cursor key laws sweep id me m before live begin some_owns nowhere below))

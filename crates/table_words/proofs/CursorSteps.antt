@@ -117,10 +117,10 @@ module _ (k : Begin) (laws : HistoryLaws) (sweep : SweepLaws) (id : ℕ) (me : M
       → (u : View) × Kept k (stepped s word (slice_index s.words word) id me.1 u keeps) × Sweeps (calls.Next z.begin) (replies.Shown show) (Some spot) leaf me.0 u
   swept word show may leaf leaves spot stands_so =
       let stands_there : (y : Spot) → Some spot ≡ Some y → Stands k r.shape r.log r.calls y = (λ y at. subst (Stands k r.shape r.log r.calls) (same_Some spot y at) stands_so) in
-      let after = view_after k laws s r id me.0 at_me with_cursor.live with_cursor.own with_cursor.owns with_cursor.is (calls.Next z.begin) (replies.Shown show) (show, refl) refl from begun (shows_so show may) leaf leaves (Some spot) stands_there in (
+      let after = view_after k laws s r id me.0 at_me with_cursor.live with_cursor.own with_cursor.owns with_cursor.is with_cursor.walk (calls.Next z.begin) (replies.Shown show) (show, refl) refl from begun (shows_so show may) leaf leaves (Some spot) stands_there in (
         after,
-        on word after (kept_swept k laws s r id me.0 at_me with_cursor.live with_cursor.own with_cursor.owns with_cursor.is (calls.Next z.begin) (replies.Shown show) (show, refl) refl from begun (shows_so show may) leaf leaves (Some spot) stands_there),
-        sweeps k laws s r id me.0 at_me with_cursor.live with_cursor.own with_cursor.owns with_cursor.is (calls.Next z.begin) (replies.Shown show) (show, refl) refl from begun (shows_so show may) leaf leaves (Some spot) stands_there with_cursor.begin,
+        on word after (kept_swept k laws s r id me.0 at_me with_cursor.live with_cursor.own with_cursor.owns with_cursor.is with_cursor.walk (calls.Next z.begin) (replies.Shown show) (show, refl) refl from begun (shows_so show may) leaf leaves (Some spot) stands_there),
+        sweeps k laws s r id me.0 at_me with_cursor.live with_cursor.own with_cursor.owns with_cursor.is with_cursor.walk (calls.Next z.begin) (replies.Shown show) (show, refl) refl from begun (shows_so show may) leaf leaves (Some spot) stands_there with_cursor.begin,
       )
 
   -- the cursor reads the slot where it stands

@@ -30,7 +30,7 @@ use Rattle.table_words.proofs.Lists.{in_more, zeros}
 use Rattle.table_words.proofs.LockWords.{by_first, same_map}
 use Rattle.table_words.proofs.Outside.{nibble_below}
 use Rattle.table_words.proofs.Unused.{node_word}
-use Rattle.table_words.proofs.Still.{still, fits_holding, suits_holding}
+use Rattle.table_words.proofs.Still.{still, fits_holding, suits_holding, own_times}
 use Rattle.table_words.proofs.UpperLocks.{above_other}
 
 same_gate : (k : Begin) (sh : Shape) (child now c : ℕ) (gate : Gate) → AtGate k sh c gate → AtGate k (with_cut sh child now) c gate
@@ -179,6 +179,8 @@ module _ (k : Begin) (laws : HistoryLaws) (tries : TrieLaws) (s : TableState) (r
       later
       (apart_cut k r.shape r.log s.words u.node u.level u.key l.node tries stub me.0.number upper.2.mine lower.2.mine)
       suits_after
+      (own_times k laws s r id me.0 at_me both.live own owns is)
+      (inr (refl, refl))
 
 -- a seat that holds both locks may empty the parent's slot, where the node is dead
 pub cuts_off : (k : Begin) → HistoryLaws → TrieLaws → (id : ℕ) (me : Me (Unit {0}) View) (l u : Lock) → HoldsBoth k me l u true

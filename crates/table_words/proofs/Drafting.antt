@@ -26,7 +26,7 @@ use Rattle.table_words.proofs.Outside.{with_inside, same, in_node, later_out, ap
 use Rattle.table_words.proofs.Lists.{past_end}
 use Rattle.table_rule.specs.Unused.{IsUndrafted, IsUnused}
 use Rattle.table_words.proofs.Unused.{LeavesUnused, others_too, mine_now}
-use Rattle.table_words.proofs.Still.{still}
+use Rattle.table_words.proofs.Still.{still, own_times}
 
 -- the words of a draft with one more
 pub next_word : (xs : List ℕ) (x : ℕ) → slice_index (xs ++ x ∷ []) (length xs) ≡ x
@@ -189,6 +189,10 @@ module _ (k : Begin) (laws : HistoryLaws) (s : TableState) (r : Kept k s) (id : 
       drafted_now : (i : ℕ) → IsUnused k new (set s.views id view_after) i → own.next ≤ i → own.next + length (own.draft ++ x ∷ []) ≤ i
       drafted_now i u = mine_now k new s.views id v view_after at_me live i u 0 own_after refl
 
+  times_on : (i : ℕ) (o : Own) → slice_get (own_after ∷ owns) i ≡ Some o → r.ordered.times (v.number + i) ≡ o.times
+  times_on zero o at = own_times k laws s r id v at_me live own owns is zero own (ap (λ l. slice_get l 0) is) ∙ ap (λ (z : Own). z.times) (same_Some own_after o at)
+  times_on (suc i) o at = own_times k laws s r id v at_me live own owns is (suc i) o (ap (λ l. slice_get l (suc i)) is ∙ at)
+
   pub kept_drafted : Kept k record { words = set s.words (own.next + length own.draft) x; homes = s.homes; views = set s.views id view_after }
   kept_drafted = still k laws s r id v at_me live own owns is (with_inside r.shape r.shape.inside) (set s.words (own.next + length own.draft) x) view_after
       live
@@ -202,6 +206,8 @@ module _ (k : Begin) (laws : HistoryLaws) (s : TableState) (r : Kept k s) (id : 
       (λ d m other. refl)
       (λ d m other closed alone. alone))
       suits_on
+      times_on
+      (inr (refl, refl))
 
 pub drafts : (k : Begin) → HistoryLaws → (id : ℕ) (me : Me (Unit {0}) View) (own : Own) (owns : List Own) (x : ℕ) → me.0.live ≡ true → me.0.owns ≡ own ∷ owns → length own.draft < unit_words * own.spare
     → Allows (Kept k) 0 id me (own.next + length own.draft) (λ n. x) (λ found. Drafts x me x)

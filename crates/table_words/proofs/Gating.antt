@@ -1,5 +1,5 @@
 -- A writer comes in by a map's gate, and goes out. The gate's word counts it.
-use Rattle.std.proofs.Common.{◌≡◌, ◌≢◌, ℕ, zero, suc, ◌+◌, ◌-◌, ◌*◌, ◌%◌, ◌^◌, ◌<◌, ◌≤◌, ◌==◌, eq-eqb, Bool, true, false, cond, List, [], ◌∷◌, length, set, Some, None, slice_get, slice_index, inl, inr, refl, sym, ap, ◌∙◌, subst, arith, get_or-set_same, MatchBool}
+use Rattle.std.proofs.Common.{◌≡◌, ◌≢◌, ℕ, zero, suc, ◌+◌, ◌-◌, ◌*◌, ◌%◌, ◌^◌, ◌<◌, ◌≤◌, ◌==◌, eq-eqb, Bool, true, false, cond, List, [], ◌∷◌, length, set, Some, None, slice_get, slice_index, inl, inr, refl, sym, ap, ◌∙◌, subst, arith, get_or-set_same, MatchBool, set-set}
 use Rattle.std.proofs.lemmas.Bool.{cases_eq, eqb-true, lt-ltb}
 use Rattle.std.proofs.lemmas.List.{set-get_or}
 use Rattle.std.proofs.lemmas.Option.{none-some, slice_get_within}
@@ -18,13 +18,15 @@ use Rattle.trie_nodes.specs.Layout.{unit_words}
 use Rattle.table_rule.specs.Layout.{root_word, gate_word, callers_of, size_of}
 use Rattle.table_rule.specs.Owed.{AtGate}
 use Rattle.table_rule.specs.Rule.{TableState, Kept}
-use Rattle.table_rule.specs.Walking.{IsFree}
+use Rattle.table_rule.specs.Walking.{IsFree, told_at}
 use Rattle.table_rule.specs.Writing.{holding, ComesIn, IsInside, GoesOut}
 use Rattle.table_words.proofs.Frames.{Later}
 use Rattle.table_words.proofs.Outside.{with_inside, same, later_out, apart_out, fine_out}
-use Rattle.table_words.proofs.Quiet.{kept_standing}
+use Rattle.table_words.proofs.Quiet.{kept_standing, timely_there, kept_told}
 use Rattle.table_words.proofs.Unused.{map_gate}
-use Rattle.table_words.proofs.Still.{owned, still, fits_holding, suits_holding, holds_none}
+use Rattle.table_words.proofs.Still.{owned, still, fits_holding, suits_holding, holds_none, own_times}
+use Rattle.table_rule.specs.Views.{at_time}
+use Rattle.table_words.proofs.Lists.{set_here}
 
 -- the writers, when a caller has come in to a map, or gone out
 abbrev pub writers : (ℕ → ℕ → Bool) → ℕ → ℕ → Bool → ℕ → ℕ → Bool
@@ -105,6 +107,10 @@ module _ (k : Begin) (s : TableState) (r : Kept k s) (m : ℕ) (below : m < k.ma
           let bit : closed_bit (r.shape.closed_by m) ≡ 2 ^ 32 = closed_large (r.shape.closed_by m) (omega arith) in
           absurd (omega arith)
 
+-- a seat that was told a number is free as before
+pub still_free : (k : Begin) (me : Me (Unit {0}) View) (before : ℕ) → IsFree k me → IsFree k (told_at before me)
+still_free k me before f = let i = f.idle in record { live = f.live; begin = f.begin; idle = record { walk = i.walk; leaf = i.leaf; lock = i.lock; upper = i.upper; gate = i.gate; spot = i.spot }; some = f.some }
+
 -- a seat outside tries to change a gate's word, and does where the word is still as it saw it
 pub tries : (k : Begin) (id : ℕ) (me : Me (Unit {0}) View) (m old new : ℕ) (then : View) → IsFree k me
     → ((own : Own) (owns : List Own) → me.0.owns ≡ own ∷ owns → (s : TableState) (r : Kept k s) → get_elem? s.views id ≡ some me.0 → slice_index s.words (gate_word k m) ≡ old → Kept k record { words = set s.words (gate_word k m) new; homes = s.homes; views = set s.views id then })
@@ -124,7 +130,7 @@ tries k id me m old new then outside changed = by_owns me.0.owns refl
           me.0,
           keeps,
           tt,
-          subst (λ ws. Kept k record { words = ws; homes = s.homes; views = set s.views id me.0 }) (sym (set-get_or s.words (gate_word k m) 0)) (kept_standing k s r id me.0 at_me outside.live me.0.walk me.0.leaf u.walk u.steady u.leaf),
+          subst (λ ws. Kept k record { words = ws; homes = s.homes; views = set s.views id me.0 }) (sym (set-get_or s.words (gate_word k m) 0)) (kept_standing k s r id me.0 at_me outside.live me.0.walk me.0.leaf u.walk u.steady u.leaf (timely_there k s r id me.0 at_me outside.live me.0.leaf)),
           (refl, refl),
         )
 
@@ -219,9 +225,16 @@ module _ (k : Begin) (laws : HistoryLaws) (s : TableState) (r : Kept k s) (id : 
       (λ l e. absurd (none-some l e))
       (λ l e. absurd (none-some l e))
       (λ e. absurd (let stands = outside.some in omega arith)))
+      (own_times k laws s r id me.0 at_me outside.live own owns is)
+      (inl outside.idle.walk)
 
-pub comes_in : (k : Begin) → HistoryLaws → (id : ℕ) (me : Me (Unit {0}) View) (m old : ℕ) → IsFree k me → m < k.maps → old < 2 ^ 32 → Allows (Kept k) 0 id me (gate_word k m) (λ n. either (n == old) (old + 1) n) (ComesIn m old me)
-comes_in k laws id me m old outside below small = tries k id me m old (old + 1) (holding me.0 (Inside m) None None) outside (λ own owns is s r at_me found. kept_inside k laws s r id me at_me outside own owns is m below old found small)
+-- it is told its caller's number at that step
+pub comes_in : (k : Begin) → HistoryLaws → (id : ℕ) (me : Me (Unit {0}) View) (m before old : ℕ) → IsFree k me → m < k.maps → old < 2 ^ 32 → Allows (Kept k) 0 id me (gate_word k m) (λ n. either (n == old) (old + 1) n) (ComesIn m before old me)
+comes_in k laws id me m before old outside below small = tries k id me m old (old + 1) (holding (at_time me.0 before) (Inside m) None None) outside (λ own owns is s r at_me found.
+    let v = at_time me.0 before in
+    subst (λ vs. Kept k record { words = set s.words (gate_word k m) (old + 1); homes = s.homes; views = vs }) (set-set s.views id v (holding v (Inside m) None None))
+    (kept_inside k laws (record { words = s.words; homes = s.homes; views = set s.views id v }) (kept_told k s r id me.0 at_me outside.live outside.idle.walk before) id (told_at before me) (set_here s.views id me.0 v at_me)
+    (still_free k me before outside) own owns is m below old found small))
 
 abbrev map_of_gate : Gate → ℕ
 map_of_gate Outside = 0
@@ -317,6 +330,8 @@ module _ (k : Begin) (laws : HistoryLaws) (s : TableState) (r : Kept k s) (id : 
       (λ l e. absurd (none-some l e))
       (λ l e. absurd (none-some l e))
       (λ e. refl))
+      (own_times k laws s r id me.0 at_me writer.live own owns is)
+      (inr (refl, refl))
     where
       -- none of the seat's callers is inside
       still_in : (n i : ℕ) (o : Own) → slice_get me.0.owns i ≡ Some o → writers r.shape.inside m me.0.number false n (me.0.number + i) ≡ true → ⊥

@@ -41,11 +41,11 @@ pub record Leaves (v u : View) : Type 0 where
   pub gate : u.gate ≡ v.gate
   pub some : 0 < length v.owns → 0 < length u.owns
 
-some_paid : (cost : ℕ) (owns : List Own) (x : Item) → 0 < length owns → 0 < length (paid cost 0 (with_item owns x))
-some_paid zero [] x stands = stands
-some_paid zero (own ∷ owns) x stands = stands
-some_paid (suc cost) [] x stands = stands
-some_paid (suc cost) (own ∷ owns) x stands = stands
+some_paid : (cost : ℕ) (owns : List Own) (x : Item) (time : ℕ) → 0 < length owns → 0 < length (paid cost 0 (with_item owns x time))
+some_paid zero [] x time stands = stands
+some_paid zero (own ∷ owns) x time stands = stands
+some_paid (suc cost) [] x time stands = stands
+some_paid (suc cost) (own ∷ owns) x time stands = stands
 
 settles_leaves : (call : MapCall ℕ) (w : Walk) (held : Option ℕ) (leaf : Option Leaf) (v u : View) → Settles call w held leaf v u → Leaves v u
 settles_leaves call w held leaf v u settles = by_entry (is_key_entry call held) settles
@@ -65,7 +65,7 @@ settles_leaves call w held leaf v u settles = by_entry (is_key_entry call held) 
       lock = ap (λ (z : View). z.lock) a.is;
       upper = ap (λ (z : View). z.upper) a.is;
       gate = ap (λ (z : View). z.gate) a.is;
-      some = λ stands. subst (λ (z : View). 0 < length z.owns) (sym a.is) (some_paid (cost_of call) v.owns a.item stands);
+      some = λ stands. subst (λ (z : View). 0 < length z.owns) (sym a.is) (some_paid (cost_of call) v.owns a.item a.time stands);
     }
 
 pub leaves : (call : MapCall ℕ) (w : Walk) (found : Slot) (v u : View) → FindsIn call w found v u → Leaves v u

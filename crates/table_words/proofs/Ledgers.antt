@@ -22,20 +22,10 @@ use Rattle.table_rule.specs.Shape.{start_of}
 use Rattle.table_rule.specs.Values.{IsInRange, AreInRange}
 use Rattle.table_rule.specs.Views.{held_in, view_state, called_view}
 use Rattle.table_words.proofs.Lists.{item_on}
-
--- the lists of all callers after one more call
-abbrev pub with_one : (ℕ → List Item) → ℕ → Item → ℕ → List Item
-with_one calls c x d = cond (d == c) (calls c ++ x ∷ []) (calls d)
+use Rattle.table_words.proofs.Timing.{with_one, one_mine, one_other}
 
 pub adds_one : (calls : ℕ → List Item) (c : ℕ) (x : Item) → AddsCall calls c x (with_one calls c x)
-adds_one calls c x = record {
-  mine = ap (λ b. cond b (calls c ++ x ∷ []) (calls c)) (eq-eqb c c refl);
-  others = λ d ne. other d ne (d == c) refl;
-}
-  where
-    other : (d : ℕ) → d ≢ c → (b : Bool) → (d == c) ≡ b → cond b (calls c ++ x ∷ []) (calls d) ≡ calls d
-    other d ne true e = absurd (ne (eqb-true d c e))
-    other d ne false e = refl
+adds_one calls c x = record { mine = one_mine calls c x; others = one_other calls c x }
 
 -- a history with one more entry, or none
 module _ (log : List SharedEntry) (e : SharedEntry) where
@@ -116,10 +106,10 @@ module _ (k : Begin) (laws : HistoryLaws) (log : List SharedEntry) (calls : ℕ 
       pub none_after : ((d : ℕ) → callers ≤ d → calls d ≡ []) → (d : ℕ) → callers ≤ d → with_one calls v.number x d ≡ []
       none_after none_before d past = let below = first.below in (adds_one calls v.number x).others d (λ e. absurd (omega arith)) ∙ none_before d past
 
-      -- the room may change with the call
-      module _ (own' : Own) (items : own'.items ≡ own.items ++ x ∷ []) where
+      -- the room may change with the call, which has this number
+      module _ (own' : Own) (items : own'.items ≡ own.items ++ x ∷ []) (time : ℕ) where
         abbrev pub view_after : View
-        view_after = called_view v (own' ∷ owns) (history_with log v.number x)
+        view_after = called_view v (own' ∷ owns) (history_with log v.number x) time
 
         mine : with_one calls v.number x v.number ≡ own'.items
         mine = (adds_one calls v.number x).mine ∙ ap (λ xs. xs ++ x ∷ []) first.items ∙ sym items
@@ -190,13 +180,14 @@ module _ (k : Begin) (laws : HistoryLaws) (log : List SharedEntry) (calls : ℕ 
               knew = λ j y at d. let up = rises_on d in let was = f.knew j y at d in omega arith;
             }
 
-        pub called : (cost : ℕ) → own'.spare + cost ≡ own.spare → Called (start_of k) x.call x.reply cost (view_state v) (view_state view_after)
-        called cost spare = laws.promised (start_of k) log calls x cost (view_state v) (view_state view_after) takes first.items lawful may_call ([], sym (append-nil (history_with log v.number x)))
+        -- its number is past that of its caller's last event
+        pub called : v.time < time → own'.times ≡ own.times ++ time ∷ [] → (cost : ℕ) → own'.spare + cost ≡ own.spare → Called (start_of k) x.call x.reply cost (view_state v) (view_state view_after)
+        called past times cost spare = laws.promised (start_of k) log calls x cost (view_state v) (view_state view_after) takes first.items lawful may_call ([], sym (append-nil (history_with log v.number x)))
           where
             takes : TakesIn x cost (view_state v) (view_state view_after)
             takes = record {
-              was = record { number = v.number; items = own.items; spare = own.spare };
-              becomes = record { number = v.number; items = own'.items; spare = own'.spare };
+              was = record { number = v.number; items = own.items; times = own.times; spare = own.spare };
+              becomes = record { number = v.number; items = own'.items; times = own'.times; spare = own'.spare };
               own_old = ap (held_in v.number) is;
               own_new = refl;
               number = refl;
@@ -205,7 +196,10 @@ module _ (k : Begin) (laws : HistoryLaws) (log : List SharedEntry) (calls : ℕ 
               is_front = may.front;
               counted = front_mine;
               rises = rises_on;
-              time = refl;
+              time = time;
+              times = times;
+              past = past;
+              reached = omega arith;
               begins = begins_more v.seen log (history_with log v.number x) history_on fits.seen;
               from = may.from;
               to = bound_on log (entry_of v.number x) x.entry x.place may.last may.to;

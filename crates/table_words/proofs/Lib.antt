@@ -1,4 +1,5 @@
 pub mod Frames
+pub mod Timing
 pub mod Units
 pub mod KeyCalls
 pub mod Sites

@@ -1,5 +1,5 @@
 -- A writer changes the lock word of a node that nobody else holds: it takes the lock, marks the node dead, or gives the lock back.
-use Rattle.std.proofs.Common.{◌≡◌, ◌≢◌, ℕ, suc, ◌+◌, ◌^◌, ◌<◌, ◌≤◌, true, false, List, [], ◌∷◌, length, set, Option, Some, None, slice_index, inl, inr, refl, sym, ap, ◌∙◌, subst, arith}
+use Rattle.std.proofs.Common.{◌≡◌, ◌≢◌, ℕ, suc, ◌+◌, ◌^◌, ◌<◌, ◌≤◌, true, false, List, [], ◌∷◌, length, set, Option, Some, None, slice_index, inl, inr, refl, sym, ap, ◌∙◌, subst, arith, ◌⊎◌, slice_get}
 use Rattle.std.proofs.lemmas.Bool.{cases_eq}
 use Rattle.std.proofs.lemmas.List.{set-get_or}
 use Rattle.std.proofs.lemmas.Option.{none-some, same_Some}
@@ -23,9 +23,9 @@ use Rattle.table_rule.specs.Shape.{Shape}
 use Rattle.table_rule.specs.Writing.{holding}
 use Rattle.table_words.proofs.Frames.{Later}
 use Rattle.table_words.proofs.Holding.{with_holder, holder_of, other_holder, here, behind, other_node, gates_hold, later_hold, apart_hold, fine_hold, room_hold}
-use Rattle.table_words.proofs.Quiet.{later_same, apart_same, kept_standing}
+use Rattle.table_words.proofs.Quiet.{later_same, apart_same, kept_standing, timely_there}
 use Rattle.table_words.proofs.Unused.{node_word, no_word}
-use Rattle.table_words.proofs.Still.{KnowsLocks, owned, still, fits_holding, suits_holding}
+use Rattle.table_words.proofs.Still.{KnowsLocks, owned, still, fits_holding, suits_holding, own_times}
 
 pub not_dead : (n : ℕ) → n < 2 ^ 32 → n ≢ dead_word
 not_dead n below e = absurd (omega arith)
@@ -101,8 +101,9 @@ module _ (k : Begin) (laws : HistoryLaws) (s : TableState) (r : Kept k s) (id : 
         u.only knows u.closer locks uppers u.nobody
 
     -- the seat then knows this
-    pub kept_as : (w : View) → w.live ≡ true → w.owns ≡ v.owns → Fits (callers_of k) r.log r.calls r.claim id w → Suits k (with_holder r.shape node holder) r.log r.calls (set s.words node x) w → Kept k record { words = set s.words node x; homes = s.homes; views = set s.views id w }
-    kept_as w alive same_owns fits suits = still k laws s r id v at_me live own owns is new words w
+    pub kept_as : (w : View) → w.live ≡ true → w.owns ≡ v.owns → Fits (callers_of k) r.log r.calls r.claim id w → Suits k (with_holder r.shape node holder) r.log r.calls (set s.words node x) w
+        → w.number ≡ v.number → (w.walk ≡ None) ⊎ ((w.walk ≡ v.walk) × (w.time ≡ v.time)) → Kept k record { words = set s.words node x; homes = s.homes; views = set s.views id w }
+    kept_as w alive same_owns fits suits same_number walks = still k laws s r id v at_me live own owns is new words w
         alive
         (node_word k new s.views id v w at_me alive same_owns s.words node node x is_node (omega arith) (omega arith))
         fits
@@ -111,6 +112,8 @@ module _ (k : Begin) (laws : HistoryLaws) (s : TableState) (r : Kept k s) (id : 
         later
         (apart_hold k r.shape r.log s.words node x holder r.fine is_node holds empty v.number (λ d other. (alone d other).0) (λ d other. (alone d other).1))
         suits
+        (λ i o at. ap (λ n. r.ordered.times (n + i)) same_number ∙ own_times k laws s r id v at_me live own owns is i o (ap (λ l. slice_get l i) (sym same_owns) ∙ at))
+        walks
 
     -- its lock on this node is one of these, and those on others too
     pub knows_held : (lock upper : Option Lock) → HoldsLock (holding v v.gate lock upper) node → ((p : ℕ) → HoldsLock v p → HoldsLock (holding v v.gate lock upper) p) → KnowsLocks v (with_holder r.shape node holder) v.gate lock upper
@@ -123,7 +126,7 @@ module _ (k : Begin) (laws : HistoryLaws) (s : TableState) (r : Kept k s) (id : 
         → ((z : Lock) → lock ≡ Some z → (m : ℕ) × (v.gate ≡ Inside m) × Locks k (with_holder r.shape node holder) (set s.words node x) v.number m z)
         → ((z : Lock) → upper ≡ Some z → (m : ℕ) × (v.gate ≡ Inside m) × Locks k (with_holder r.shape node holder) (set s.words node x) v.number m z)
         → Kept k record { words = set s.words node x; homes = s.homes; views = set s.views id (holding v v.gate lock upper) }
-    kept_held lock upper knows locks uppers = kept_as (holding v v.gate lock upper) live refl (fits_holding k laws s r id v at_me live own owns is v.gate lock upper) (suits_held lock upper knows locks uppers)
+    kept_held lock upper knows locks uppers = kept_as (holding v v.gate lock upper) live refl (fits_holding k laws s r id v at_me live own owns is v.gate lock upper) (suits_held lock upper knows locks uppers) refl (inr (refl, refl))
 
   -- the lock is free, and the seat takes it
   module _ (m node key level : ℕ) (at : IsReachable k r.shape m node key level) (free : slice_index s.words node ≡ 0) where
@@ -187,11 +190,12 @@ module _ (k : Begin) (laws : HistoryLaws) (s : TableState) (r : Kept k s) (id : 
       r.fine r.gates (later_same r.shape r.log s.words) (apart_same k v.number r.shape s.words)
       (suits_holding k laws s r id v at_me live own owns is r.shape s.words v.gate (Some z) None (later_same r.shape r.log s.words) u.steady u.room u.gate u.only
       (λ p i o at reach held. (z, inl refl, one p (u.holder p i o at reach held))) u.closer locks (λ y e. absurd (none-some y e)) u.nobody)
+      (own_times k laws s r id v at_me live own owns is) (inr (refl, refl))
 
   -- nothing changes at all
   pub kept_idle : (word : ℕ) → Kept k record { words = set s.words word (slice_index s.words word); homes = s.homes; views = set s.views id v }
   kept_idle word = let u = r.suits id v at_me live in
-      subst (λ ws. Kept k record { words = ws; homes = s.homes; views = set s.views id v }) (sym (set-get_or s.words word 0)) (kept_standing k s r id v at_me live v.walk v.leaf u.walk u.steady u.leaf)
+      subst (λ ws. Kept k record { words = ws; homes = s.homes; views = set s.views id v }) (sym (set-get_or s.words word 0)) (kept_standing k s r id v at_me live v.walk v.leaf u.walk u.steady u.leaf (timely_there k s r id v at_me live v.leaf))
 
 -- a seat that stands for a caller has a first one
 pub by_first : (me : Me (Unit {0}) View) (P : Type 0) → 0 < length me.0.owns → ((own : Own) (owns : List Own) → me.0.owns ≡ own ∷ owns → P) → P

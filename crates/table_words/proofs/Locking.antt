@@ -108,6 +108,6 @@ unlocks k laws id me l held = by_first me (Allows (Kept k) 0 id me l.node (λ n.
       tt,
       kept_as k laws s r id v at_me held.live own owns is l.node 0 0 node holds empty (alive, was.2.reachable) alone (standing (holding v v.gate None None) None None) held.live refl
           (fits_nowhere (callers_of k) r.log r.calls r.claim id (holding v v.gate None None) (fits_holding k laws s r id v at_me held.live own owns is v.gate None None))
-          (suits_nowhere k (with_holder r.shape l.node 0) r.log r.calls (set s.words l.node 0) (holding v v.gate None None) free),
+          (suits_nowhere k (with_holder r.shape l.node 0) r.log r.calls (set s.words l.node 0) (holding v v.gate None None) free) refl (inl refl),
       (refl, refl),
     ))

@@ -1,5 +1,5 @@
 -- The reads of a seat that looks a key up.
-use Rattle.std.proofs.Common.{◌≡◌, ℕ, suc, ◌+◌, ◌^◌, ◌<◌, ◌≤◌, Bool, true, false, MatchBool, List, [], ◌∷◌, length, set, Option, Some, None, slice_get, slice_index, ◌⊎◌, inl, inr, refl, sym, ap, ◌∙◌, subst, arith, le_refl}
+use Rattle.std.proofs.Common.{◌≡◌, ℕ, suc, ◌+◌, ◌^◌, ◌<◌, ◌≤◌, Bool, true, false, MatchBool, List, [], ◌∷◌, length, set, Option, Some, None, slice_get, slice_index, ◌⊎◌, inl, inr, refl, sym, ap, ◌∙◌, subst, arith, le_refl, max}
 use Rattle.std.proofs.lemmas.List.{set-get_or}
 use Rattle.std.proofs.lemmas.Option.{none-some, same_Some}
 use mathlib.Core.Option.{some}
@@ -25,15 +25,17 @@ use Rattle.trie_nodes.specs.Nodes.{Shows, entry_value}
 use Rattle.trie_nodes.specs.Paths.{nibble}
 use Rattle.trie_nodes.specs.Slots.{slot_in}
 use Rattle.table_rule.specs.Layout.{root_word, size_of, IsBegin}
+use Rattle.table_rule.specs.Order.{IsTimely}
 use Rattle.table_rule.specs.Owed.{Walks, IsLeaf}
 use Rattle.table_rule.specs.Rule.{TableState, Kept}
 use Rattle.table_rule.specs.Shape.{start_of, held_at, till, time, IsBelow}
-use Rattle.table_rule.specs.Views.{MayPay}
-use Rattle.table_rule.specs.Walking.{standing, walk_at, HasWords, Enters, Answers, IsAlong, FindsIn, LooksIn, Affords, ReadsKey, KeepsValue, ReadsValue}
+use Rattle.table_rule.specs.Views.{at_time, MayPay}
+use Rattle.table_rule.specs.Walking.{standing, told_at, walk_at, HasWords, Enters, Answers, IsAlong, FindsIn, LooksIn, Affords, ReadsKey, KeepsValue, ReadsValue}
 use Rattle.table_words.proofs.KeyCalls.{IsOn}
 use Rattle.table_words.proofs.Ledgers.{longer}
 use Rattle.table_words.proofs.Placed.{view_after, kept_quiet, answers}
-use Rattle.table_words.proofs.Quiet.{kept_standing}
+use Rattle.table_words.proofs.Placing.{at_the_end}
+use Rattle.table_words.proofs.Quiet.{kept_entering, kept_standing, timely_there}
 
 -- the words of a table have small numbers
 size_small : (k : Begin) → IsBegin k → size_of k < 2 ^ 32
@@ -42,10 +44,10 @@ size_small k b = let objects = b.objects in let units = b.units in omega arith
 pub has_words : (k : Begin) (v : View) (place words : ℕ) → IsBegin k → v.begin ≡ k → place + words ≤ size_of k → 0 < words → HasWords v place words
 has_words k v place words b begin within some_words = let small = size_small k b in (subst (λ (z : Begin). place + words ≤ size_of z) (sym begin) within, omega arith)
 
--- a seat reads a root word
-pub enters : (k : Begin) (id : ℕ) (me : Me (Unit {0}) View) (m key : ℕ) → me.0.live ≡ true → me.0.begin ≡ k → m < k.maps → key < 2 ^ 32 → me.0.leaf ≡ None
-    → Allows (Kept k) 0 id me (root_word k m) (λ n. n) (Enters m key me)
-enters k id me m key live begin below is_key no_leaf = λ s r one at_me bounded.
+-- a seat reads a root word, and is told its caller's number. The clock is then no less, so each entry that comes is past it
+pub enters : (k : Begin) (id : ℕ) (me : Me (Unit {0}) View) (m key before : ℕ) → me.0.live ≡ true → me.0.begin ≡ k → m < k.maps → key < 2 ^ 32 → me.0.leaf ≡ None
+    → Allows (Kept k) 0 id me (root_word k m) (λ n. n) (Enters m key (told_at before me))
+enters k id me m key before live begin below is_key no_leaf = λ s r one at_me bounded.
     let v = me.0 in
     let p = slice_index s.words (root_word k m) in
     let root = r.fine.live m [] p (r.fine.roots m below) in
@@ -53,15 +55,21 @@ enters k id me m key live begin below is_key no_leaf = λ s r one at_me bounded.
     let seen = longer v.seen r.log (r.fits id v at_me live).seen in
     let w = walk_at m key p 0 (length v.seen) in
     let since : length v.seen ≤ time r.shape r.log p = subst (λ o. length v.seen ≤ till o (length r.log)) (sym root.3) seen in
-    let walks : Walks k r.shape r.log w = record { node = root.0; map = root.1; key = is_key; level = omega arith; path = root.2; since = since } in (
-      standing v (Some w) v.leaf,
+    let walks : Walks k r.shape r.log w = record { node = root.0; map = root.1; key = is_key; level = omega arith; path = root.2; since = since } in
+    let t = r.ordered.seats id v at_me live in
+    let timely : IsTimely r.shape r.log r.ordered.entry_times r.ordered.times (max r.ordered.clock before) (standing (at_time v before) (Some w) v.leaf) = record {
+      owns = t.owns;
+      told = λ x is. omega arith;
+      since = λ x n later is from at. at_the_end k s r (at_time v before) n later (subst (λ (z : Walk). time r.shape r.log z.node ≤ n → length r.log ≤ n) (same_Some w x is) (subst (λ o. till o (length r.log) ≤ n → length r.log ≤ n) (sym root.3) (λ up. up)) from) at;
+    } in (
+      standing (at_time v before) (Some w) v.leaf,
       keeps,
       tt,
-      subst (λ ws. Kept k record { words = ws; homes = s.homes; views = set s.views id (standing v (Some w) v.leaf) }) (sym (set-get_or s.words (root_word k m) 0))
-          (kept_standing k s r id v at_me live (Some w) v.leaf
+      subst (λ ws. Kept k record { words = ws; homes = s.homes; views = set s.views id (standing (at_time v before) (Some w) v.leaf) }) (sym (set-get_or s.words (root_word k m) 0))
+          (kept_entering k s r id v at_me live (Some w) v.leaf
           (λ u e. subst (Walks k r.shape r.log) (same_Some w u e) walks)
           (λ u e inside. inl (subst (λ (x : Walk). r.shape.cut_of x.node ≡ None) (same_Some w u e) root.3))
-          (λ l e. absurd (none-some l (sym no_leaf ∙ e)))),
+          (λ l e. absurd (none-some l (sym no_leaf ∙ e))) before (max r.ordered.clock before) (omega arith) timely),
       (refl, refl, has_words k v p 18 r.begin begin node.within (omega arith)),
     )
 
@@ -102,6 +110,10 @@ module _ (k : Begin) (laws : HistoryLaws) (id : ℕ) (me : Me (Unit {0}) View) (
   from : length me.0.seen ≤ time r.shape r.log w.node
   from = let since = at.since in omega arith
 
+  -- each entry from there on came past the clock that the seat's caller had reached
+  fresh : (n later : ℕ) → until ≤ n → slice_get r.ordered.entry_times n ≡ Some later → me.0.time + 2 ≤ later
+  fresh n later = (r.ordered.seats id me.0 at_me live).since w n later walks
+
   abbrev held_now : Option ℕ
   held_now = held_at k r.log (time r.shape r.log w.node) (r.shape.map_of w.node) w.key
 
@@ -121,11 +133,11 @@ module _ (k : Begin) (laws : HistoryLaws) (id : ℕ) (me : Me (Unit {0}) View) (
 
   settled : (held : Option ℕ) (leaf : Option Leaf) → held_now ≡ held → ((l : Leaf) → leaf ≡ Some l → IsLeaf r.shape s.words l) → (b : Bool) → is_key_entry call held ≡ b
       → (u : View) × Kept k record { words = s.words; homes = s.homes; views = set s.views id u } × StandsOrAnswers held leaf b u
-  settled held leaf e leaves true off = let u = r.suits id me.0 at_me live in (standing me.0 me.0.walk leaf, kept_standing k s r id me.0 at_me live me.0.walk leaf u.walk u.steady leaves, refl)
+  settled held leaf e leaves true off = let u = r.suits id me.0 at_me live in (standing me.0 me.0.walk leaf, kept_standing k s r id me.0 at_me live me.0.walk leaf u.walk u.steady leaves (timely_there k s r id me.0 at_me live leaf), refl)
   settled held leaf e leaves false off = (
-    view_after k laws s r id me.0 at_me live own owns is w.map call pays (key_reply call held) until from moment (reply_is held e) (quiet held e off) leaf leaves,
-    kept_quiet k laws s r id me.0 at_me live own owns is w.map call pays (key_reply call held) until from moment (reply_is held e) (quiet held e off) leaf leaves,
-    answers k laws s r id me.0 at_me live own owns is w.map call pays (key_reply call held) until from moment (reply_is held e) (quiet held e off) leaf leaves begin,
+    view_after k laws s r id me.0 at_me live own owns is w.map call pays (key_reply call held) until from moment fresh (reply_is held e) (quiet held e off) leaf leaves,
+    kept_quiet k laws s r id me.0 at_me live own owns is w.map call pays (key_reply call held) until from moment fresh (reply_is held e) (quiet held e off) leaf leaves,
+    answers k laws s r id me.0 at_me live own owns is w.map call pays (key_reply call held) until from moment fresh (reply_is held e) (quiet held e off) leaf leaves begin,
   )
 
   by_slot : (found : Slot) → slot_in word ≡ found → Shows s.words k.seed (IsBelow k r.shape r.log s.words w.node w.level w.key) w.level w.key held_now found → ((place : ℕ) → found ≡ Entry place → r.shape.kind_of place ≡ 2) → Found found
@@ -142,12 +154,19 @@ module _ (k : Begin) (laws : HistoryLaws) (id : ℕ) (me : Me (Unit {0}) View) (
       let steady : v.gate ≡ Inside w.map → (r.shape.cut_of node ≡ None) ⊎ (slice_index s.words node ≡ dead_word) = (λ gate. elim ((r.suits id v at_me live).steady w walks gate) [
         | inl reachable ↦ inl (below.3 ∙ reachable)
         | inr dead ↦ absurd (let none_there = ap slot_in (r.fine.dead w.node slot at.node dead inside) in let same : Empty ≡ Node node = sym none_there ∙ e in (cc))
-      ]) in (
+      ]) in
+      let t = r.ordered.seats id v at_me live in
+      let timely : IsTimely r.shape r.log r.ordered.entry_times r.ordered.times r.ordered.clock (standing v (Some there) v.leaf) = record {
+        owns = t.owns;
+        told = λ x is. t.told w walks;
+        since = λ x n later is from at_n. t.since w n later walks (subst (λ o. till o (length r.log) ≤ n) below.3 (subst (λ (z : Walk). time r.shape r.log z.node ≤ n) (sym (same_Some there x is)) from)) at_n;
+      } in (
         standing v (Some there) v.leaf,
         kept_standing k s r id v at_me live (Some there) v.leaf
             (λ u e. subst (Walks k r.shape r.log) (same_Some there u e) on_way)
             (λ u e gate. subst (λ (x : Walk). (r.shape.cut_of x.node ≡ None) ⊎ (slice_index s.words x.node ≡ dead_word)) (same_Some there u e) (steady (gate ∙ ap (λ (x : Walk). Inside x.map) (sym (same_Some there u e)))))
-            (λ l e. absurd (none-some l (sym no_leaf ∙ e))),
+            (λ l e. absurd (none-some l (sym no_leaf ∙ e)))
+            timely,
         (refl, has_words k v node 18 r.begin begin lies.within (omega arith), shows.0),
       )
   by_slot (Entry place) e shows entry =
@@ -185,7 +204,7 @@ reads_key k id me l live knows = λ s r one at_me bounded.
       me.0,
       keeps,
       tt,
-      subst (λ ws. Kept k record { words = ws; homes = s.homes; views = set s.views id me.0 }) (sym (set-get_or s.words l.place 0)) (kept_standing k s r id me.0 at_me live me.0.walk me.0.leaf u.walk u.steady u.leaf),
+      subst (λ ws. Kept k record { words = ws; homes = s.homes; views = set s.views id me.0 }) (sym (set-get_or s.words l.place 0)) (kept_standing k s r id me.0 at_me live me.0.walk me.0.leaf u.walk u.steady u.leaf (timely_there k s r id me.0 at_me live me.0.leaf)),
       (refl, λ z e. (u.leaf l knows).key ∙ ap (λ (x : Leaf). x.key) (same_Some l z (sym knows ∙ e))),
     )
 
@@ -197,7 +216,7 @@ reads_value k id me l live knows = λ s r one at_me bounded.
       keeps,
       tt,
       subst (λ ws. Kept k record { words = ws; homes = s.homes; views = set s.views id (standing me.0 me.0.walk None) }) (sym (set-get_or s.words (l.place + 1) 0))
-          (kept_standing k s r id me.0 at_me live me.0.walk None u.walk u.steady (λ z e. absurd (none-some z e))),
+          (kept_standing k s r id me.0 at_me live me.0.walk None u.walk u.steady (λ z e. absurd (none-some z e)) (timely_there k s r id me.0 at_me live None)),
       (refl, refl, λ z e. (u.leaf l knows).value ∙ ap (λ (x : Leaf). x.value) (same_Some l z (sym knows ∙ e))),
     )
 
@@ -207,6 +226,6 @@ keeps_value k id me l live knows = λ s r one at_me bounded.
       me.0,
       keeps,
       tt,
-      subst (λ ws. Kept k record { words = ws; homes = s.homes; views = set s.views id me.0 }) (sym (set-get_or s.words (l.place + 1) 0)) (kept_standing k s r id me.0 at_me live me.0.walk me.0.leaf u.walk u.steady u.leaf),
+      subst (λ ws. Kept k record { words = ws; homes = s.homes; views = set s.views id me.0 }) (sym (set-get_or s.words (l.place + 1) 0)) (kept_standing k s r id me.0 at_me live me.0.walk me.0.leaf u.walk u.steady u.leaf (timely_there k s r id me.0 at_me live me.0.leaf)),
       (refl, λ z e. (u.leaf l knows).value ∙ ap (λ (x : Leaf). x.value) (same_Some l z (sym knows ∙ e))),
     )

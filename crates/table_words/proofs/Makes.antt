@@ -32,6 +32,7 @@ use Rattle.table_rule.specs.Views.{with_item, paid, spend, called_view, view_sta
 use Rattle.table_words.proofs.Chains as chains
 use Rattle.table_words.proofs.Published as published
 use Rattle.table_words.proofs.Stores as stores
+use Rattle.table_words.proofs.Placing.{call_number}
 
 -- the cost of a call that writes
 paid_is : (cost words : ℕ) (owns : List Own) → cost ≡ 1 → paid cost words owns ≡ spend words owns
@@ -119,14 +120,16 @@ module _ (k : Begin) (laws : HistoryLaws) (tries : TrieLaws) (s : TableState) (r
     done : Fine k (with_unit r.shape k.seed m l.level l.key may.own.next nodes) (stores.log k laws tries s r id v at_me may.own may.owns l m sees.word nodes ready call may.on is_entry) (set s.words (slot_word l.node (nibble l.key k.seed l.level)) x) → 2 + 18 * nodes ≡ used_in v.owns → Then
     done fine used =
         let item = published.item k laws tries s r id v at_me may.own may.owns l m sees.word nodes ready call may.on is_entry in
+        let time = call_number k s r v (length r.log) in
         let called = published.is_called k laws tries s r id v at_me may.own may.owns l m sees.word nodes ready call may.on is_entry in (
           view_after,
           published.kept_published k laws tries s r id v at_me may.own may.owns l m sees.word nodes ready call may.on is_entry may.values x fine,
           record {
             item = item;
+            time = time;
             seen = stores.log k laws tries s r id v at_me may.own may.owns l m sees.word nodes ready call may.on is_entry;
-            is = ap (λ o. record (called_view v o (stores.log k laws tries s r id v at_me may.own may.owns l m sees.word nodes ready call may.on is_entry)) { walk = None; leaf = None; lock = Some (bare l) })
-                (ap (λ o. spend (2 + 18 * nodes) (with_item o item)) (sym sees.is) ∙ ap (λ n. spend n (with_item v.owns item)) used ∙ sym (paid_is (cost_of call) (used_in v.owns) (with_item v.owns item) may.costs));
+            is = ap (λ o. record (called_view v o (stores.log k laws tries s r id v at_me may.own may.owns l m sees.word nodes ready call may.on is_entry) time) { walk = None; leaf = None; lock = Some (bare l) })
+                (ap (λ o. spend (2 + 18 * nodes) (with_item o item time)) (sym sees.is) ∙ ap (λ n. spend n (with_item v.owns item time)) used ∙ sym (paid_is (cost_of call) (used_in v.owns) (with_item v.owns item time) may.costs));
             called = subst (λ (z : Begin × Option ℕ × ℕ). Called (start_of z.0) (calls.Map m call) (replies.Map (key_reply call z.1)) z.2 (view_state v) (view_state view_after)) (λ i. (sym sees.begin i, held_is i, sym may.costs i)) called;
             looks = published.looks_then k laws tries s r id v at_me may.own may.owns l m sees.word nodes ready call may.on is_entry may.values sees.begin;
           },

@@ -27,7 +27,9 @@ use Rattle.table_rule.specs.Ledger.{Owned, Fits}
 use Rattle.table_rule.specs.Owed.{HasRoom, Suits}
 use Rattle.table_rule.specs.Rule.{Kept}
 use Rattle.table_rule.specs.Shape.{Shape, start_of, IsNumber, IsNode, ShowsAt, Fine}
-use Rattle.table_rule.specs.Views.{new_owns, first_view}
+use Rattle.table_rule.specs.Views.{new_owns, first_view, at_time}
+use Rattle.table_words.proofs.Timing.{timely_nowhere}
+use Rattle.table_rule.specs.Order.{IsTimely}
 
 both : (a b : Bool) → (a && b) ≡ true → (a ≡ true) × (b ≡ true)
 both true b e = (refl, e)
@@ -70,6 +72,7 @@ owner next (spare ∷ spares) i = cond (nat_lt i (next + unit_words * spare)) 1 
 record IsNewOwn (next : ℕ) (spares : List ℕ) (i : ℕ) (own : Own) : Type 0 where
   below : i < length spares
   items : own.items ≡ []
+  times : own.times ≡ []
   draft : own.draft ≡ []
   lies : next ≤ own.next
   within : own.next + unit_words * own.spare ≤ next + unit_words * sum spares
@@ -77,9 +80,10 @@ record IsNewOwn (next : ℕ) (spares : List ℕ) (i : ℕ) (own : Own) : Type 0 
 
 new_own : (next : ℕ) (spares : List ℕ) (i : ℕ) (own : Own) → slice_get (new_owns next spares) i ≡ Some own → IsNewOwn next spares i own
 new_own next [] i own at = absurd (none-some own at)
-new_own next (spare ∷ spares) zero own at = let all = sum_by-cons (λ x. x) spare spares in subst (IsNewOwn next (spare ∷ spares) zero) (same_Some (record { items = []; next = next; spare = spare; draft = [] }) own at) record {
+new_own next (spare ∷ spares) zero own at = let all = sum_by-cons (λ x. x) spare spares in subst (IsNewOwn next (spare ∷ spares) zero) (same_Some (record { items = []; times = []; next = next; spare = spare; draft = [] }) own at) record {
   below = omega arith;
   items = refl;
+  times = refl;
   draft = refl;
   lies = omega arith;
   within = omega arith;
@@ -88,6 +92,7 @@ new_own next (spare ∷ spares) zero own at = let all = sum_by-cons (λ x. x) sp
 new_own next (spare ∷ spares) (suc i) own at = let r = new_own (next + unit_words * spare) spares i own at in let below = r.below in let lies = r.lies in let within = r.within in let all = sum_by-cons (λ x. x) spare spares in record {
   below = omega arith;
   items = r.items;
+  times = r.times;
   draft = r.draft;
   lies = omega arith;
   within = omega arith;
@@ -279,6 +284,21 @@ module _ (k : Begin) (begin : IsBegin k) (ws : List ℕ) (is_blank : IsBlank k w
     gates = blank_gates;
     unused = λ i u. is_blank.others i (λ m below. u.root m below);
     fits = λ j v at live. let t = only_one j v at in subst (λ (x : ℕ × View). Fits (callers_of k) [] (λ c. []) (λ c. 0) x.0 x.1) (λ i. (sym t.0 i, t.1 i)) blank_fits;
+    ordered = record {
+      entry_times = [];
+      times = λ c. [];
+      clock = 0;
+      order = record {
+        entries = refl;
+        rise = λ n i earlier later below at_n at_i. absurd (none-some earlier at_n);
+        all = λ c. refl;
+        among = λ c j time x at at_time. absurd (none-some x at);
+      };
+      apart = λ n i earlier later below at_n at_i. absurd (none-some earlier at_n);
+      entered = λ n time at. absurd (none-some time at);
+      called = λ c j time at. absurd (none-some time at);
+      seats = λ j v at live. let t = only_one j v at in subst (IsTimely blank [] [] (λ c. []) 0) t.1 (timely_nowhere blank [] [] (λ c. []) 0 (first_view k) (λ i own at. sym (new_own (first_room k) k.spares i own at).times) refl);
+    };
     suits = λ j v at live. let t = only_one j v at in subst (Suits k blank [] (λ c. []) ws) t.1 blank_suits;
   }
     where

@@ -20,10 +20,10 @@ either_is : (b : Bool) (x y : ℕ) → cond b x y ≡ either b x y
 either_is true x y = refl
 either_is false x y = refl
 
-module _ (table : TableWords) (id : ℕ) (me : Me (Unit {0}) View) (a atomic : ℕ) (call : AtomicCall) where
+module _ (table : TableWords) (id : ℕ) (me : Me (Unit {0}) View) (a atomic : ℕ) (call : AtomicCall) (before : ℕ) where
   -- the atomic's word is one of the table, of which the seat may make this
   abbrev pub MayOperate : (ℕ → ℕ) → Type 0
-  MayOperate f = (1 + atomic < table.table.shared.table_id.words) × Allows (Kept table.table.shared.key) table.table.shared.table_id.slots id me (1 + atomic) f (Operates a call me)
+  MayOperate f = (1 + atomic < table.table.shared.table_id.words) × Allows (Kept table.table.shared.key) table.table.shared.table_id.slots id me (1 + atomic) f (Operates a call before me)
 
   may_operate : (f : ℕ → ℕ) (kind : AtomicKind) → HistoryLaws → IsFree table.table.shared.key me → a ≡ atomic → slice_get table.table.shared.key.kinds atomic ≡ Some kind → IsOperation kind call f → MayOperate f
   may_operate f kind laws free same at is =
@@ -31,8 +31,8 @@ module _ (table : TableWords) (id : ℕ) (me : Me (Unit {0}) View) (a atomic : �
       let below = slice_get_within k.kinds atomic kind at in
       let sized = table.sized.0 in (
         omega arith,
-        subst (λ slots. Allows (Kept k) slots id me (1 + atomic) f (Operates a call me)) (sym table.sized.1)
-            (subst (λ n. Allows (Kept k) 0 id me (1 + atomic) f (Operates n call me)) (sym same) (operates k laws id me atomic kind call f free.live free.begin free.some at is)),
+        subst (λ slots. Allows (Kept k) slots id me (1 + atomic) f (Operates a call before me)) (sym table.sized.1)
+            (subst (λ n. Allows (Kept k) 0 id me (1 + atomic) f (Operates n call before me)) (sym same) (operates k laws id me atomic kind call before f free.live free.begin free.some free.idle.walk at is)),
       )
 
   -- the same, by the step that an arm of a match makes

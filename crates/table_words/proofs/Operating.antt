@@ -31,15 +31,19 @@ use Rattle.table_rule.specs.Shape.{start_of, IsNumber}
 use Rattle.table_rule.specs.Views.{with_item, called_view, view_state, Looks}
 use Rattle.table_words.proofs.Frames.{suits_on}
 use Rattle.table_words.proofs.KeyBounds.{keys_on}
-use Rattle.table_words.proofs.Ledgers.{longer, bound_at_end, MayPlace, with_one, adds_one, lawful_after, history_on, grows_on, none_after, fits_after, called, contents_on, first, more_in_range}
+use Rattle.table_words.proofs.Ledgers.{longer, bound_at_end, MayPlace, adds_one, lawful_after, history_on, grows_on, none_after, fits_after, called, contents_on, first, more_in_range}
 use Rattle.table_words.proofs.Looking.{looks_so}
 use Rattle.table_words.proofs.Moves.{Keeps, moves}
 use Rattle.table_rule.specs.Unused.{IsUndrafted}
 use Rattle.table_words.proofs.Unused.{others_too, mine_now}
 use Rattle.table_words.proofs.Numbers.{gates_on, apart_on, later_on, fine_on}
+use Rattle.table_words.proofs.Placing.{call_number, at_the_end, places}
+use Rattle.table_words.proofs.Timing.{GoesOn, past, goes_placed, owns_placed, with_one}
+use Rattle.table_words.proofs.Quiet.{allows_told}
+use Rattle.table_rule.specs.Walking.{told_at}
 
 -- what is owed to a seat stays so at its own step on an atomic
-module _ (k : Begin) (laws : HistoryLaws) (s : TableState) (r : Kept k s) (id : ℕ) (v : View) (at_me : get_elem? s.views id ≡ some v) (live : v.live ≡ true) (own : Own) (owns : List Own) (is : v.owns ≡ own ∷ owns)
+module _ (k : Begin) (laws : HistoryLaws) (s : TableState) (r : Kept k s) (id : ℕ) (v : View) (at_me : get_elem? s.views id ≡ some v) (live : v.live ≡ true) (own : Own) (owns : List Own) (is : v.owns ≡ own ∷ owns) (nowhere : v.walk ≡ None)
     (a : ℕ) (kind : AtomicKind) (at : slice_get k.kinds a ≡ Some kind) (call : AtomicCall) where
   fits : Fits (callers_of k) r.log r.calls r.claim id v
   fits = r.fits id v at_me live
@@ -74,22 +78,26 @@ module _ (k : Begin) (laws : HistoryLaws) (s : TableState) (r : Kept k s) (id : 
 
   -- the caller after it
   abbrev pub own_after : Own
-  own_after = record own { items = own.items ++ item ∷ [] }
+  own_after = record own { items = own.items ++ item ∷ []; times = own.times ++ call_number k s r v (length r.log) ∷ [] }
 
   abbrev pub view_after : View
-  view_after = called_view v (own_after ∷ owns) (history_with r.log v.number item)
+  view_after = called_view v (own_after ∷ owns) (history_with r.log v.number item) (call_number k s r v (length r.log))
+
+  goes : GoesOn r.shape r.log r.calls s.views r.ordered r.shape (history_with r.log v.number item) (with_one r.calls v.number item) v.number view_after
+  goes = goes_placed r.shape r.log r.calls s.views r.ordered v.number item v.time may.to may.last (places k s r) (at_the_end k s r v) r.shape view_after
+      (owns_placed r.ordered.times v.number (call_number k s r v (length r.log)) own own_after owns (subst (λ os. (i : ℕ) (o : Own) → slice_get os i ≡ Some o → r.ordered.times (v.number + i) ≡ o.times) is (r.ordered.seats id v at_me live).owns) refl) nowhere
 
   fits_now : Fits (callers_of k) (history_with r.log v.number item) (with_one r.calls v.number item) r.claim id view_after
-  fits_now = fits_after k laws r.log r.calls (callers_of k) r.claim id r.lawful v own owns is fits item may own_after refl
+  fits_now = fits_after k laws r.log r.calls (callers_of k) r.claim id r.lawful v own owns is fits item may own_after refl (call_number k s r v (length r.log))
 
   -- the seat has then seen the whole history, and the call lies at its end
   pub looks_then : v.begin ≡ k → Looks view_after view_after
   looks_then begin = looks_so k (history_with r.log v.number item) (with_one r.calls v.number item) r.claim id view_after (lawful_after k laws r.log r.calls (callers_of k) r.claim id r.lawful v own owns is fits item may)
-      (none_after k laws r.log r.calls (callers_of k) r.claim id r.lawful v own owns is fits item may r.none_else) fits_now (more_in_range r.log v.number item r.values tt) begin
+      (none_after k laws r.log r.calls (callers_of k) r.claim id r.lawful v own owns is fits item may r.none_else) fits_now (more_in_range r.log v.number item r.values tt) goes.entry_times goes.times goes.order goes.mine.owns begin
 
   pub at_end : IsAtEnd (view_state view_after)
   at_end = record {
-    holding = record { number = v.number; items = own.items ++ item ∷ []; spare = own.spare };
+    holding = record { number = v.number; items = own.items ++ item ∷ []; times = own.times ++ call_number k s r v (length r.log) ∷ []; spare = own.spare };
     own = refl;
     earlier = own.items;
     item = item;
@@ -182,6 +190,7 @@ module _ (k : Begin) (laws : HistoryLaws) (s : TableState) (r : Kept k s) (id : 
       grows = grows;
       others = (adds_one r.calls v.number item).others;
       fits = fits_now;
+      goes = goes;
       suits = suits_after;
       old = v;
       at_old = at_me;
@@ -200,37 +209,45 @@ module _ (k : Begin) (laws : HistoryLaws) (s : TableState) (r : Kept k s) (id : 
 
     pub is_called : Called (start_of k) (Atomic a call) (replies.Atomic (atomic_reply call (number_in kind (slice_index s.words (atomic_word a))))) 0 (view_state v) (view_state view_after)
     is_called = subst (λ n. Called (start_of k) (Atomic a call) (replies.Atomic (atomic_reply call n)) 0 (view_state v) (view_state view_after)) (r.fine.numbers a kind at).1
-        (called k laws r.log r.calls (callers_of k) r.claim id r.lawful v own owns is fits item may own_after refl 0 (omega arith))
+        (called k laws r.log r.calls (callers_of k) r.claim id r.lawful v own owns is fits item may own_after refl (call_number k s r v (length r.log))
+        (past r.shape r.log r.calls s.views r.ordered v.number item v.time may.to may.last (places k s r) (at_the_end k s r v)) refl 0 (omega arith))
 
 -- an operation that makes of the word what the call makes of its number is the call
-pub operates : (k : Begin) → HistoryLaws → (id : ℕ) (me : Me (Unit {0}) View) (a : ℕ) (kind : AtomicKind) (call : AtomicCall) (f : ℕ → ℕ) → me.0.live ≡ true → me.0.begin ≡ k → 0 < length me.0.owns → slice_get k.kinds a ≡ Some kind → IsOperation kind call f
-    → Allows (Kept k) 0 id me (atomic_word a) f (Operates a call me)
-operates k laws id me a kind call f live begin stands at operation = by_owns me.0.owns refl
+operates_now : (k : Begin) → HistoryLaws → (id : ℕ) (me : Me (Unit {0}) View) (a : ℕ) (kind : AtomicKind) (call : AtomicCall) (f : ℕ → ℕ) → me.0.live ≡ true → me.0.begin ≡ k → 0 < length me.0.owns → me.0.walk ≡ None → slice_get k.kinds a ≡ Some kind → IsOperation kind call f
+    → Allows (Kept k) 0 id me (atomic_word a) f (Operates a call me.0.time me)
+operates_now k laws id me a kind call f live begin stands nowhere at operation = by_owns me.0.owns refl
   where
-    by_owns : (owns : List Own) → me.0.owns ≡ owns → Allows (Kept k) 0 id me (atomic_word a) f (Operates a call me)
+    by_owns : (owns : List Own) → me.0.owns ≡ owns → Allows (Kept k) 0 id me (atomic_word a) f (Operates a call me.0.time me)
     by_owns [] e = let none_there = ap length e in absurd (omega arith)
     by_owns (own ∷ owns) is = λ s r one at_me bounded.
-        let v = me.0 in let w = view_after k laws s r id v at_me live own owns is a kind at call in (
+        let v = me.0 in let w = view_after k laws s r id v at_me live own owns is nowhere a kind at call in (
           w,
           keeps,
           tt,
-          kept_after k laws s r id v at_me live own owns is a kind at call f operation,
+          kept_after k laws s r id v at_me live own owns is nowhere a kind at call f operation,
           (
             refl,
             λ other at_other.
                 let same : kind ≡ other = same_Some kind other (sym at ∙ ap (λ (b : Begin). slice_get b.kinds a) (sym begin) ∙ at_other) in
                 let word = slice_index s.words (atomic_word a) in
                 subst (λ z. (is_word z word ≡ true) × PlacesCall (Atomic a call) (replies.Atomic (atomic_reply call (number_in z word))) v w × IsAtEnd (view_state w)) same (
-                  was_word k laws s r id v at_me live own owns is a kind at call f operation,
+                  was_word k laws s r id v at_me live own owns is nowhere a kind at call f operation,
                   record {
-                    item = item k laws s r id v at_me live own owns is a kind at call;
-                    seen = history_with r.log v.number (item k laws s r id v at_me live own owns is a kind at call);
-                    is = ap (λ l. called_view v (with_item l (item k laws s r id v at_me live own owns is a kind at call)) (history_with r.log v.number (item k laws s r id v at_me live own owns is a kind at call))) (sym is);
+                    item = item k laws s r id v at_me live own owns is nowhere a kind at call;
+                    time = call_number k s r v (length r.log);
+                    seen = history_with r.log v.number (item k laws s r id v at_me live own owns is nowhere a kind at call);
+                    is = ap (λ l. called_view v (with_item l (item k laws s r id v at_me live own owns is nowhere a kind at call) (call_number k s r v (length r.log))) (history_with r.log v.number (item k laws s r id v at_me live own owns is nowhere a kind at call)) (call_number k s r v (length r.log))) (sym is);
                     called = subst (λ b. Called (start_of b) (Atomic a call) (replies.Atomic (atomic_reply call (number_in kind word))) 0 (view_state v) (view_state w)) (sym begin)
-                        (is_called k laws s r id v at_me live own owns is a kind at call f operation);
-                    looks = looks_then k laws s r id v at_me live own owns is a kind at call begin;
+                        (is_called k laws s r id v at_me live own owns is nowhere a kind at call f operation);
+                    looks = looks_then k laws s r id v at_me live own owns is nowhere a kind at call begin;
                   },
-                  at_end k laws s r id v at_me live own owns is a kind at call,
+                  at_end k laws s r id v at_me live own owns is nowhere a kind at call,
                 ),
           ),
         )
+
+-- the same, where it is told its caller's number at that step
+pub operates : (k : Begin) → HistoryLaws → (id : ℕ) (me : Me (Unit {0}) View) (a : ℕ) (kind : AtomicKind) (call : AtomicCall) (before : ℕ) (f : ℕ → ℕ) → me.0.live ≡ true → me.0.begin ≡ k → 0 < length me.0.owns → me.0.walk ≡ None → slice_get k.kinds a ≡ Some kind → IsOperation kind call f
+    → Allows (Kept k) 0 id me (atomic_word a) f (Operates a call before me)
+operates k laws id me a kind call before f live begin stands nowhere at operation =
+    allows_told k id me (atomic_word a) f (Operates a call before me) before live nowhere (operates_now k laws id (told_at before me) a kind call f live begin stands nowhere at operation)

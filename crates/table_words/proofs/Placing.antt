@@ -1,6 +1,6 @@
 -- A call that is no entry is placed. No word changes, and its seat goes elsewhere.
 use Rattle.std.proofs.Common.{◌≡◌, ℕ, zero, suc, ◌+◌, ◌≤◌, true, false, List, [], ◌∷◌, ◌++◌, length, set, Option, Some, None, slice_get, slice_index, ◌⊎◌, refl, sym, ap, ◌∙◌, subst, arith, Bool}
-use Rattle.std.proofs.lemmas.Option.{same_Some}
+use Rattle.std.proofs.lemmas.Option.{same_Some, slice_get_within}
 use mathlib.Core.Option.{some}
 use lib.ListN.{get_elem?}
 use Rattle.sync_model.specs.declared.item.Item.{Item}
@@ -24,7 +24,8 @@ use Rattle.table_rule.specs.Rule.{TableState, Kept}
 use Rattle.table_rule.specs.Shape.{Shape, start_of}
 use Rattle.table_rule.specs.Views.{called_view, paid, paid_own, MayPay, view_state, Looks}
 use Rattle.table_words.proofs.Frames.{suits_on, stands_on}
-use Rattle.table_words.proofs.Ledgers.{MayPlace, with_one, adds_one, lawful_after, grows_on, none_after, fits_after, called, first}
+use Rattle.table_words.proofs.Timing.{GoesOn, with_one, time_at, past, goes_placed, owns_placed}
+use Rattle.table_words.proofs.Ledgers.{MayPlace, adds_one, lawful_after, grows_on, none_after, fits_after, called, first}
 use Rattle.table_words.proofs.Looking.{looks_so}
 use Rattle.table_words.proofs.Moves.{Keeps, moves}
 use Rattle.table_rule.specs.Unused.{IsUndrafted, IsUnused}
@@ -44,9 +45,13 @@ paid_spare : (cost : ℕ) (own : Own) → MayPay cost own → (paid_own cost 0 o
 paid_spare zero own pays = omega arith
 paid_spare (suc cost) own pays = let one = pays.0 in let some_left = pays.1 in omega arith
 
-pub paid_room : (k : Begin) (sh : Shape) (ws : List ℕ) (c cost : ℕ) (own : Own) (items : List Item) → MayPay cost own → HasRoom k sh ws c own → HasRoom k sh ws c (paid_own cost 0 (record own { items = items }))
-paid_room k sh ws c zero own items pays h = record { lies = h.lies; within = h.within; mine = h.mine; unused = h.unused; words = h.words }
-paid_room k sh ws c (suc cost) own items pays h =
+paid_times : (cost : ℕ) (own : Own) → (paid_own cost 0 own).times ≡ own.times
+paid_times zero own = refl
+paid_times (suc cost) own = refl
+
+pub paid_room : (k : Begin) (sh : Shape) (ws : List ℕ) (c cost : ℕ) (own : Own) (items : List Item) (times : List ℕ) → MayPay cost own → HasRoom k sh ws c own → HasRoom k sh ws c (paid_own cost 0 (record own { items = items; times = times }))
+paid_room k sh ws c zero own items times pays h = record { lies = h.lies; within = h.within; mine = h.mine; unused = h.unused; words = h.words }
+paid_room k sh ws c (suc cost) own items times pays h =
     let some_left = pays.1 in let lies = h.lies in let within = h.within in record {
       lies = omega arith;
       within = omega arith;
@@ -59,9 +64,21 @@ paid_room k sh ws c (suc cost) own items pays h =
 abbrev pub placed_item : SharedCall → SharedReply → ℕ → List ℕ → Item
 placed_item call reply place front = record { call = call; reply = reply; place = place; entry = false; front = front }
 
+-- the number of a seat's call that is placed here
+abbrev pub call_number : (k : Begin) (s : TableState) (r : Kept k s) (v : View) → ℕ → ℕ
+call_number k s r v place = time_at r.ordered.entry_times r.ordered.clock v.time place
+
+-- behind the last entry is none
+pub at_the_end : (k : Begin) (s : TableState) (r : Kept k s) (v : View) (n later : ℕ) → length r.log ≤ n → slice_get r.ordered.entry_times n ≡ Some later → v.time + 2 ≤ later
+at_the_end k s r v n later from at = let inside = slice_get_within r.ordered.entry_times n later at in let sized = r.ordered.order.entries in absurd (omega arith)
+
+-- each call has a place in the history
+pub places : (k : Begin) (s : TableState) (r : Kept k s) (d j : ℕ) (y : Item) → slice_get (r.calls d) j ≡ Some y → y.place ≤ length r.log
+places k s r d j y at = (r.lawful.sound d j y at).place
+
 module _ (k : Begin) (laws : HistoryLaws) (s : TableState) (r : Kept k s) (id : ℕ) (v : View) (at_me : get_elem? s.views id ≡ some v) (live : v.live ≡ true) (own : Own) (owns : List Own) (is : v.owns ≡ own ∷ owns)
-    (call : SharedCall) (reply : SharedReply) (place : ℕ) (may : MayPlace k laws r.log r.calls v own (placed_item call reply place v.front)) (cost : ℕ) (pays : MayPay cost own)
-    (walk : Option Walk) (walks : (w : Walk) → walk ≡ Some w → Walks k r.shape r.log w) (steady : (w : Walk) → walk ≡ Some w → v.gate ≡ Inside w.map → (r.shape.cut_of w.node ≡ None) ⊎ (slice_index s.words w.node ≡ dead_word))
+    (call : SharedCall) (reply : SharedReply) (place : ℕ) (may : MayPlace k laws r.log r.calls v own (placed_item call reply place v.front)) (fresh : (n later : ℕ) → place ≤ n → slice_get r.ordered.entry_times n ≡ Some later → v.time + 2 ≤ later) (cost : ℕ) (pays : MayPay cost own)
+    (walk : Option Walk) (nowhere : walk ≡ None) (walks : (w : Walk) → walk ≡ Some w → Walks k r.shape r.log w) (steady : (w : Walk) → walk ≡ Some w → v.gate ≡ Inside w.map → (r.shape.cut_of w.node ≡ None) ⊎ (slice_index s.words w.node ≡ dead_word))
     (leaf : Option Leaf) (leaves : (l : Leaf) → leaf ≡ Some l → IsLeaf r.shape s.words l) (spot : Option Spot) (stands : (z : Spot) → spot ≡ Some z → Stands k r.shape r.log r.calls z) where
   fits : Fits (callers_of k) r.log r.calls r.claim id v
   fits = r.fits id v at_me live
@@ -70,10 +87,13 @@ module _ (k : Begin) (laws : HistoryLaws) (s : TableState) (r : Kept k s) (id : 
   item = placed_item call reply place v.front
 
   abbrev own_after : Own
-  own_after = paid_own cost 0 (record own { items = own.items ++ item ∷ [] })
+  own_after = paid_own cost 0 (record own { items = own.items ++ item ∷ []; times = own.times ++ call_number k s r v place ∷ [] })
+
+  abbrev noted : Own
+  noted = record own { items = own.items ++ item ∷ []; times = own.times ++ call_number k s r v place ∷ [] }
 
   abbrev pub view_after : View
-  view_after = record (called_view v (own_after ∷ owns) r.log) { walk = walk; leaf = leaf; spot = spot }
+  view_after = record (called_view v (own_after ∷ owns) r.log (call_number k s r v place)) { walk = walk; leaf = leaf; spot = spot }
 
   grows : Grows r.calls (with_one r.calls v.number item)
   grows = grows_on k laws r.log r.calls (callers_of k) r.claim id r.lawful v own owns is fits item may
@@ -108,7 +128,7 @@ module _ (k : Begin) (laws : HistoryLaws) (s : TableState) (r : Kept k s) (id : 
 
       room_after : ((i : ℕ) (o : Own) → slice_get v.owns i ≡ Some o → HasRoom k r.shape s.words (v.number + i) o) → (i : ℕ) (o : Own) → slice_get (own_after ∷ owns) i ≡ Some o → HasRoom k r.shape s.words (v.number + i) o
       room_after rooms zero o at = let h = rooms 0 own first_is in
-          subst (HasRoom k r.shape s.words (v.number + 0)) (same_Some own_after o at) (paid_room k r.shape s.words (v.number + 0) cost own (own.items ++ item ∷ []) pays h)
+          subst (HasRoom k r.shape s.words (v.number + 0)) (same_Some own_after o at) (paid_room k r.shape s.words (v.number + 0) cost own (own.items ++ item ∷ []) (own.times ++ call_number k s r v place ∷ []) pays h)
       room_after rooms (suc i) o at = rooms (suc i) o (ap (λ l. slice_get l (suc i)) is ∙ at)
 
       only_after : ((m i : ℕ) (o : Own) → slice_get v.owns i ≡ Some o → r.shape.inside m (v.number + i) ≡ true → v.gate ≡ Inside m) → (m i : ℕ) (o : Own) → slice_get (own_after ∷ owns) i ≡ Some o → r.shape.inside m (v.number + i) ≡ true → v.gate ≡ Inside m
@@ -126,14 +146,18 @@ module _ (k : Begin) (laws : HistoryLaws) (s : TableState) (r : Kept k s) (id : 
       closer_after m closer (suc i) o at closed = closer m (suc i) o (ap (λ l. slice_get l (suc i)) is ∙ at) closed
 
   fits_now : Fits (callers_of k) r.log (with_one r.calls v.number item) r.claim id view_after
-  fits_now = let f = fits_after k laws r.log r.calls (callers_of k) r.claim id r.lawful v own owns is fits item may own_after (paid_items cost (record own { items = own.items ++ item ∷ [] })) in record { seen = f.seen; heard = f.heard; long = f.long; front = f.front; owns = f.owns }
+  fits_now = let f = fits_after k laws r.log r.calls (callers_of k) r.claim id r.lawful v own owns is fits item may own_after (paid_items cost noted) (call_number k s r v place) in record { seen = f.seen; heard = f.heard; long = f.long; front = f.front; owns = f.owns }
 
   drafts_then : (i : ℕ) → IsUnused k r.shape (set s.views id view_after) i → IsUndrafted v.owns i
   drafts_then i u = let now = mine_now k r.shape s.views id v view_after at_me live i u in subst (λ os. IsUndrafted os i) (sym is) (others_too own own_after owns i (by_cost cost pays (now 0 own_after refl)) now)
     where
-      by_cost : (c : ℕ) → MayPay c own → ((paid_own c 0 (record own { items = own.items ++ item ∷ [] })).next ≤ i → (paid_own c 0 (record own { items = own.items ++ item ∷ [] })).next + length (paid_own c 0 (record own { items = own.items ++ item ∷ [] })).draft ≤ i) → own.next ≤ i → own.next + length own.draft ≤ i
+      by_cost : (c : ℕ) → MayPay c own → ((paid_own c 0 noted).next ≤ i → (paid_own c 0 noted).next + length (paid_own c 0 noted).draft ≤ i) → own.next ≤ i → own.next + length own.draft ≤ i
       by_cost zero free now past = now past
       by_cost (suc c) pays now past = let none_drafted : length own.draft ≡ 0 = ap length pays.2 in omega arith
+
+  goes : GoesOn r.shape r.log r.calls s.views r.ordered r.shape r.log (with_one r.calls v.number item) v.number view_after
+  goes = goes_placed r.shape r.log r.calls s.views r.ordered v.number item v.time may.to may.last (places k s r) fresh r.shape view_after
+      (owns_placed r.ordered.times v.number (call_number k s r v place) own own_after owns (subst (λ os. (i : ℕ) (o : Own) → slice_get os i ≡ Some o → r.ordered.times (v.number + i) ≡ o.times) is (r.ordered.seats id v at_me live).owns) (paid_times cost noted)) nowhere
 
   keeps_placed : Keeps k s r id v.number s.words view_after
   keeps_placed = record {
@@ -152,6 +176,7 @@ module _ (k : Begin) (laws : HistoryLaws) (s : TableState) (r : Kept k s) (id : 
     grows = grows;
     others = (adds_one r.calls v.number item).others;
     fits = fits_now;
+    goes = goes;
     suits = suits_after;
     old = v;
     at_old = at_me;
@@ -162,15 +187,16 @@ module _ (k : Begin) (laws : HistoryLaws) (s : TableState) (r : Kept k s) (id : 
   pub kept_placed : Kept k record { words = s.words; homes = s.homes; views = set s.views id view_after }
   kept_placed = moves k laws s r id v.number s.words view_after keeps_placed
 
-  pays_on : (cost : ℕ) → MayPay cost own → MayPay cost (record own { items = own.items ++ item ∷ [] })
+  pays_on : (cost : ℕ) → MayPay cost own → MayPay cost noted
   pays_on zero pays = tt
   pays_on (suc cost) pays = pays
 
   pub is_called : v.begin ≡ k → Called (start_of v.begin) call reply cost (view_state v) (view_state view_after)
   is_called begin = subst (λ b. Called (start_of b) call reply cost (view_state v) (view_state view_after)) (sym begin)
-      (called k laws r.log r.calls (callers_of k) r.claim id r.lawful v own owns is fits item may own_after (paid_items cost (record own { items = own.items ++ item ∷ [] })) cost (paid_spare cost (record own { items = own.items ++ item ∷ [] }) (pays_on cost pays)))
+      (called k laws r.log r.calls (callers_of k) r.claim id r.lawful v own owns is fits item may own_after (paid_items cost noted) (call_number k s r v place)
+      (past r.shape r.log r.calls s.views r.ordered v.number item v.time may.to may.last (places k s r) fresh) (paid_times cost noted) cost (paid_spare cost noted (pays_on cost pays)))
 
   -- the seat has then seen the whole history
   pub looks_then : v.begin ≡ k → Looks view_after view_after
   looks_then begin = looks_so k r.log (with_one r.calls v.number item) r.claim id view_after (lawful_after k laws r.log r.calls (callers_of k) r.claim id r.lawful v own owns is fits item may)
-      (none_after k laws r.log r.calls (callers_of k) r.claim id r.lawful v own owns is fits item may r.none_else) fits_now r.values begin
+      (none_after k laws r.log r.calls (callers_of k) r.claim id r.lawful v own owns is fits item may r.none_else) fits_now r.values goes.entry_times goes.times goes.order goes.mine.owns begin

@@ -37,7 +37,7 @@ use Rattle.table_rule.specs.Values.{HasSmallValues}
 use Rattle.table_rule.specs.Views.{called_view, spend_own, view_state, Looks}
 use Rattle.table_words.proofs.Frames.{Later, Apart, cut_on, room_on, stands_on}
 use Rattle.table_words.proofs.KeyCalls.{IsOn, ChangesKey, changes_key}
-use Rattle.table_words.proofs.Ledgers.{longer, MayPlace, with_one, adds_one, lawful_after, history_on, grows_on, none_after, fits_after, called, first, more_in_range}
+use Rattle.table_words.proofs.Ledgers.{longer, MayPlace, adds_one, lawful_after, history_on, grows_on, none_after, fits_after, called, first, more_in_range}
 use Rattle.table_words.proofs.Lists.{past_end}
 use Rattle.table_words.proofs.Looking.{looks_so}
 use Rattle.table_words.proofs.Moves.{Keeps, moves}
@@ -48,6 +48,8 @@ use Rattle.table_words.proofs.Still.{holds_one}
 use Rattle.table_rule.specs.Unused.{IsUndrafted, IsUnused}
 use Rattle.table_words.proofs.Unused.{in_node, others_too, mine_now}
 use Rattle.table_words.proofs.Units as units
+use Rattle.table_words.proofs.Placing.{call_number, at_the_end, places}
+use Rattle.table_words.proofs.Timing.{GoesOn, goes_placed, owns_placed, past, with_one}
 
 -- a caller that holds a node's lock knows the word in the slot for a key, which isn't a node's, and has a unit of room
 pub record IsReady (k : Begin) (v : View) (own : Own) (owns : List Own) (l : Lock) (m word nodes : ℕ) : Type 0 where
@@ -149,24 +151,28 @@ module _ (k : Begin) (laws : HistoryLaws) (tries : TrieLaws) (s : TableState) (r
     changes = changes_key k laws r.log v.number item m l.key call refl on below_maps (sym is_entry ∙ sym (laws.keys.entries call l.key (map_at (contents_after (start_of k) r.log) m) on)) history
 
     abbrev pub own_after : Own
-    own_after = spend_own (2 + 18 * nodes) (record own { items = own.items ++ item ∷ [] })
+    own_after = spend_own (2 + 18 * nodes) (record own { items = own.items ++ item ∷ []; times = own.times ++ call_number k s r v (length r.log) ∷ [] })
 
     abbrev pub lock_after : Lock
     lock_after = record l { found = None; empty = 0 }
 
     abbrev pub view_after : View
-    view_after = record (called_view v (own_after ∷ owns) (history_with r.log v.number item)) { walk = None; leaf = None; lock = Some lock_after }
+    view_after = record (called_view v (own_after ∷ owns) (history_with r.log v.number item) (call_number k s r v (length r.log))) { walk = None; leaf = None; lock = Some lock_after }
 
     abbrev shape : Shape
     shape = with_unit r.shape k.seed m l.level l.key own.next nodes
 
     fits_now : Fits (callers_of k) (history_with r.log v.number item) (with_one r.calls v.number item) r.claim id view_after
-    fits_now = let f = fits_after k laws r.log r.calls (callers_of k) r.claim id r.lawful v own owns ready.is fits item may own_after refl in record { seen = f.seen; heard = f.heard; long = f.long; front = f.front; owns = f.owns }
+    fits_now = let f = fits_after k laws r.log r.calls (callers_of k) r.claim id r.lawful v own owns ready.is fits item may own_after refl (call_number k s r v (length r.log)) in record { seen = f.seen; heard = f.heard; long = f.long; front = f.front; owns = f.owns }
+
+    goes : GoesOn r.shape r.log r.calls s.views r.ordered shape (history_with r.log v.number item) (with_one r.calls v.number item) v.number view_after
+    goes = goes_placed r.shape r.log r.calls s.views r.ordered v.number item v.time may.to may.last (places k s r) (at_the_end k s r v) shape view_after
+        (owns_placed r.ordered.times v.number (call_number k s r v (length r.log)) own own_after owns (subst (λ os. (i : ℕ) (o : Own) → slice_get os i ≡ Some o → r.ordered.times (v.number + i) ≡ o.times) ready.is (r.ordered.seats id v at_me ready.live).owns) refl) refl
 
     -- the seat has then seen the whole history
     pub looks_then : HasSmallValues call → v.begin ≡ k → Looks view_after view_after
     looks_then small begin = looks_so k (history_with r.log v.number item) (with_one r.calls v.number item) r.claim id view_after (lawful_after k laws r.log r.calls (callers_of k) r.claim id r.lawful v own owns ready.is fits item may)
-        (none_after k laws r.log r.calls (callers_of k) r.claim id r.lawful v own owns ready.is fits item may r.none_else) fits_now (more_in_range r.log v.number item r.values small) begin
+        (none_after k laws r.log r.calls (callers_of k) r.claim id r.lawful v own owns ready.is fits item may r.none_else) fits_now (more_in_range r.log v.number item r.values small) goes.entry_times goes.times goes.order goes.mine.owns begin
 
     module _ (small : HasSmallValues call) (x : ℕ) (fine : Fine k (with_unit r.shape k.seed m l.level l.key own.next nodes) (history_with r.log v.number item) (set s.words (slot_word l.node (nibble l.key k.seed l.level)) x)) where
       abbrev words : List ℕ
@@ -297,6 +303,7 @@ module _ (k : Begin) (laws : HistoryLaws) (tries : TrieLaws) (s : TableState) (r
         grows = grows;
         others = (adds_one r.calls v.number item).others;
         fits = fits_now;
+        goes = goes;
         suits = suits_after;
         old = v;
         at_old = at_me;
@@ -312,4 +319,5 @@ module _ (k : Begin) (laws : HistoryLaws) (tries : TrieLaws) (s : TableState) (r
       kept_published = moves k laws s r id v.number words view_after keeps_all
 
     pub is_called : Called (start_of k) (calls.Map m call) (replies.Map (key_reply call (value_at (contents_after (start_of k) r.log) m l.key))) 1 (view_state v) (view_state view_after)
-    is_called = let spare = ready.spare in called k laws r.log r.calls (callers_of k) r.claim id r.lawful v own owns ready.is fits item may own_after refl 1 (omega arith)
+    is_called = let spare = ready.spare in called k laws r.log r.calls (callers_of k) r.claim id r.lawful v own owns ready.is fits item may own_after refl (call_number k s r v (length r.log))
+        (past r.shape r.log r.calls s.views r.ordered v.number item v.time may.to may.last (places k s r) (at_the_end k s r v)) refl 1 (omega arith)

@@ -13,7 +13,7 @@ use Rattle.trie_nodes.specs.Paths.{nibble}
 use Rattle.trie_nodes.specs.Slots.{slot_in}
 use Rattle.table_rule.specs.Layout.{root_word, size_of}
 use Rattle.table_rule.specs.Rule.{Kept}
-use Rattle.table_rule.specs.Walking.{HasWords, Enters, MayEnter, LooksIn, Affords, ReadsKey, KeepsValue, ReadsValue, OnWay, AtEntry}
+use Rattle.table_rule.specs.Walking.{told_at, HasWords, Enters, MayEnter, LooksIn, Affords, ReadsKey, KeepsValue, ReadsValue, OnWay, AtEntry}
 use Rattle.table_words.proofs.KeyCalls.{IsOn}
 use Rattle.table_words.proofs.Lookups.{enters, looks_in, reads_key, keeps_value, reads_value}
 use Rattle.table_words.proofs.Stepping.{may}
@@ -52,11 +52,11 @@ module _ (table : TableWords) (id : ℕ) (me : Me (Unit {0}) View) (word : ℕ) 
     pub then_keep_value : MayRead (KeepsValue me)
     then_keep_value = may_keep_value place (ap (λ m. m.0.begin) stays ∙ begin) (subst (λ m. AtEntry m place) (sym stays) at) (subst (λ m. HasWords m.0 place 2) (sym stays) has) is
 
-  pub may_enter : (m told key_of : ℕ) → MayEnter table.table.shared.key me → m < table.table.shared.key.maps → key_of < 2 ^ 32 → told ≡ m → word ≡ root_word table.table.shared.key m → MayRead (Enters told key_of me)
-  may_enter m told key_of free below is_key same is =
+  pub may_enter : (m told key_of before : ℕ) → MayEnter table.table.shared.key me → m < table.table.shared.key.maps → key_of < 2 ^ 32 → told ≡ m → word ≡ root_word table.table.shared.key m → MayRead (Enters told key_of (told_at before me))
+  may_enter m told key_of before free below is_key same is =
       let sized = table.sized.0 in
       let within : root_word key m < size_of key = omega arith in
-      subst (λ n. MayRead (Enters n key_of me)) (sym same) (may table id me word (root_word key m) (λ n. n) (Enters m key_of me) (sym is) within (enters key id me m key_of free.0 free.1 below is_key free.2))
+      subst (λ n. MayRead (Enters n key_of (told_at before me))) (sym same) (may table id me word (root_word key m) (λ n. n) (Enters m key_of (told_at before me)) (sym is) within (enters key id me m key_of before free.0 free.1 below is_key free.2))
 
   pub may_look_in : HistoryLaws → (w : Walk) (slot : ℕ) (call : MapCall ℕ) → OnWay table.table.shared.key me w → HasWords me.0 w.node 18 → slot ≡ nibble w.key table.begin.seed w.level → slot < 16 → word ≡ slot_word w.node slot → IsOn w.key call
       → Affords (cost_of call) me.0.owns → MayRead (λ found. LooksIn call me (slot_in found))

@@ -1,5 +1,5 @@
 -- Seats are cut in two and taken in, between calls. No word changes.
-use Rattle.std.proofs.Common.{◌≡◌, ◌≢◌, ℕ, zero, suc, ◌+◌, ◌<◌, ◌≤◌, ◌==◌, Bool, true, false, cond, nat_le, max, eq-eqb, ne_eqb, List, [], ◌∷◌, ◌++◌, length, set, Some, slice_get, slice_index, ◌⊎◌, inl, inr, refl, sym, ap, ◌∙◌, subst, arith, length-append}
+use Rattle.std.proofs.Common.{◌≡◌, ◌≢◌, ℕ, zero, suc, ◌+◌, ◌<◌, ◌≤◌, ◌==◌, Bool, true, false, cond, nat_le, max, eq-eqb, ne_eqb, List, [], ◌∷◌, ◌++◌, length, set, Some, slice_get, slice_index, ◌⊎◌, inl, inr, refl, sym, ap, ◌∙◌, subst, arith, length-append, le_refl}
 use Rattle.std.proofs.lemmas.Bool.{leb-true, le-leb}
 use Rattle.std.proofs.lemmas.List.{append-nil}
 use Rattle.std.proofs.lemmas.List.Elements.{Contains-append_cases}
@@ -23,6 +23,7 @@ use Rattle.table_rule.specs.declared.view.View.{View}
 use Rattle.table_words.specs.Laws.{HistoryLaws}
 use Rattle.table_rule.specs.Layout.{callers_of}
 use Rattle.table_rule.specs.Ledger.{Owned, Fits}
+use Rattle.table_rule.specs.Order.{IsTimely}
 use Rattle.table_rule.specs.Owed.{HasRoom, AtGate, Suits}
 use Rattle.table_words.proofs.Still.{holds_none}
 use Rattle.table_rule.specs.Rule.{TableState, Kept}
@@ -63,14 +64,19 @@ out_of g m out inside = let e : Outside ≡ Inside m = sym out ∙ inside in abs
 module _ (k : Begin) (s : TableState) (r : Kept k s) (id : ℕ) (v : View) (at_me : get_elem? s.views id ≡ some v) (left right : View) (claim : ℕ → ℕ) (stays : (d j : ℕ) → j ≢ id → r.claim d ≡ j → claim d ≡ j)
     (fits_left : Fits (callers_of k) r.log r.calls claim id left) (fits_right : Fits (callers_of k) r.log r.calls claim (length (set s.views id left)) right)
     (live_left : left.live ≡ true) (live_right : right.live ≡ true) (owns : (i : ℕ) → IsUndrafted left.owns i → IsUndrafted right.owns i → IsUndrafted v.owns i)
-    (suits_left : Suits k r.shape r.log r.calls s.words left) (suits_right : Suits k r.shape r.log r.calls s.words right) where
+    (suits_left : Suits k r.shape r.log r.calls s.words left) (suits_right : Suits k r.shape r.log r.calls s.words right)
+    (timely_left : IsTimely r.shape r.log r.ordered.entry_times r.ordered.times r.ordered.clock left) (timely_right : IsTimely r.shape r.log r.ordered.entry_times r.ordered.times r.ordered.clock right) where
   pub divided : Kept k record { words = s.words; homes = s.homes; views = set s.views id left ++ right ∷ [] }
-  divided = with_views k s r claim (set s.views id left ++ right ∷ [])
+  divided = with_views k s r r.ordered.clock (le_refl r.ordered.clock) claim (set s.views id left ++ right ∷ [])
       (cut_in_two k r.shape s.views id v left right at_me live_left live_right owns)
       (λ j u at live. elim (at_end (set s.views id left) right u j at) [
         | inl old ↦ each_after (λ j u. u.live ≡ true → Fits (callers_of k) r.log r.calls claim j u) s.views id left (λ live. fits_left)
             (λ j u other at live. fits_claim (callers_of k) r.log r.calls r.claim claim j u (λ d. stays d j other) (r.fits j u at live)) j u old live
         | inr new ↦ subst (λ (x : ℕ × View). Fits (callers_of k) r.log r.calls claim x.0 x.1) (λ i. (sym new.0 i, new.1 i)) fits_right
+      ])
+      (λ j u at live. elim (at_end (set s.views id left) right u j at) [
+        | inl old ↦ each_after (λ j u. u.live ≡ true → IsTimely r.shape r.log r.ordered.entry_times r.ordered.times r.ordered.clock u) s.views id left (λ live. timely_left) (λ j u other at live. r.ordered.seats j u at live) j u old live
+        | inr new ↦ subst (IsTimely r.shape r.log r.ordered.entry_times r.ordered.times r.ordered.clock) new.1 timely_right
       ])
       (λ j u at live. elim (at_end (set s.views id left) right u j at) [
         | inl old ↦ each_after (λ j u. u.live ≡ true → Suits k r.shape r.log r.calls s.words u) s.views id left (λ live. suits_left) (λ j u other at live. r.suits j u at live) j u old live
@@ -100,9 +106,12 @@ module _ (k : Begin) (s : TableState) (r : Kept k s) (id : ℕ) (v : View) (at_m
     nobody = λ e. outside;
   }
 
+  pub timely_copied : IsTimely r.shape r.log r.ordered.entry_times r.ordered.times r.ordered.clock (copied v)
+  timely_copied = let t = r.ordered.seats id v at_me live in record { owns = λ i own at. absurd (none-some own at); told = t.told; since = t.since }
+
 -- a copy of a seat
 pub copies : (k : Begin) (id : ℕ) (v : View) → v.live ≡ true → IsIdle v → Splits (Kept k) id v v (copied v)
-copies k id v live idle s r at_me = divided k s r id v at_me v (copied v) r.claim (λ d j other is. is) (r.fits id v at_me live) (fits_copied k s r id v at_me live (length (set s.views id v))) live live (λ i left right. left) (r.suits id v at_me live) (suits_copied k s r id v at_me live idle.gate)
+copies k id v live idle s r at_me = divided k s r id v at_me v (copied v) r.claim (λ d j other is. is) (r.fits id v at_me live) (fits_copied k s r id v at_me live (length (set s.views id v))) live live (λ i left right. left) (r.suits id v at_me live) (suits_copied k s r id v at_me live idle.gate) (r.ordered.seats id v at_me live) (timely_copied k s r id v at_me live)
 
 -- a new seat for the first caller
 pub deals : (k : Begin) (id : ℕ) (v : View) → v.live ≡ true → IsIdle v → 0 < length v.owns → Splits (Kept k) id v (kept v) (dealt v)
@@ -160,7 +169,16 @@ deals k id v live idle stands s r at_me =
       upper = u.upper;
       nobody = λ e. idle.gate;
     }
+    record {
+      owns = λ i own at. let number : v.number + suc i ≡ (v.number + 1) + i = omega arith in ap r.ordered.times (sym number) ∙ t.owns (suc i) own (in_others v.owns i own at);
+      told = t.told;
+      since = t.since;
+    }
+    record { owns = λ i own at. t.owns i own (in_first v.owns i own at).1; told = t.told; since = t.since }
   where
+    t : IsTimely r.shape r.log r.ordered.entry_times r.ordered.times r.ordered.clock v
+    t = r.ordered.seats id v at_me live
+
     f : Fits (callers_of k) r.log r.calls r.claim id v
     f = r.fits id v at_me live
 
@@ -223,11 +241,13 @@ module _ {A : Type 0} where
 
 -- a seat takes in another, which stands for the next callers
 pub joins : (k : Begin) → HistoryLaws → (id : ℕ) (v : View) (other : ℕ) (w : View) → v.live ≡ true → w.live ≡ true → IsIdle w → (0 < length w.owns → v.number + length v.owns ≡ w.number) → Joins (Kept k) id v other w (joined v w) spent
-joins k laws id v other w live live_it idle next_callers s r at_me apart at_it = with_views k s r claim (set (set s.views id (joined v w)) other spent)
+joins k laws id v other w live live_it idle next_callers s r at_me apart at_it = with_views k s r r.ordered.clock (le_refl r.ordered.clock) claim (set (set s.views id (joined v w)) other spent)
     (taken_in k r.shape s.views id other v w (joined v w) spent at_me at_w apart live (λ i both. (λ n own at. both n own (item_front v.owns w.owns own n at), λ n own at. both (length v.owns + n) own (item_back v.owns w.owns own n at))))
     (each_after (λ j u. u.live ≡ true → Fits (callers_of k) r.log r.calls claim j u) (set s.views id (joined v w)) other spent (λ alive. absurd (cc))
     (λ j u not_it at. each_after (λ j u. j ≢ other → u.live ≡ true → Fits (callers_of k) r.log r.calls claim j u) s.views id (joined v w) (λ ne alive. fits_joined)
     (λ j u not_me at ne alive. fits_claim (callers_of k) r.log r.calls r.claim claim j u (λ d is. stays d j is ne) (r.fits j u at alive)) j u at not_it))
+    (each_after (λ j u. u.live ≡ true → IsTimely r.shape r.log r.ordered.entry_times r.ordered.times r.ordered.clock u) (set s.views id (joined v w)) other spent (λ alive. absurd (cc))
+    (λ j u not_it at. each_after (λ j u. u.live ≡ true → IsTimely r.shape r.log r.ordered.entry_times r.ordered.times r.ordered.clock u) s.views id (joined v w) (λ alive. timely_joined) (λ j u not_me at. r.ordered.seats j u at) j u at))
     (each_after (λ j u. u.live ≡ true → Suits k r.shape r.log r.calls s.words u) (set s.views id (joined v w)) other spent (λ alive. absurd (cc))
     (λ j u not_it at. each_after (λ j u. u.live ≡ true → Suits k r.shape r.log r.calls s.words u) s.views id (joined v w) (λ alive. suits_joined) (λ j u not_me at. r.suits j u at) j u at))
   where
@@ -294,6 +314,16 @@ joins k laws id v other w live live_it idle next_callers s r at_me apart at_it =
         heard zero xs at = subst (Begins r.log) (same_Some v.seen xs at) f.seen
         heard (suc zero) xs at = subst (Begins r.log) (same_Some w.seen xs at) g.seen
         heard (suc (suc i)) xs at = elim (in_both v.heard w.heard i xs at) [ inl mine ↦ f.heard i xs mine | inr its ↦ g.heard its.0 xs its.2 ]
+
+    timely_joined : IsTimely r.shape r.log r.ordered.entry_times r.ordered.times r.ordered.clock (joined v w)
+    timely_joined = let mine = r.ordered.seats id v at_me live in let its = r.ordered.seats other w at_w live_it in record {
+      owns = λ i own at. elim (in_both v.owns w.owns i own at) [
+        | inl first ↦ mine.owns i own first
+        | inr second ↦ let inside = slice_get_within w.owns second.0 own second.2 in ap r.ordered.times (sym (number_of i second.0 inside second.1)) ∙ its.owns second.0 own second.2
+      ];
+      told = mine.told;
+      since = mine.since;
+    }
 
     suits_joined : Suits k r.shape r.log r.calls s.words (joined v w)
     suits_joined = record {

@@ -1,5 +1,5 @@
 -- A step that makes no call: the history stays.
-use Rattle.std.proofs.Common.{◌≡◌, ℕ, suc, ◌+◌, ◌<◌, Bool, true, List, [], ◌∷◌, length, set, Option, Some, None, slice_get, slice_index, ◌⊎◌, inl, inr, refl, sym, ap, ◌∙◌}
+use Rattle.std.proofs.Common.{◌≡◌, ℕ, suc, ◌+◌, ◌<◌, Bool, true, List, [], ◌∷◌, length, set, Option, Some, None, slice_get, slice_index, ◌⊎◌, inl, inr, refl, sym, ap, ◌∙◌, ◌≤◌, arith}
 use Rattle.std.proofs.lemmas.List.{append-nil}
 use Rattle.std.proofs.lemmas.Option.{none-some, same_Some}
 use mathlib.Core.Option.{some}
@@ -23,9 +23,10 @@ use Rattle.table_rule.specs.Walking.{standing}
 use Rattle.table_rule.specs.Writing.{holding}
 use Rattle.table_rule.specs.Rule.{TableState, Kept}
 use Rattle.table_rule.specs.Shape.{Shape, Fine}
-use Rattle.table_words.proofs.Frames.{Later, Apart, walks_on, leaf_on, cut_on, stands_on}
+use Rattle.table_words.proofs.Frames.{Later, Apart, time_on, walks_on, leaf_on, cut_on, stands_on}
 use Rattle.table_words.proofs.Ledgers.{first}
 use Rattle.table_words.proofs.Moves.{moves}
+use Rattle.table_words.proofs.Timing.{goes_still, timely_nowhere}
 use Rattle.table_words.proofs.Unused.{LeavesUnused}
 
 -- a seat that stands to a gate so, and holds these locks, holds those of all reachable nodes that its callers hold
@@ -48,8 +49,9 @@ module _ (k : Begin) (laws : HistoryLaws) (s : TableState) (r : Kept k s) (id : 
   owned = first k laws r.log r.calls (callers_of k) r.claim id r.lawful v own owns is fits
 
   pub still : (new : Shape) (words : List ℕ) (w : View) → w.live ≡ true → LeavesUnused k new s.views id v.owns w s.words words → Fits (callers_of k) r.log r.calls r.claim id w → Fine k new r.log words → ((m : ℕ) → m < k.maps → Gated k new words m) → Later r.shape new r.log r.log s.words words → Apart k v.number r.shape new s.words words
-      → Suits k new r.log r.calls words w → Kept k record { words = words; homes = s.homes; views = set s.views id w }
-  still new words w alive leaves fits_now fine gates later apart suits = moves k laws s r id v.number words w record {
+      → Suits k new r.log r.calls words w → ((i : ℕ) (o : Own) → slice_get w.owns i ≡ Some o → r.ordered.times (w.number + i) ≡ o.times) → (w.walk ≡ None) ⊎ ((w.walk ≡ v.walk) × (w.time ≡ v.time))
+      → Kept k record { words = words; homes = s.homes; views = set s.views id w }
+  still new words w alive leaves fits_now fine gates later apart suits mine walks = moves k laws s r id v.number words w record {
     log = r.log;
     calls = r.calls;
     shape = new;
@@ -65,12 +67,27 @@ module _ (k : Begin) (laws : HistoryLaws) (s : TableState) (r : Kept k s) (id : 
     grows = λ c. ([], sym (append-nil (r.calls c)));
     others = λ d other. refl;
     fits = fits_now;
+    goes = goes_still r.shape r.log r.calls s.views r.ordered new v.number w (elim walks [
+      | inl none_there ↦ timely_nowhere new r.log r.ordered.entry_times r.ordered.times r.ordered.clock w mine none_there
+      | inr same ↦ let t = r.ordered.seats id v at_me live in let e = same.1 in record {
+        owns = mine;
+        told = λ x is. let told = t.told x (sym same.0 ∙ is) in omega arith;
+        since = λ x n last is from at.
+            let up = time_on k r.shape new r.log r.log s.words words later x.node ((r.suits id v at_me live).walk x (sym same.0 ∙ is)).node in
+            let was = t.since x n last (sym same.0 ∙ is) (omega arith) at in
+            omega arith;
+      }
+    ]);
     suits = suits;
     old = v;
     at_old = at_me;
     live = alive;
     leaves = leaves;
   }
+
+  -- the numbers of its callers' calls
+  pub own_times : (i : ℕ) (o : Own) → slice_get v.owns i ≡ Some o → r.ordered.times (v.number + i) ≡ o.times
+  own_times = (r.ordered.seats id v at_me live).owns
 
   pub fits_holding : (gate : Gate) (lock upper : Option Lock) → Fits (callers_of k) r.log r.calls r.claim id (holding v gate lock upper)
   fits_holding gate lock upper = record { seen = fits.seen; heard = fits.heard; long = fits.long; front = fits.front; owns = fits.owns }

@@ -1,5 +1,5 @@
 -- A step of a seat with a cursor changes no word: the cursor goes elsewhere, or a call of it is placed.
-use Rattle.std.proofs.Common.{◌≡◌, ℕ, ◌≤◌, ◌<◌, true, false, List, ◌∷◌, length, set, Option, Some, slice_get, refl, sym, ap, arith}
+use Rattle.std.proofs.Common.{◌≡◌, ℕ, ◌≤◌, ◌<◌, true, false, List, ◌∷◌, length, set, Option, Some, slice_get, refl, sym, ap, arith, le_refl, None}
 use mathlib.Core.Option.{some}
 use lib.ListN.{get_elem?}
 use Rattle.sync_model.specs.declared.item.Item.{Item}
@@ -24,7 +24,7 @@ use Rattle.table_rule.specs.Shape.{start_of}
 use Rattle.table_rule.specs.Views.{called_view, with_item}
 use Rattle.table_words.proofs.Ledgers.{MayPlace}
 use Rattle.table_words.proofs.Moves.{with_view}
-use Rattle.table_words.proofs.Placing.{placed_item}
+use Rattle.table_words.proofs.Placing.{placed_item, call_number, at_the_end}
 use Rattle.table_words.proofs.Placing as placing
 
 -- the cursor goes elsewhere
@@ -51,10 +51,10 @@ module _ (k : Begin) (s : TableState) (r : Kept k s) (id : ℕ) (v : View) (at_m
   }
 
   pub kept_there : Kept k record { words = s.words; homes = s.homes; views = set s.views id (at_spot v spot v.leaf) }
-  kept_there = with_view k s r id v (at_spot v spot v.leaf) at_me live refl fits_there suits_there
+  kept_there = with_view k s r r.ordered.clock (le_refl r.ordered.clock) id v (at_spot v spot v.leaf) at_me live refl fits_there (let t = r.ordered.seats id v at_me live in record { owns = t.owns; told = t.told; since = t.since }) suits_there
 
 -- a call of a cursor is placed
-module _ (k : Begin) (laws : HistoryLaws) (s : TableState) (r : Kept k s) (id : ℕ) (v : View) (at_me : get_elem? s.views id ≡ some v) (live : v.live ≡ true) (own : Own) (owns : List Own) (is : v.owns ≡ own ∷ owns)
+module _ (k : Begin) (laws : HistoryLaws) (s : TableState) (r : Kept k s) (id : ℕ) (v : View) (at_me : get_elem? s.views id ≡ some v) (live : v.live ≡ true) (own : Own) (owns : List Own) (is : v.owns ≡ own ∷ owns) (nowhere : v.walk ≡ None)
     (call : SharedCall) (reply : SharedReply) (is_reply : IsReply call reply (contents_at (start_of k) r.log (length r.log))) (quiet : false ≡ is_entry call (contents_at (start_of k) r.log (length r.log)))
     (from : length v.seen ≤ length r.log)
     (begun : (b : ℕ) → call ≡ calls.Next b → (y : Item) × (m : ℕ) × (b < length own.items) × (slice_get own.items b ≡ Some y) × (y.call ≡ calls.Begin m))
@@ -75,17 +75,22 @@ module _ (k : Begin) (laws : HistoryLaws) (s : TableState) (r : Kept k s) (id : 
     shows = shows;
   }
 
+  -- no entry has come since
+  fresh : (n later : ℕ) → length r.log ≤ n → slice_get r.ordered.entry_times n ≡ Some later → v.time + 2 ≤ later
+  fresh = at_the_end k s r v
+
   abbrev pub view_after : View
-  view_after = placing.view_after k laws s r id v at_me live own owns is call reply (length r.log) may 0 tt v.walk (r.suits id v at_me live).walk (r.suits id v at_me live).steady leaf leaves spot stands
+  view_after = placing.view_after k laws s r id v at_me live own owns is call reply (length r.log) may fresh 0 tt v.walk nowhere (r.suits id v at_me live).walk (r.suits id v at_me live).steady leaf leaves spot stands
 
   pub kept_swept : Kept k record { words = s.words; homes = s.homes; views = set s.views id view_after }
-  kept_swept = placing.kept_placed k laws s r id v at_me live own owns is call reply (length r.log) may 0 tt v.walk (r.suits id v at_me live).walk (r.suits id v at_me live).steady leaf leaves spot stands
+  kept_swept = placing.kept_placed k laws s r id v at_me live own owns is call reply (length r.log) may fresh 0 tt v.walk nowhere (r.suits id v at_me live).walk (r.suits id v at_me live).steady leaf leaves spot stands
 
   pub sweeps : v.begin ≡ k → Sweeps call reply spot leaf v view_after
   sweeps begin = record {
     item = item;
+    time = call_number k s r v (length r.log);
     seen = r.log;
-    is = ap (λ l. at_spot (called_view v (with_item l item) r.log) spot leaf) (sym is);
-    called = placing.is_called k laws s r id v at_me live own owns is call reply (length r.log) may 0 tt v.walk (r.suits id v at_me live).walk (r.suits id v at_me live).steady leaf leaves spot stands begin;
-    looks = placing.looks_then k laws s r id v at_me live own owns is call reply (length r.log) may 0 tt v.walk (r.suits id v at_me live).walk (r.suits id v at_me live).steady leaf leaves spot stands begin;
+    is = ap (λ l. at_spot (called_view v (with_item l item (call_number k s r v (length r.log))) r.log (call_number k s r v (length r.log))) spot leaf) (sym is);
+    called = placing.is_called k laws s r id v at_me live own owns is call reply (length r.log) may fresh 0 tt v.walk nowhere (r.suits id v at_me live).walk (r.suits id v at_me live).steady leaf leaves spot stands begin;
+    looks = placing.looks_then k laws s r id v at_me live own owns is call reply (length r.log) may fresh 0 tt v.walk nowhere (r.suits id v at_me live).walk (r.suits id v at_me live).steady leaf leaves spot stands begin;
   }

@@ -39,8 +39,8 @@ module _ (table : TableWords) (id : ℕ) (me : Me (Unit {0}) View) (word : ℕ) 
   abbrev pub MayChange : (ℕ → ℕ) → (ℕ → Me (Unit {0}) View → Type 0) → Type 0
   MayChange = May table id me word
 
-  pub may_come_in : (m told old : ℕ) → IsFree table.table.shared.key me → m < table.table.shared.key.maps → old < 2 ^ 32 → told ≡ m → word ≡ gate_word table.table.shared.key m → MayChange (λ n. either (n == old) (old + 1) n) (ComesIn told old me)
-  may_come_in m told old free below small same is = subst (λ n. MayChange (λ n. either (n == old) (old + 1) n) (ComesIn n old me)) (sym same) (may table id me word (gate_word key m) (λ n. either (n == old) (old + 1) n) (ComesIn m old me) (sym is) (omega arith) (comes_in key laws id me m old free below small))
+  pub may_come_in : (m told before old : ℕ) → IsFree table.table.shared.key me → m < table.table.shared.key.maps → old < 2 ^ 32 → told ≡ m → word ≡ gate_word table.table.shared.key m → MayChange (λ n. either (n == old) (old + 1) n) (ComesIn told before old me)
+  may_come_in m told before old free below small same is = subst (λ n. MayChange (λ n. either (n == old) (old + 1) n) (ComesIn n before old me)) (sym same) (may table id me word (gate_word key m) (λ n. either (n == old) (old + 1) n) (ComesIn m before old me) (sym is) (omega arith) (comes_in key laws id me m before old free below small))
 
   pub may_go_out : (m : ℕ) → IsInside table.table.shared.key me m → m < table.table.shared.key.maps → word ≡ gate_word table.table.shared.key m → MayChange (λ n. (n + (2 ^ 64 - 1)) % 2 ^ 64) (GoesOut me)
   may_go_out m writer below is = may table id me word (gate_word key m) (λ n. (n + (2 ^ 64 - 1)) % 2 ^ 64) (GoesOut me) (sym is) (omega arith) (goes_out key laws id me m writer)

@@ -6,43 +6,45 @@ ghost use Rattle.table_rule.specs.Clearing.{HasClosed, Clears};
 ghost use Rattle.table_rule.specs.Making.{HasUnit};
 ghost use Rattle.table_words.specs.Seats.{begin_of, IsSeatOf};
 ghost use Rattle.table_rule.specs.Walking.{IsFree};
+ghost use Rattle.table_rule.specs.Views.{at_time};
 ghost use Rattle.table_rule.specs.Writing.{holding, HasRoomWithin};
 
 use crate::laws::history_laws;
 use crate::words::TableWords;
 use atomic_table::Seat;
+use stamps::Stamp;
 use std::marker::Brand;
 use std::sync::Wait;
 use table_rule::clearing::{Close, LookInside, Open, WriteRoot};
-use table_rule::subject::Way;
+use table_rule::subject::{Timed, Way};
 use table_rule::view::View;
 
 // The word of a gate that is closed, where no writer is inside.
 const CLOSED: u64 = 1 << 32;
 
 impl TableWords {
-    /// Tries to close the map's gate. It doesn't where another has closed it, or passed it just then. Only a call that may wait
+    /// Tries to close the map's gate, for a caller whose last event has this number. It doesn't where another has closed it, or passed it just then. Only a call that may wait
     /// closes it, so no load does.
-    pub fn try_close<R: Wait>(&self, _rt: &R, seat: &mut Seat<(), View>, map: u32) -> bool
+    pub fn try_close<R: Wait>(&self, _rt: &R, seat: &mut Seat<(), View>, map: u32, _time: Stamp) -> bool
         requires table { IsSeatOf self.now seat.old }
         requires free { IsFree (begin_of self.now) seat.old.me }
         requires map { map < (begin_of self.now).maps }
         ensures table { seat.new.table_id ≡ seat.old.table_id }
         ensures slots { seat.new.me.1 ≡ seat.old.me.1 }
-        ensures closed { MatchBool result (seat.new.me.0 ≡ holding seat.old.me.0 (Closed map false) None None) (seat.new.me.0 ≡ seat.old.me.0) }
+        ensures closed { MatchBool result (seat.new.me.0 ≡ holding (at_time seat.old.me.0 _time.time) (Closed map false) None None) (seat.new.me.0 ≡ seat.old.me.0) }
     {
-        self.close_as::<Brand>(seat, map)
+        self.close_as::<Brand>(seat, map, _time)
     }
 
     // The same, at a map that is told by a type.
-    fn close_as<W: Way>(&self, seat: &mut Seat<(), View>, map: u32) -> bool
+    fn close_as<W: Way + Timed>(&self, seat: &mut Seat<(), View>, map: u32, _time: Stamp) -> bool
         requires table { IsSeatOf self.now seat.old }
         requires free { IsFree (begin_of self.now) seat.old.me }
         requires map { map < (begin_of self.now).maps }
         requires told { W.map ≡ map }
         ensures table { seat.new.table_id ≡ seat.old.table_id }
         ensures slots { seat.new.me.1 ≡ seat.old.me.1 }
-        ensures closed { MatchBool result (seat.new.me.0 ≡ holding seat.old.me.0 (Closed map false) None None) (seat.new.me.0 ≡ seat.old.me.0) }
+        ensures closed { MatchBool result (seat.new.me.0 ≡ holding (at_time seat.old.me.0 W.time) (Closed map false) None None) (seat.new.me.0 ≡ seat.old.me.0) }
     {
         history_laws();
         let word = self.gate_word(map);

@@ -6,43 +6,57 @@ ghost use Rattle.sync_types.specs.SequentialMap.{map_key};
 ghost use Rattle.sync_model.specs.Shared.{cost_of};
 ghost use Rattle.table_rule.specs.declared.view.Leaf.{Leaf};
 ghost use Rattle.table_words.specs.Seats.{begin_of, IsSeatOf};
-ghost use Rattle.table_rule.specs.Walking.{standing, walk_at, HasWords, Enters, MayEnter, FindsIn, Affords, OnWay, AtEntry, IsUncounted};
+ghost use Rattle.table_rule.specs.Walking.{standing, told_at, walk_at, HasWords, Enters, MayEnter, FindsIn, Affords, OnWay, AtEntry, IsUncounted};
 
 use crate::laws::history_laws;
 use crate::steps::Steps;
 use crate::words::TableWords;
 use atomic_table::Seat;
+use stamps::Stamp;
 use std::marker::Brand;
 use std::sync::ledger::Ledger;
 use sync_types::MapCall;
 use table_rule::lookup::{Enter, KeepValue, LookIn, ReadKey, ReadValue};
-use table_rule::subject::{Making, Way};
+use table_rule::subject::{Making, Timed, Way};
 use table_rule::view::{Leaf, View};
 use trie_nodes::layout::{key_word, slot_word, value_word};
 use trie_nodes::{Slot, nibble};
 
 impl TableWords {
-    /// The seat comes to the map's root. It looks at one word.
+    /// The seat of a caller whose last event has this number comes to the map's root. It looks at one word.
     pub fn enter<L: Ledger>(
         &self,
         seat: &mut Seat<(), View>,
         map: u32,
         key: u32,
+        _time: Stamp,
         steps: &mut Steps<L>,
     ) -> u64
         requires table { IsSeatOf self.now seat.old }
         requires may { MayEnter (begin_of self.now) seat.old.me }
         requires map { map < (begin_of self.now).maps }
         ensures table { seat.new.table_id ≡ seat.old.table_id }
-        ensures entered { Enters map key seat.old.me result seat.new.me }
+        ensures entered { Enters map key (told_at _time.time seat.old.me) result seat.new.me }
         ensures counted { steps.new ≡ steps.old + 1 }
     {
-        let root = self.enter_as::<Brand>(seat, map, key);
+        let root = self.enter_told::<Brand>(seat, map, key, _time);
         steps.tick();
         root
     }
 
-    /// The same, where nobody counts.
+    // The same, on a way that is told by a type.
+    fn enter_told<W: Way + Timed>(&self, seat: &mut Seat<(), View>, map: u32, key: u32, _time: Stamp) -> u64
+        requires table { IsSeatOf self.now seat.old }
+        requires may { MayEnter (begin_of self.now) seat.old.me }
+        requires map { map < (begin_of self.now).maps }
+        requires told { (W.map ≡ map) × (W.key < 2 ^ 32) }
+        ensures table { seat.new.table_id ≡ seat.old.table_id }
+        ensures entered { Enters map W.key (told_at W.time seat.old.me) result seat.new.me }
+    {
+        self.enter_as::<W>(seat, map, key)
+    }
+
+    /// The same, where nobody counts. The seat was told its caller's number before.
     pub fn enter_uncounted(&self, seat: &mut Seat<(), View>, map: u32, key: u32) -> u64
         requires table { IsSeatOf self.now seat.old }
         requires may { MayEnter (begin_of self.now) seat.old.me }
@@ -55,13 +69,13 @@ impl TableWords {
     }
 
     // The same, on a way that is told by a type.
-    fn enter_as<W: Way>(&self, seat: &mut Seat<(), View>, map: u32, _key: u32) -> u64
+    fn enter_as<W: Way + Timed>(&self, seat: &mut Seat<(), View>, map: u32, _key: u32) -> u64
         requires table { IsSeatOf self.now seat.old }
         requires may { MayEnter (begin_of self.now) seat.old.me }
         requires map { map < (begin_of self.now).maps }
         requires told { (W.map ≡ map) × (W.key < 2 ^ 32) }
         ensures table { seat.new.table_id ≡ seat.old.table_id }
-        ensures entered { Enters map W.key seat.old.me result seat.new.me }
+        ensures entered { Enters map W.key (told_at W.time seat.old.me) result seat.new.me }
     {
         let word = self.root_word(map);
         self.table.shared.load::<Enter<W>>(seat, word)

@@ -11,43 +11,45 @@ ghost use Rattle.table_rule.specs.Walking.{standing, walk_at, HasWords, Affords,
 ghost use Rattle.sync_types.specs.SequentialMap.{map_key};
 ghost use Rattle.sync_model.specs.Shared.{cost_of};
 ghost use Rattle.table_rule.specs.Making.{StandsLocked, LooksHeld};
+ghost use Rattle.table_rule.specs.Views.{at_time};
 ghost use Rattle.table_rule.specs.Writing.{holding, lock_at, IsWriter, Holds, IsInside, HasRoomWithin, drafted, HasDraft};
 
 use crate::laws::history_laws;
 use crate::words::TableWords;
 use atomic_table::Seat;
+use stamps::Stamp;
 use std::marker::Brand;
 use std::sync::Wait;
 use sync_types::MapCall;
-use table_rule::subject::{Making, Way};
+use table_rule::subject::{Making, Timed, Way};
 use table_rule::view::View;
 use table_rule::writing::{ComeIn, Draft, DraftZero, GoOut, LookHeld, TryLock, Unlock};
 use trie_nodes::layout::{DEAD, FREE, held_word, lock_word, slot_word};
 use trie_nodes::{Slot, nibble};
 
 impl TableWords {
-    /// Tries to come in as a writer of the map. It doesn't where the gate is closed, or where another passed it just then. Only a
+    /// Tries to come in as a writer of the map, for a caller whose last event has this number. It doesn't where the gate is closed, or where another passed it just then. Only a
     /// call that may wait comes in, so no load does.
-    pub fn try_come_in<R: Wait>(&self, _rt: &R, seat: &mut Seat<(), View>, map: u32) -> bool
+    pub fn try_come_in<R: Wait>(&self, _rt: &R, seat: &mut Seat<(), View>, map: u32, _time: Stamp) -> bool
         requires table { IsSeatOf self.now seat.old }
         requires free { IsFree (begin_of self.now) seat.old.me }
         requires map { map < (begin_of self.now).maps }
         ensures table { seat.new.table_id ≡ seat.old.table_id }
         ensures slots { seat.new.me.1 ≡ seat.old.me.1 }
-        ensures inside { MatchBool result (seat.new.me.0 ≡ holding seat.old.me.0 (Inside map) None None) (seat.new.me.0 ≡ seat.old.me.0) }
+        ensures inside { MatchBool result (seat.new.me.0 ≡ holding (at_time seat.old.me.0 _time.time) (Inside map) None None) (seat.new.me.0 ≡ seat.old.me.0) }
     {
-        self.come_in_as::<Brand>(seat, map)
+        self.come_in_as::<Brand>(seat, map, _time)
     }
 
     // The same, at a map that is told by a type.
-    fn come_in_as<W: Way>(&self, seat: &mut Seat<(), View>, map: u32) -> bool
+    fn come_in_as<W: Way + Timed>(&self, seat: &mut Seat<(), View>, map: u32, _time: Stamp) -> bool
         requires table { IsSeatOf self.now seat.old }
         requires free { IsFree (begin_of self.now) seat.old.me }
         requires map { map < (begin_of self.now).maps }
         requires told { W.map ≡ map }
         ensures table { seat.new.table_id ≡ seat.old.table_id }
         ensures slots { seat.new.me.1 ≡ seat.old.me.1 }
-        ensures inside { MatchBool result (seat.new.me.0 ≡ holding seat.old.me.0 (Inside map) None None) (seat.new.me.0 ≡ seat.old.me.0) }
+        ensures inside { MatchBool result (seat.new.me.0 ≡ holding (at_time seat.old.me.0 W.time) (Inside map) None None) (seat.new.me.0 ≡ seat.old.me.0) }
     {
         history_laws();
         let word = self.gate_word(map);

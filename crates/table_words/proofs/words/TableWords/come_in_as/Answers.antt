@@ -9,5 +9,5 @@ peek-writers-requires g c = subst (λ n. n < c.args.self.now.table.shared.table_
 pub compare_exchange-requires : goal.compare_exchange-requires
 compare_exchange-requires g c =
     let small = c.if-writers-ge-DEAD.false in
-    let may = may_come_in c.args.self.now c.args.seat.now.id c.args.seat.now.me c.gate_word-word.result c.history_laws.ensures c.args.map g.W.Way.map c.peek-writers.result c.requires.free c.requires.map (omega arith) c.requires.told c.gate_word-word.ensures in
+    let may = may_come_in c.args.self.now c.args.seat.now.id c.args.seat.now.me c.gate_word-word.result c.history_laws.ensures c.args.map g.W.Way.map g.W.Timed.time c.peek-writers.result c.requires.free c.requires.map (omega arith) c.requires.told c.gate_word-word.ensures in
     (c.requires.table, may.0, may.1)
