@@ -1,5 +1,5 @@
 //! A note with a front alone.
-ghost use Rattle.std.specs.Prelude.{◌≡◌, ℕ, ◌<◌, None, max, slice_index};
+ghost use Rattle.std.specs.Prelude.{◌≡◌, ℕ, ◌<◌, ◌≤◌, ◌*◌, None, max, slice_index};
 ghost use Rattle.sync_model.specs.Front.{Front};
 
 use crate::note::Note;
@@ -9,9 +9,16 @@ use std::marker::Model;
 /// The most callers of an object.
 pub const MAX_CALLERS: usize = 64;
 
-/// A front of 64 numbers, which is nobody's note. A count has 32 bits, so that a processor compares several at once.
+/// How many counts a chunk has: four steps of a processor that compares four at once.
+const CHUNK: usize = 16;
+
+/// A front of 64 numbers, which is nobody's note. A count has 32 bits, so that a processor compares several at once. To take in
+/// another note looks at the 16 counts of each of its chunks up to the last that has a count above 0, so an object of few callers
+/// costs less.
 #[derive(Drop)]
 pub struct FrontNote {
+    // Behind this many chunks all counts are 0.
+    chunks: usize,
     counts: [u32; MAX_CALLERS],
     stamp: Stamp,
 }
@@ -20,6 +27,8 @@ impl Model for FrontNote {
     ghost Value = { Front };
 
     ghost view = { λ n. record { counts = n.counts; time = n.stamp.time } };
+
+    ghost invariant = { λ n. (n.chunks ≤ 4) × ((caller : ℕ) → 16 * n.chunks ≤ caller → slice_index n.counts caller ≡ 0) };
 }
 
 impl FrontNote {
@@ -28,6 +37,7 @@ impl FrontNote {
         ensures { result ≡ record { counts = counts; time = 0 } }
     {
         FrontNote {
+            chunks: chunks_of(&counts),
             counts,
             stamp: Stamp::first(),
         }
@@ -55,6 +65,7 @@ impl Note for FrontNote {
 
     fn copy(&mut self, _home: &()) -> Self {
         FrontNote {
+            chunks: self.chunks,
             counts: self.counts,
             stamp: self.stamp.same(),
         }
@@ -74,12 +85,29 @@ impl Note for FrontNote {
         ensures time { self.new.time ≡ self.old.time }
         ensures other { other.new ≡ other.old }
     {
-        for caller in 0..MAX_CALLERS {
+        for caller in 0..CHUNK * other.chunks {
             self.counts[caller] = self.counts[caller].max(other.counts[caller]);
+        }
+        if self.chunks < other.chunks {
+            self.chunks = other.chunks;
         }
     }
 
     fn meet(&mut self, other: &mut Self) {
         self.stamp.meet(&mut other.stamp);
     }
+}
+
+// How many chunks there are up to the last count that isn't 0.
+fn chunks_of(counts: &[u32; MAX_CALLERS]) -> usize
+    ensures chunks { result ≤ 4 }
+    ensures rest { (caller : ℕ) → 16 * result ≤ caller → slice_index counts.now caller ≡ 0 }
+{
+    let mut used = 0;
+    for caller in 0..MAX_CALLERS {
+        if counts[caller] > 0 {
+            used = caller + 1;
+        }
+    }
+    used.div_ceil(CHUNK)
 }
