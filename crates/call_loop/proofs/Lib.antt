@@ -2,5 +2,5 @@ pub mod Fresh
 pub mod Fronts
 pub mod SoFar
 pub mod Stands
-pub mod Needed
-pub mod OpenMutex
+pub mod Timed
+pub mod OpenLocks

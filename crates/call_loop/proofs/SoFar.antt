@@ -46,7 +46,7 @@ module _ {E R : Type 0} where
   timely_on moment shows [] p all here = (here, tt)
   timely_on moment shows (x ∷ es) p all here = (all.0, timely_on moment shows es p all.1 here)
 
-  timely_deed : (moment : E → Option ℕ) (shows : ℕ → Type 0) (event : E) (answer : Answer R) → IsAt shows (moment event) → IsTimely moment shows (deed_of event answer)
+  pub timely_deed : (moment : E → Option ℕ) (shows : ℕ → Type 0) (event : E) (answer : Answer R) → IsAt shows (moment event) → IsTimely moment shows (deed_of event answer)
   timely_deed moment shows event (Done r) at = at
   timely_deed moment shows event (Halted m) at = at
 

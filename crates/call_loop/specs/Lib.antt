@@ -1,3 +1,4 @@
 pub mod Between
 pub mod Calls
+pub mod Lazy
 pub mod Stages

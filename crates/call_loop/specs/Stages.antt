@@ -1,5 +1,5 @@
 -- What one stage of a running call did.
-use Rattle.std.specs.Prelude.{◌≡◌, ◌⊎◌, ℕ, Bool, false, List, [], ◌∷◌, Option}
+use Rattle.std.specs.Prelude.{◌≡◌, ◌⊎◌, ℕ, Bool, true, false, List, [], ◌∷◌, Option}
 use Rattle.sync_model.specs.declared.answer.Answer.{Answer}
 use Rattle.sync_model.specs.declared.answer.Answer.TheVariants.{Done, Halted}
 use Rattle.sync_model.specs.declared.journal.Deed.{Deed}
@@ -61,30 +61,36 @@ module _ {G O : Type 0} where
   EndsCall (Next later) = ⊥
   EndsCall Never = Unit {0}
 
-  -- Which moments a stage's event may have that came to this: the clock's, or any where the machine took the event and the call ends with it.
-  abbrev pub NeededBy : (ℕ → Type 0) → Answer (Step G O) → ℕ → Type 0
-  NeededBy shows (Done (Finished outcome)) = λ now. Unit {0}
-  NeededBy shows (Done (Misused misuse)) = λ now. Unit {0}
-  NeededBy shows (Done (Waits later)) = shows
-  NeededBy shows (Done (Next later)) = shows
-  NeededBy shows (Done Never) = λ now. Unit {0}
-  NeededBy shows (Halted misuse) = shows
+  -- Which moments a stage's event may have that came to this: the clock's. Where the clock is read lazily it is any, if the machine took the event and the call ends with it.
+  abbrev pub MayBeAt : Bool → (ℕ → Type 0) → Answer (Step G O) → ℕ → Type 0
+  MayBeAt false shows came = shows
+  MayBeAt true shows (Done (Finished outcome)) = λ now. Unit {0}
+  MayBeAt true shows (Done (Misused misuse)) = λ now. Unit {0}
+  MayBeAt true shows (Done (Waits later)) = shows
+  MayBeAt true shows (Done (Next later)) = shows
+  MayBeAt true shows (Done Never) = λ now. Unit {0}
+  MayBeAt true shows (Halted misuse) = shows
 
 module _ {G E : Type 0} (event_of : G → ℕ → E) (moment : E → Option ℕ) (shows : ℕ → Type 0) (stage : G) where
   -- it is the stage's event, at a moment that the clock may show
   abbrev pub IsClocked : E → Type 0
   IsClocked event = IsEventOf event_of stage event × IsAt shows (moment event)
 
-module _ {S E R G O : Type 0} (next : S → ℕ → E → S × R) (event_of : G → ℕ → E) (moment : E → Option ℕ) (meaning : G → R → Step G O) (shows : ℕ → Type 0) (stage : G) where
-  -- it is the stage's event, at a moment that the clock may show, or at any where the call ends with it, whoever makes it in this state
-  abbrev pub IsMadeByNeed : S → E → Type 0
-  IsMadeByNeed state event = IsEventOf event_of stage event × (IsAt shows (moment event) ⊎ ((caller : ℕ) → EndsCall (meaning stage (next state caller event).1)))
+module _ {S E R G O : Type 0} (next : S → ℕ → E → S × R) (event_of : G → ℕ → E) (moment : E → Option ℕ) (meaning : G → R → Step G O) (lazy : Bool) (shows : ℕ → Type 0) (stage : G) where
+  -- It is the stage's event, at a moment that the clock may show. Where the clock is read lazily it may be at any moment, if the call ends with it, whoever makes it in this state.
+  abbrev pub IsTimedBy : S → E → Type 0
+  IsTimedBy state event = IsEventOf event_of stage event × (IsAt shows (moment event) ⊎ ((lazy ≡ true) × ((caller : ℕ) → EndsCall (meaning stage (next state caller event).1))))
 
 module _ {E R : Type 0} (moment : E → Option ℕ) (shows : ℕ → Type 0) where
-  -- The moments of a call that reads the clock where it needs to. They are the clock's, but for the moment of an event that the machine took and that is the call's only one.
-  abbrev pub AreTimelyByNeed : List (Deed E R) → Type 0
-  AreTimelyByNeed [] = Unit {0}
-  AreTimelyByNeed (Event event reply ∷ []) = Unit {0}
-  AreTimelyByNeed (Event event reply ∷ (deed ∷ rest)) = AreTimely moment shows (Event event reply ∷ (deed ∷ rest))
-  AreTimelyByNeed (Refused event misuse ∷ rest) = AreTimely moment shows (Refused event misuse ∷ rest)
-  AreTimelyByNeed (Halt misuse ∷ rest) = AreTimely moment shows (Halt misuse ∷ rest)
+  -- The moments of a call that reads the clock lazily. They are the clock's, but for the moment of an event that the machine took and that is the call's only one.
+  abbrev pub AreLazilyTimed : List (Deed E R) → Type 0
+  AreLazilyTimed [] = Unit {0}
+  AreLazilyTimed (Event event reply ∷ []) = Unit {0}
+  AreLazilyTimed (Event event reply ∷ (deed ∷ rest)) = AreTimely moment shows (Event event reply ∷ (deed ∷ rest))
+  AreLazilyTimed (Refused event misuse ∷ rest) = AreTimely moment shows (Refused event misuse ∷ rest)
+  AreLazilyTimed (Halt misuse ∷ rest) = AreTimely moment shows (Halt misuse ∷ rest)
+
+  -- the moments of a call that reads the clock lazily, or for each event that has a moment
+  abbrev pub AreTimedBy : Bool → List (Deed E R) → Type 0
+  AreTimedBy false = AreTimely moment shows
+  AreTimedBy true = AreLazilyTimed

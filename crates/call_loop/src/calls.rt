@@ -9,8 +9,10 @@ ghost use Rattle.ruled_object.specs.Passes.{own_by, left_of, callers_of, start_o
 ghost use Rattle.ruled_object.specs.Standing.{stand_by};
 ghost use Rattle.protocols.specs.Spelling.{Spells, AreTimely};
 ghost use Rattle.call_loop.specs.Calls.{Did, IsGiven, left_in, has_gained};
+ghost use Rattle.call_loop.specs.Stages.{AreTimedBy};
 
 use crate::stage::make;
+use crate::timing::{Eager, Timing};
 use protocols::{Protocol, Step};
 use ruled_object::laws::{growth, notes_are_kept, turns_needed};
 use ruled_object::{Object, PassOf};
@@ -42,10 +44,37 @@ pub fn call<P: Protocol + Worded, N: Note, C: Clock, R: Wait>(
     ensures journal { IsLawful P.next P.HALTS P.frees P.takes (start_of object.now) pass.new }
     ensures turns { NeedsNoTurn P.next P.HALTS P.alone (start_of object.now) pass.old (N.front note.old) pass.new (N.front note.new) }
 {
+    call_timed(object, rt, at, pass, note, stage, &Eager)
+}
+
+/// `call` by this timing: see `call_within_timed`.
+#[inline(always)]
+pub fn call_timed<P: Protocol + Worded, T: Timing<P>, N: Note, C: Clock, R: Wait>(
+    object: &Object<P, N>,
+    rt: &R,
+    at: &At<N, C>,
+    pass: &mut PassOf<P, N>,
+    note: &mut N,
+    stage: P::Stage,
+    timing: &T,
+) -> Answer<Result<P::Outcome, Misuse>>
+    requires begun { P.begins (callers_of object.now) (start_of object.now) }
+    requires pass { IsPassOf object.now pass.old × (0 < left_of pass.old) }
+    requires allowed { P.allows (start_of object.now) (stand_by P.out P.stands (own_by pass.old)) stage ≡ true }
+    requires home { IsHomeOf N.at object.now at.now.home.now × N.at at.now.home.now note.old }
+    ensures pass { IsPassOf object.now pass.new × IsOneLess pass.old pass.new }
+    ensures stands { stand_by P.out P.stands (own_by pass.new) ≡ left_in P.out P.left result }
+    ensures note { KeepsNote N.at N.own N.front note.old note.new }
+    ensures events { Did P.next P.HALTS (start_of object.now) (Spells P.event P.meaning stage) (AreTimedBy P.moment (C.shows at.now.clock.now) T.LAZY) pass.old (N.front note.old) result pass.new (N.front note.new) }
+    ensures gives { IsGiven (P.gives stage) result }
+    ensures no_edge { has_gained (P.gains stage) result ≡ false → SameCounts (N.front note.new) (N.front note.old) }
+    ensures journal { IsLawful P.next P.HALTS P.frees P.takes (start_of object.now) pass.new }
+    ensures turns { NeedsNoTurn P.next P.HALTS P.alone (start_of object.now) pass.old (N.front note.old) pass.new (N.front note.new) }
+{
     growth::<P, N>();
     turns_needed::<P, N>();
     object.spend(pass);
-    call_within(object, rt, at, pass, note, stage)
+    call_within_timed(object, rt, at, pass, note, stage, timing)
 }
 
 /// Makes the call whose first stage this is, as part of a longer one: it takes nothing off the calls that are left. It makes
@@ -78,11 +107,40 @@ pub fn call_within<P: Protocol + Worded, N: Note, C: Clock, R: Wait>(
     ensures journal { IsLawful P.next P.HALTS P.frees P.takes (start_of object.now) pass.new }
     ensures turns { NeedsNoTurn P.next P.HALTS P.alone (start_of object.now) pass.old (N.front note.old) pass.new (N.front note.new) }
 {
+    call_within_timed(object, rt, at, pass, note, stage, &Eager)
+}
+
+/// `call_within` by this timing. With `Lazy` it reads no clock for an event that needs no moment
+/// (`LazilyTimed::needs_no_moment`). Such an event may have any moment; it is then the call's only one, and its moment decides
+/// nothing.
+#[inline(always)]
+pub fn call_within_timed<P: Protocol + Worded, T: Timing<P>, N: Note, C: Clock, R: Wait>(
+    object: &Object<P, N>,
+    rt: &R,
+    at: &At<N, C>,
+    pass: &mut PassOf<P, N>,
+    note: &mut N,
+    stage: P::Stage,
+    timing: &T,
+) -> Answer<Result<P::Outcome, Misuse>>
+    requires begun { P.begins (callers_of object.now) (start_of object.now) }
+    requires pass { IsPassOf object.now pass.old }
+    requires allowed { P.allows (start_of object.now) (stand_by P.out P.stands (own_by pass.old)) stage ≡ true }
+    requires home { IsHomeOf N.at object.now at.now.home.now × N.at at.now.home.now note.old }
+    ensures pass { IsPassOf object.now pass.new × SamePass pass.old pass.new }
+    ensures stands { stand_by P.out P.stands (own_by pass.new) ≡ left_in P.out P.left result }
+    ensures note { KeepsNote N.at N.own N.front note.old note.new }
+    ensures events { Did P.next P.HALTS (start_of object.now) (Spells P.event P.meaning stage) (AreTimedBy P.moment (C.shows at.now.clock.now) T.LAZY) pass.old (N.front note.old) result pass.new (N.front note.new) }
+    ensures gives { IsGiven (P.gives stage) result }
+    ensures no_edge { has_gained (P.gains stage) result ≡ false → SameCounts (N.front note.new) (N.front note.old) }
+    ensures journal { IsLawful P.next P.HALTS P.frees P.takes (start_of object.now) pass.new }
+    ensures turns { NeedsNoTurn P.next P.HALTS P.alone (start_of object.now) pass.old (N.front note.old) pass.new (N.front note.new) }
+{
     P::laws();
     growth::<P, N>();
     turns_needed::<P, N>();
     notes_are_kept::<N>();
-    match make(object, rt, at, pass, note, stage) {
+    match make(object, rt, at, pass, note, stage, timing) {
         Answer::Halted(misuse) => Answer::Halted(misuse),
         Answer::Done(Step::Finished(outcome)) => Answer::Done(Ok(outcome)),
         Answer::Done(Step::Misused(misuse)) => Answer::Done(Err(misuse)),
@@ -98,7 +156,7 @@ pub fn call_within<P: Protocol + Worded, N: Note, C: Clock, R: Wait>(
 // Goes on with a call whose first stage didn't end it. It stands apart, so that a call that ends with its first stage, as most
 // do, is compiled for that stage alone.
 #[inline(never)]
-pub(crate) fn go_on<P: Protocol + Worded, N: Note, C: Clock, R: Wait>(
+fn go_on<P: Protocol + Worded, N: Note, C: Clock, R: Wait>(
     object: &Object<P, N>,
     rt: &R,
     at: &At<N, C>,
@@ -123,7 +181,7 @@ pub(crate) fn go_on<P: Protocol + Worded, N: Note, C: Clock, R: Wait>(
     notes_are_kept::<N>();
     let mut due = stage;
     for _ in rt.forever() {
-        match make(object, rt, at, pass, note, due) {
+        match make(object, rt, at, pass, note, due, &Eager) {
             Answer::Halted(misuse) => return Answer::Halted(misuse),
             Answer::Done(Step::Finished(outcome)) => return Answer::Done(Ok(outcome)),
             Answer::Done(Step::Misused(misuse)) => return Answer::Done(Err(misuse)),

@@ -3,15 +3,15 @@
 #![tactic(auto)]
 
 mod begin;
-mod by_need;
 mod calls;
 mod halts;
 pub mod laws;
-mod sparing;
+mod lazily_timed;
 mod stage;
+mod timing;
 
 pub use begin::new;
-pub use by_need::ByNeed;
-pub use calls::{call, call_within};
+pub use calls::{call, call_timed, call_within, call_within_timed};
 pub use halts::{first_halt, halt};
-pub use sparing::{call_by_need, call_within_by_need};
+pub use lazily_timed::LazilyTimed;
+pub use timing::{Eager, Lazy, Timing};

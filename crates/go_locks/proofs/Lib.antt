@@ -2,4 +2,3 @@ pub mod CallSpelling
 pub mod MutexSpelling
 pub mod RwSpelling
 pub mod Logs
-pub mod Newcomers

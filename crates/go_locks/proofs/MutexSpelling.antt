@@ -25,7 +25,8 @@ use Rattle.protocols.specs.MutexStages.{mutex_event, mutex_moment, mutex_meaning
 use Rattle.protocols.specs.Spelling.{CallAnswer, Spells, IsTimely, AreTimely}
 use Rattle.protocols.specs.Steps.{IsAt}
 use Rattle.call_loop.specs.Calls as running
-use Rattle.call_loop.specs.Stages.{AreTimelyByNeed}
+use Rattle.call_loop.specs.Stages.{AreLazilyTimed}
+use Rattle.go_locks.proofs.CallSpelling.{with_moments}
 use Rattle.go_locks.specs.Calls.{Did}
 use Rattle.go_locks.specs.MutexAnswers.{lock_of, try_of, unlock_of, lock_answer, try_answer, unlock_answer}
 use Rattle.go_locks.specs.MutexCalls.{MutexDeed, Waits, queued, requeued, still, Locks, at_once, refused, acquired, halted, Tries, tried, Unlocks, unlocked, answer_of, IsTimed, IsClocked, AreClocked}
@@ -125,7 +126,7 @@ clocked_by shows [] timely = tt
 clocked_by shows (d ∷ deeds) timely = (clocked_one shows d timely.0, clocked_by shows deeds timely.1)
 
 -- a lock's only event is an arrival by which the mutex is acquired at once, or one that is refused
-clocked_lock : (shows : ℕ → Type 0) (deeds : List MutexDeed) (answer : CallAnswer LockReply) → Spells mutex_event mutex_meaning stage.Lock deeds answer → AreTimelyByNeed mutex_moment shows deeds → AreClocked shows deeds
+clocked_lock : (shows : ℕ → Type 0) (deeds : List MutexDeed) (answer : CallAnswer LockReply) → Spells mutex_event mutex_meaning stage.Lock deeds answer → AreLazilyTimed mutex_moment shows deeds → AreClocked shows deeds
 clocked_lock shows [] answer spelt timely = tt
 clocked_lock shows (Event e (Arrived AtOnce) ∷ []) answer spelt timely = (tt, tt)
 clocked_lock shows (Event e (Arrived (Queued t)) ∷ []) answer spelt timely = absurd spelt.1
@@ -144,16 +145,10 @@ module _ {N : Type 0} (shows : ℕ → Type 0) {start : State} {old new : Pass S
   as_here first spells words spelt {result} is did =
       running.retold next true start (λ ds a. Spells mutex_event mutex_meaning first ds a) (λ ds. AreTimely mutex_moment shows ds) spells (AreClocked shows) words old new from to answer result spelt (clocked_by shows) is did
 
-  pub lock_did : {result : Answer (Unit {0})} → result ≡ lock_answer answer → running.Did next true start (λ ds a. Spells mutex_event mutex_meaning stage.Lock ds a) (λ ds. AreTimelyByNeed mutex_moment shows ds) old from answer new to → Did next start Locks (AreClocked shows) old from result new to
+  pub lock_did : {result : Answer (Unit {0})} → result ≡ lock_answer answer → running.Did next true start (λ ds a. Spells mutex_event mutex_meaning stage.Lock ds a) (λ ds. AreLazilyTimed mutex_moment shows ds) old from answer new to → Did next start Locks (AreClocked shows) old from result new to
   lock_did {result} is did =
-      let clocked : running.Did next true start (λ ds a. Spells mutex_event mutex_meaning stage.Lock ds a) (AreClocked shows) old from answer new to = record {
-        entries = did.entries;
-        grows = did.grows;
-        spelt = did.spelt;
-        halted = did.halted;
-        moments = clocked_lock shows (deeds_of did.entries) answer did.spelt did.moments;
-      } in
-      running.retold next true start (λ ds a. Spells mutex_event mutex_meaning stage.Lock ds a) (AreClocked shows) Locks (AreClocked shows) lock_of old new from to answer result (λ ds spelt. locks_by ds answer spelt) (λ ds moments. moments) is clocked
+      running.retold next true start (λ ds a. Spells mutex_event mutex_meaning stage.Lock ds a) (AreClocked shows) Locks (AreClocked shows) lock_of old new from to answer result (λ ds spelt. locks_by ds answer spelt) (λ ds moments. moments) is
+      (with_moments next start (λ ds a. Spells mutex_event mutex_meaning stage.Lock ds a) (λ ds. AreLazilyTimed mutex_moment shows ds) (AreClocked shows) old new from to answer (λ ds spelt moments. clocked_lock shows ds answer spelt moments) did)
 
   pub try_did : {result : Answer Bool} → result ≡ try_answer answer → running.Did next true start (λ ds a. Spells mutex_event mutex_meaning stage.TryLock ds a) (λ ds. AreTimely mutex_moment shows ds) old from answer new to → Did next start Tries (AreClocked shows) old from result new to
   try_did is did = as_here stage.TryLock Tries try_of (λ ds spelt. tries_by ds answer spelt) is did

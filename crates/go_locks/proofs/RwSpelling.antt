@@ -25,6 +25,8 @@ use Rattle.protocols.specs.RwMutexStages.{rw_event, rw_moment, rw_meaning, try_m
 use Rattle.protocols.specs.Spelling.{CallAnswer, Rest, Spells, IsTimely, AreTimely}
 use Rattle.protocols.specs.Steps.{IsAt}
 use Rattle.call_loop.specs.Calls as running
+use Rattle.call_loop.specs.Stages.{AreLazilyTimed}
+use Rattle.go_locks.proofs.CallSpelling.{with_moments}
 use Rattle.go_locks.specs.Calls.{Did}
 use Rattle.go_locks.specs.MutexAnswers.{lock_of, try_of, unlock_of, lock_answer, try_answer, unlock_answer}
 use Rattle.go_locks.specs.RwCalls.{RwDeed, WriterAt, anywhere, leaving, inner, behind, WriteWaits, queued, requeued, announced, unwoken, ungranted, WriteLocks, at_once, refused, acquired, granted, halted_woken, halted_leaving, ReadWaits, unadmitted, ReadLocks, admitted, halted, Tries, tried, Unlocks, unlocked, answer_of, IsTimed, IsClocked, AreClocked}
@@ -205,13 +207,33 @@ timed shows WriteUnlock at = tt
 timed shows Leave at = tt
 
 clocked_one : (shows : ℕ → Type 0) (d : RwDeed) → IsTimely rw_moment shows d → IsClocked shows d
-clocked_one shows (Event event r) timely = timed shows event timely
+clocked_one shows (Event event (Arrived AtOnce)) timely = tt
+clocked_one shows (Event event (Arrived Queued)) timely = timed shows event timely
+clocked_one shows (Event event (Tried _)) timely = timed shows event timely
+clocked_one shows (Event event (Unlocked unlocking)) timely = timed shows event timely
+clocked_one shows (Event event (Resumed resumption)) timely = timed shows event timely
+clocked_one shows (Event event Left) timely = timed shows event timely
+clocked_one shows (Event event Still) timely = timed shows event timely
 clocked_one shows (Refused event m) timely = timed shows event timely
 clocked_one shows (Halt m) timely = tt
 
 clocked_by : (shows : ℕ → Type 0) (deeds : List RwDeed) → AreTimely rw_moment shows deeds → AreClocked shows deeds
 clocked_by shows [] timely = tt
 clocked_by shows (d ∷ deeds) timely = (clocked_one shows d timely.0, clocked_by shows deeds timely.1)
+
+-- a writer's lock's only event is an arrival by which the lock is acquired at once, or one that is refused
+clocked_lock : (shows : ℕ → Type 0) (deeds : List RwDeed) (answer : CallAnswer LockReply) → Spells rw_event rw_meaning stage.Lock deeds answer → AreLazilyTimed rw_moment shows deeds → AreClocked shows deeds
+clocked_lock shows [] answer spelt timely = tt
+clocked_lock shows (Event e (Arrived AtOnce) ∷ []) answer spelt timely = (tt, tt)
+clocked_lock shows (Event e (Arrived Queued) ∷ []) answer spelt timely = absurd spelt.1
+clocked_lock shows (Event e (Tried _) ∷ []) answer spelt timely = absurd spelt.1
+clocked_lock shows (Event e (Unlocked _) ∷ []) answer spelt timely = absurd spelt.1
+clocked_lock shows (Event e (Resumed _) ∷ []) answer spelt timely = absurd spelt.1
+clocked_lock shows (Event e Left ∷ []) answer spelt timely = absurd spelt.1
+clocked_lock shows (Event e Still ∷ []) answer spelt timely = absurd spelt.1
+clocked_lock shows (Event e r ∷ (d ∷ ds)) answer spelt timely = clocked_by shows (Event e r ∷ (d ∷ ds)) timely
+clocked_lock shows (Refused e m ∷ rest) answer spelt timely = clocked_by shows (Refused e m ∷ rest) timely
+clocked_lock shows (Halt m ∷ rest) answer spelt timely = absurd spelt
 
 -- what a call did, by what its protocol's call did
 module _ {N : Type 0} (shows : ℕ → Type 0) {start : State} {old new : Pass State N RwEvent RwReply} {from to : Front} {answer : CallAnswer LockReply} where
@@ -220,8 +242,10 @@ module _ {N : Type 0} (shows : ℕ → Type 0) {start : State} {old new : Pass S
   as_here first spells words spelt {result} is did =
       running.retold next true start (λ ds a. Spells rw_event rw_meaning first ds a) (λ ds. AreTimely rw_moment shows ds) spells (AreClocked shows) words old new from to answer result spelt (clocked_by shows) is did
 
-  pub write_lock_did : {result : Answer (Unit {0})} → result ≡ lock_answer answer → running.Did next true start (λ ds a. Spells rw_event rw_meaning stage.Lock ds a) (λ ds. AreTimely rw_moment shows ds) old from answer new to → Did next start WriteLocks (AreClocked shows) old from result new to
-  write_lock_did is did = as_here stage.Lock WriteLocks lock_of (λ ds spelt. write_locks_by ds answer spelt) is did
+  pub write_lock_did : {result : Answer (Unit {0})} → result ≡ lock_answer answer → running.Did next true start (λ ds a. Spells rw_event rw_meaning stage.Lock ds a) (λ ds. AreLazilyTimed rw_moment shows ds) old from answer new to → Did next start WriteLocks (AreClocked shows) old from result new to
+  write_lock_did {result} is did =
+      running.retold next true start (λ ds a. Spells rw_event rw_meaning stage.Lock ds a) (AreClocked shows) WriteLocks (AreClocked shows) lock_of old new from to answer result (λ ds spelt. write_locks_by ds answer spelt) (λ ds moments. moments) is
+      (with_moments next start (λ ds a. Spells rw_event rw_meaning stage.Lock ds a) (λ ds. AreLazilyTimed rw_moment shows ds) (AreClocked shows) old new from to answer (λ ds spelt moments. clocked_lock shows ds answer spelt moments) did)
 
   pub read_lock_did : {result : Answer (Unit {0})} → result ≡ lock_answer answer → running.Did next true start (λ ds a. Spells rw_event rw_meaning stage.RLock ds a) (λ ds. AreTimely rw_moment shows ds) old from answer new to → Did next start ReadLocks (AreClocked shows) old from result new to
   read_lock_did is did = as_here stage.RLock ReadLocks lock_of (λ ds spelt. read_locks_by ds answer spelt) is did

@@ -94,8 +94,15 @@ IsTimed shows (WriteWoken now) = shows now
 IsTimed shows WriteUnlock = Unit {0}
 IsTimed shows Leave = Unit {0}
 
+-- That is so of each deed, but for an arrival by which the lock is acquired at once: its moment decides nothing, and may be any.
 abbrev pub IsClocked : (ℕ → Type 0) → RwDeed → Type 0
-IsClocked shows (Event event reply) = IsTimed shows event
+IsClocked shows (Event event (Arrived AtOnce)) = Unit {0}
+IsClocked shows (Event event (Arrived Queued)) = IsTimed shows event
+IsClocked shows (Event event (Tried _)) = IsTimed shows event
+IsClocked shows (Event event (Unlocked _)) = IsTimed shows event
+IsClocked shows (Event event (Resumed _)) = IsTimed shows event
+IsClocked shows (Event event Left) = IsTimed shows event
+IsClocked shows (Event event Still) = IsTimed shows event
 IsClocked shows (Refused event misuse) = IsTimed shows event
 IsClocked shows (Halt misuse) = Unit {0}
 

@@ -11,6 +11,7 @@ ghost use Rattle.mutex_core.specs.declared.reply.MutexReply.{MutexReply};
 ghost use Rattle.mutex_core.specs.MutexMachine as mutex;
 ghost use Rattle.mutex_core.specs.HandOff.{HandsOff};
 ghost use Rattle.rw_core.specs.declared.event.RwEvent.{RwEvent};
+ghost use Rattle.rw_core.specs.declared.reply.Arrival.TheVariants as rw_arrival;
 ghost use Rattle.rw_core.specs.declared.reply.RwReply.{RwReply};
 ghost use Rattle.rw_core.specs.RwMachine as rw_lock;
 ghost use Rattle.go_locks.specs.Exclusion.{acquires_mutex, unlocks_mutex, acquires_lock, acquires_writing, acquires_reading, unlocks_writing, unlocks_reading};
@@ -32,13 +33,19 @@ pub fn mutual_exclusion()
     mutex_core::laws::mutual_exclusion();
 }
 
-/// The moment of an arrival by which a caller acquires the mutex decides nothing: at any other moment the machine would have
-/// answered the same, and come to the same state.
+/// The moment of an arrival by which a caller acquires the mutex, or a writer the reader/writer lock, decides nothing: at any
+/// other moment the machine would have answered the same, and come to the same state.
 pub fn a_newcomers_moment_decides_nothing()
-    ensures { (state : mutex.State) (caller now other : ℕ)
+    ensures of_mutex { (state : mutex.State) (caller now other : ℕ)
         → (mutex.next state caller (MutexEvent.Arrive now)).1 ≡ MutexReply.Arrived Arrival.Acquired
         → mutex.next state caller (MutexEvent.Arrive other) ≡ mutex.next state caller (MutexEvent.Arrive now) }
-{}
+    ensures of_rw_mutex { (state : rw_lock.State) (caller now other : ℕ)
+        → (rw_lock.next state caller (RwEvent.WriteArrive now)).1 ≡ RwReply.Arrived rw_arrival.Acquired
+        → rw_lock.next state caller (RwEvent.WriteArrive other) ≡ rw_lock.next state caller (RwEvent.WriteArrive now) }
+{
+    mutex_core::laws::newcomers();
+    rw_core::laws::newcomers();
+}
 
 /// In starvation mode an unlock hands the mutex to the foremost waiter: nobody else acquires it, however fast, and
 /// where the mutex isn't halted before, the waiter has it as soon as it goes on.

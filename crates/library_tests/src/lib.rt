@@ -4,6 +4,8 @@
 
 mod flights;
 #[cfg(test)]
+mod looks;
+#[cfg(test)]
 mod made;
 #[cfg(test)]
 mod mutex;

@@ -9,3 +9,4 @@ pub mod Modes
 pub mod Order
 pub mod Moves
 pub mod PackedWord
+pub mod Newcomers

@@ -1,11 +1,11 @@
 //! What holds of the machine, whatever its callers do. A log lists who did what, and what it was answered. It follows the
 //! machine, from the unlocked mutex on, where each of its answers is the machine's.
-ghost use Rattle.std.specs.Prelude.{◌≡◌, ◌≢◌, ◌↔◌, ℕ, ◌+◌, ◌*◌, ◌<◌, ◌≤◌, false, true, IsTrue, ◌∷◌, ◌++◌, IsFalse, length};
+ghost use Rattle.std.specs.Prelude.{◌≡◌, ◌≢◌, ◌↔◌, ℕ, ◌+◌, ◌*◌, ◌<◌, ◌≤◌, false, true, IsTrue, ◌∷◌, ◌++◌, IsFalse, length, nat_lt};
 ghost use Rattle.std.specs.List.{list_any};
 ghost use Rattle.sync_model.specs.Log.{Entry, after, Follows};
 ghost use Rattle.mutex_core.specs.declared.event.MutexEvent.{MutexEvent};
 ghost use Rattle.mutex_core.specs.declared.reply.MutexReply.{MutexReply};
-ghost use Rattle.mutex_core.specs.MutexMachine.{next, start, IsValid, State, may_make, place_of, waiting_by};
+ghost use Rattle.mutex_core.specs.MutexMachine.{is_open, next, start, IsValid, State, may_make, place_of, waiting_by};
 ghost use Rattle.mutex_core.specs.Word.{bit, word_of, is_quiet, is_uncontended};
 ghost use Rattle.mutex_core.specs.EventsLeft.{events_left, given_by, used_by};
 ghost use Rattle.mutex_core.specs.Edges.{Log, acquires, releases};
@@ -42,6 +42,21 @@ pub fn mutual_exclusion()
         → IsTrue (list_any (λ entry. releases entry.reply) between) }
     ensures in_turn { (callers : ℕ) (log : Log)
         → Follows next (start callers) log → TakesTurns false log }
+{}
+
+/// A newcomer at an open mutex acquires it at once, and is never queued. Its moment decides nothing: at any other moment the
+/// machine answers the same, and comes to the same state. So it is too of each arrival that acquires the mutex.
+pub fn newcomers()
+    ensures at_once { (state : State) (caller now : ℕ)
+        → is_open state ≡ true → nat_lt caller state.callers ≡ true → place_of state caller ≡ Place.Out
+        → (next state caller (MutexEvent.Arrive now)).1 ≡ MutexReply.Arrived Arrival.Acquired }
+    ensures unqueued { (state : State) (caller now ticket : ℕ)
+        → is_open state ≡ true → (next state caller (MutexEvent.Arrive now)).1 ≢ MutexReply.Arrived (Arrival.Queued ticket) }
+    ensures any_moment { (state : State) (caller now other : ℕ)
+        → is_open state ≡ true → next state caller (MutexEvent.Arrive now) ≡ next state caller (MutexEvent.Arrive other) }
+    ensures acquired { (state : State) (caller now other : ℕ)
+        → (next state caller (MutexEvent.Arrive now)).1 ≡ MutexReply.Arrived Arrival.Acquired
+        → next state caller (MutexEvent.Arrive other) ≡ next state caller (MutexEvent.Arrive now) }
 {}
 
 /// In starvation mode an unlock of the locked mutex hands it to the waiter at the front of the queue: nobody acquires it,

@@ -1,7 +1,7 @@
 //! The mutex machine, in memory that is taken once.
 ghost use Rattle.std.specs.Prelude.{◌≡◌, ◌⊎◌, ◌<◌, ◌≤◌, IfOk, IfSome, IfNone, IsFalse};
 ghost use Rattle.std.specs.List.{list_any};
-ghost use Rattle.mutex_core.specs.MutexMachine.{is_waiter_of, next, place_of, start, IsValid};
+ghost use Rattle.mutex_core.specs.MutexMachine.{is_open, is_waiter_of, next, place_of, start, IsValid};
 ghost use Rattle.mutex_core.specs.declared.event.MutexEvent.{MutexEvent};
 ghost use Rattle.mutex_core.specs.declared.waiter.Flight.{Flight};
 ghost use Rattle.mutex_core.specs.declared.reply.MutexReply.{MutexReply};
@@ -72,6 +72,13 @@ impl MutexCore {
             asked: false,
         });
         Arrival::Queued(caller)
+    }
+
+    /// Whether the mutex is open: unlocked and in normal mode. A caller that arrives then acquires it at once.
+    pub fn is_open(&self) -> bool
+        ensures { result ≡ is_open self.now }
+    {
+        !self.locked && !self.starving
     }
 
     /// `TryLock`: whether the caller acquired the mutex, which it does exactly where an arrival would.

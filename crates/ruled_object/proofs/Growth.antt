@@ -1,5 +1,5 @@
 -- Entries of one caller that stand one after the other.
-use Rattle.std.proofs.Common.{◌≡◌, ℕ, suc, ◌<◌, Bool, length, length-append, Option, None, List, [], ◌∷◌, ◌++◌, refl, sym, ap, ◌∙◌, subst, append_assoc, arith}
+use Rattle.std.proofs.Common.{◌≡◌, ℕ, suc, ◌<◌, Bool, length, length-append, Option, None, Some, List, [], ◌∷◌, ◌++◌, refl, sym, ap, ◌∙◌, subst, append_assoc, arith}
 use Rattle.std.specs.List.{AllByRecursion}
 use Rattle.std.proofs.lemmas.List.{append_cancel_right, map-append}
 use Rattle.ruled_object.proofs.Journals.{by_here}
@@ -11,7 +11,7 @@ use Rattle.sync_model.specs.Front.{Front, NoLess, Later}
 use Rattle.sync_model.specs.Journal.{halt_next, halt_of, by, front_at, Rising, state_next, state_after, Right, Follows}
 use Rattle.ruled_object.specs.declared.pass.Pass.{Pass}
 use Rattle.ruled_object.specs.Cells.{deed_of}
-use Rattle.ruled_object.specs.Growth.{Placed, entries_of, Leads, halt_before, MeetsHalt, IsRight, Grows, Makes, IsAlone, NeedsNoTurn, IsChosen, MakesBy}
+use Rattle.ruled_object.specs.Growth.{Placed, entries_of, Leads, halt_before, MeetsHalt, IsRight, Grows, Makes, IsAlone, NeedsNoTurn, MayBeMade, MakesWith}
 use Rattle.ruled_object.specs.Passes.{number_of, left_of, turns_of, seen_by, own_by, IsSpent, Adds}
 use Rattle.ruled_object.specs.Standing.{stand_next, stand_from}
 
@@ -164,9 +164,17 @@ module _ {S N E R : Type 0} (next : S → ℕ → E → S × R) (halts : Bool) (
 
 module _ {S N E R : Type 0} (next : S → ℕ → E → S × R) (halts : Bool) (start : S) (may : S → E → Type 0) (refused : E → Type 0) where
   -- what was chosen by the cell was chosen by the history that stands before the entry
-  pub makes_by : (old new : Pass S N E R) (journal : List (Entry E R)) (e : Entry E R) (event : E) (answer : Answer R) (from to : Front) (halted : Option Misuse) (state : S) → Makes next halts start old from event answer new to → seen_by new ≡ journal ++ e ∷ []
-      → halted ≡ halt_of journal → state ≡ state_after next start journal → IsChosen may refused halted state event → MakesBy next halts start may refused old from event answer new to
-  makes_by old new journal e event answer from to halted state made seen stops is chosen =
+  pub makes_with : (old new : Pass S N E R) (journal : List (Entry E R)) (e : Entry E R) (event : E) (answer : Answer R) (from to : Front) (halted : Option Misuse) (state : S) → Makes next halts start old from event answer new to → seen_by new ≡ journal ++ e ∷ []
+      → halted ≡ halt_of journal → state ≡ state_after next start journal → MayBeMade may refused halted state event → MakesWith next halts start may refused old from event answer new to
+  makes_with old new journal e event answer from to halted state made seen stops is chosen =
       let same = same_snoc made.one.before journal made.one.entry e (sym made.grows.history.2 ∙ seen) in
-      let here : IsChosen may refused (halt_of journal) (state_after next start journal) event = subst (λ (z : Option Misuse × S). IsChosen may refused z.0 z.1 event) (λ i. (stops i, is i)) chosen in
-      record { makes = made; chosen = subst (λ (z : List (Entry E R)). IsChosen may refused (halt_of z) (state_after next start z) event) (sym same.0) here }
+      let here : MayBeMade may refused (halt_of journal) (state_after next start journal) event = subst (λ (z : Option Misuse × S). MayBeMade may refused z.0 z.1 event) (λ i. (stops i, is i)) chosen in
+      record { makes = made; chosen = subst (λ (z : List (Entry E R)). MayBeMade may refused (halt_of z) (state_after next start z) event) (sym same.0) here }
+
+-- an event that was at hand is the one that is made
+pub at_hand : {S N E R : Type 0} (next : S → ℕ → E → S × R) (halts : Bool) (start : S) (ready : E) (old new : Pass S N E R) (from to : Front) (event : E) (answer : Answer R) → MakesWith next halts start (λ state given. given ≡ ready) (λ given. given ≡ ready) old from event answer new to → event ≡ ready
+at_hand {S} {N} {E} {R} next halts start ready old new from to event answer made = by_halt (halt_of made.makes.one.before) (state_after next start made.makes.one.before) made.chosen
+  where
+    by_halt : (halted : Option Misuse) (state : S) → MayBeMade (λ here given. given ≡ ready) (λ given. given ≡ ready) halted state event → event ≡ ready
+    by_halt None state is = is
+    by_halt (Some misuse) state is = is

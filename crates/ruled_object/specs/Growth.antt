@@ -78,14 +78,14 @@ pub record Makes {S N E R : Type 0} (next : S → ℕ → E → S × R) (halts :
 
 module _ {S E : Type 0} where
   -- the event is one that may be made at this state, or, where this misuse has halted the object, to be refused
-  abbrev pub IsChosen : (S → E → Type 0) → (E → Type 0) → Option Misuse → S → E → Type 0
-  IsChosen may refused None state event = may state event
-  IsChosen may refused (Some misuse) state event = refused event
+  abbrev pub MayBeMade : (S → E → Type 0) → (E → Type 0) → Option Misuse → S → E → Type 0
+  MayBeMade may refused None state event = may state event
+  MayBeMade may refused (Some misuse) state event = refused event
 
 -- The same of an event that was made by what it finds.
-pub record MakesBy {S N E R : Type 0} (next : S → ℕ → E → S × R) (halts : Bool) (start : S) (may : S → E → Type 0) (refused : E → Type 0) (old : Pass S N E R) (from : Front) (event : E) (answer : Answer R) (new : Pass S N E R) (to : Front) : Type 0 where
+pub record MakesWith {S N E R : Type 0} (next : S → ℕ → E → S × R) (halts : Bool) (start : S) (may : S → E → Type 0) (refused : E → Type 0) (old : Pass S N E R) (from : Front) (event : E) (answer : Answer R) (new : Pass S N E R) (to : Front) : Type 0 where
   pub makes : Makes next halts start old from event answer new to
-  pub chosen : IsChosen may refused (halt_of makes.one.before) (state_after next start makes.one.before) event
+  pub chosen : MayBeMade may refused (halt_of makes.one.before) (state_after next start makes.one.before) event
 
 -- What a pass shows of the history follows the machine from its start and keeps the edge law, its numbers rise, and it has of its caller what the pass has.
 pub record IsLawful {S N E R : Type 0} (next : S → ℕ → E → S × R) (halts : Bool) (frees takes : E → R → Bool) (start : S) (pass : Pass S N E R) : Type 0 where

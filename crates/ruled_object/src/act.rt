@@ -6,11 +6,11 @@ ghost use Rattle.sync_model.specs.Journal.{is_such};
 ghost use Rattle.sync_model.specs.Note.{SameHome};
 ghost use Rattle.ruled_object.specs.declared.view.Stage.TheVariants.{Deep, Taken};
 ghost use Rattle.ruled_object.specs.Cells.{deed_of, Acts};
-ghost use Rattle.ruled_object.specs.Growth.{IsAlone, IsChosen};
+ghost use Rattle.ruled_object.specs.Growth.{IsAlone, MayBeMade};
 ghost use Rattle.ruled_object.specs.Passes.{turns_of, CountsTurns};
 ghost use Rattle.ruled_object.specs.Steps.{counted, HasCell, IsSameSeat};
 
-use crate::maker::Maker;
+use crate::event_source::EventSource;
 use crate::object::Object;
 use crate::pass::PassOf;
 use crate::turn::{SLOT, SeatOf};
@@ -134,19 +134,19 @@ impl<M: Worded, N: Note> Object<M, N> {
 
     // Makes an event by the cell and the word. Nothing changes.
     #[inline(always)]
-    pub(crate) fn choose<K: Maker<M>>(
+    pub(crate) fn choose<K: EventSource<M>>(
         &self,
         seat: &mut SeatOf<M, N>,
-        maker: &K,
+        source: &K,
         word: u64,
     ) -> M::Event
         requires seat { seat.old.table_id ≡ self.now.table.shared.table_id }
         requires held { HasCell seat.old.me (λ cell. word ≡ M.tells (M.means cell.state word)) }
         ensures seat { IsSameSeat seat.old seat.new × (seat.new.me ≡ seat.old.me) }
-        ensures chosen { HasCell seat.old.me (λ cell. IsChosen (K.may maker.now) (K.refused maker.now) cell.halted (M.means cell.state word) result) }
+        ensures chosen { HasCell seat.old.me (λ cell. MayBeMade (K.may source.now) (K.refused source.now) cell.halted (M.means cell.state word) result) }
     {
         match seat.slot_mut(&self.table.shared, SLOT) {
-            Some(cell) => cell.choose::<M, K>(maker, word),
+            Some(cell) => cell.choose::<M, K>(source, word),
             None => unreachable!(),
         }
     }

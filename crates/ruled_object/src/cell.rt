@@ -5,9 +5,9 @@ ghost use Rattle.sync_model.specs.Front.{AtLeast, SameCounts, Later};
 ghost use Rattle.sync_model.specs.Journal.{is_such};
 ghost use Rattle.sync_model.specs.Note.{SameHome};
 ghost use Rattle.ruled_object.specs.Cells.{deed_of, Acts};
-ghost use Rattle.ruled_object.specs.Growth.{IsChosen};
+ghost use Rattle.ruled_object.specs.Growth.{MayBeMade};
 
-use crate::maker::Maker;
+use crate::event_source::EventSource;
 use sync_model::{Answer, Callers, Deed, Machine, Note, Worded};
 use sync_types::Misuse;
 
@@ -22,14 +22,18 @@ pub struct Cell<S, N> {
 impl<S, N: Note> Cell<S, N> {
     // Makes an event by what the cell and the word stand for.
     #[inline(always)]
-    pub(crate) fn choose<M: Worded<State = S>, K: Maker<M>>(&self, maker: &K, word: u64) -> M::Event
+    pub(crate) fn choose<M: Worded<State = S>, K: EventSource<M>>(
+        &self,
+        source: &K,
+        word: u64,
+    ) -> M::Event
         requires { word ≡ M.tells (M.means self.now.state word) }
-        ensures { IsChosen (K.may maker.now) (K.refused maker.now) self.now.halted (M.means self.now.state word) result }
+        ensures { MayBeMade (K.may source.now) (K.refused source.now) self.now.halted (M.means self.now.state word) result }
     {
         if self.halted.is_some() {
-            return maker.refused_event();
+            return source.refused_event();
         }
-        maker.event(&self.state, word)
+        source.event(&self.state, word)
     }
 
     // Makes one event that the word alone decides, or refuses it where the object is halted: the answer, whom it lets go on,

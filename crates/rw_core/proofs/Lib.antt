@@ -10,3 +10,4 @@ pub mod UsedUp
 pub mod Answers
 pub mod Standing
 pub mod Moves
+pub mod Newcomers

@@ -64,6 +64,10 @@ is_holding writer.Nobody = false
 is_holding (writer.Waiting _) = false
 is_holding writer.Holding = true
 
+-- a writer that arrives acquires the lock: no reader holds it, and the inner mutex is open
+abbrev pub is_open : State → Bool
+is_open s = (s.readers == 0) && mutex.is_open s.inner
+
 -- whether the caller is the writer that waits for readers
 abbrev pub waits_as : ℕ → Writer → Bool
 waits_as caller writer.Nobody = false

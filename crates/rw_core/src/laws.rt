@@ -6,7 +6,7 @@ ghost use Rattle.sync_model.specs.Log.{Entry, after, Follows};
 ghost use Rattle.rw_core.specs.declared.event.RwEvent.{RwEvent};
 ghost use Rattle.rw_core.specs.declared.reply.RwReply.{RwReply};
 ghost use Rattle.rw_core.specs.declared.reply.Unlocking.{Unlocking};
-ghost use Rattle.rw_core.specs.RwMachine.{State, next, start, is_announced, may_make, place_of, IsValid};
+ghost use Rattle.rw_core.specs.RwMachine.{State, next, start, is_announced, is_open, may_make, place_of, IsValid};
 ghost use Rattle.rw_core.specs.Admission.{Admits};
 ghost use Rattle.rw_core.specs.EventsLeft.{events_left, given_by, used_by};
 ghost use Rattle.rw_core.specs.Moves.{MovesOther, MovesOwn};
@@ -55,6 +55,22 @@ pub fn exclusion()
 {
     laws::validity();
     logs_go_on::<RwCore>();
+}
+
+/// A writer that arrives at an open lock acquires it at once, and is never queued. Its moment decides nothing: at any other
+/// moment the machine answers the same, and comes to the same state. So it is too of each arrival by which a writer acquires the
+/// lock.
+pub fn newcomers()
+    ensures unqueued { (state : State) (caller now : ℕ)
+        → IsValid state → is_open state ≡ true
+        → (next state caller (RwEvent.WriteArrive now)).1 ≢ RwReply.Arrived Arrival.Queued }
+    ensures any_moment { (state : State) (caller now other : ℕ)
+        → is_open state ≡ true → next state caller (RwEvent.WriteArrive now) ≡ next state caller (RwEvent.WriteArrive other) }
+    ensures acquired { (state : State) (caller now other : ℕ)
+        → (next state caller (RwEvent.WriteArrive now)).1 ≡ RwReply.Arrived Arrival.Acquired
+        → next state caller (RwEvent.WriteArrive other) ≡ next state caller (RwEvent.WriteArrive now) }
+{
+    laws::newcomers();
 }
 
 /// A writer that waits for readers, or holds the lock, is passed by nobody: while it is announced no caller is answered that

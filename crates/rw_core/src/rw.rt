@@ -2,7 +2,7 @@
 ghost use Rattle.std.specs.Prelude.{◌≡◌, ◌⊎◌, ◌<◌, ◌≤◌, IfOk, IsFalse};
 ghost use Rattle.mutex_core.specs.MutexMachine as mutex;
 ghost use Rattle.mutex_core.specs.declared.event.MutexEvent.{MutexEvent};
-ghost use Rattle.rw_core.specs.RwMachine.{is_holding, next, one_more, place_of, start};
+ghost use Rattle.rw_core.specs.RwMachine.{is_holding, is_open, next, one_more, place_of, start, IsValid};
 ghost use Rattle.rw_core.specs.declared.event.RwEvent.{RwEvent};
 ghost use Rattle.rw_core.specs.declared.reply.RwReply.{RwReply};
 
@@ -128,6 +128,15 @@ impl RwCore {
                 Arrival::Queued
             }
         }
+    }
+
+    /// Whether the lock is open: no reader holds it, and the mutex that writers go through is open. A writer that arrives then
+    /// acquires it at once.
+    pub fn is_open(&self) -> bool
+        ensures open { result ≡ is_open self.now }
+        ensures valid { IsValid self.now }
+    {
+        self.readers == 0 && self.inner.is_open()
     }
 
     /// `TryLock`: whether the caller writes, which it does where no reader holds the lock and a try of

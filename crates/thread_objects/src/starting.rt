@@ -17,6 +17,7 @@ ghost use Rattle.thread_objects.specs.Passes.{IsSeatAt};
 use crate::object::AnyObject;
 use crate::parts::{CallAnswer, Worker, part};
 use crate::pass::AnyPass;
+use call_loop::Eager;
 use script_calls::Reply;
 use starts_core::{StartsOutcome, StartsStage};
 use std::sync::Wait;
@@ -104,7 +105,7 @@ fn on_starts<N: Note, C: Clock, R: Wait>(
 {
     match object {
         AnyObject::Starts(object) => match pass {
-            AnyPass::Starts(pass) => part(rt, worker, object, pass, note, stage),
+            AnyPass::Starts(pass) => part(rt, worker, object, pass, note, stage, &Eager),
             _ => unreachable!(),
         },
         _ => unreachable!(),

@@ -15,7 +15,7 @@ ghost use Rattle.go_locks.specs.MutexCalls.{Locks, Tries, Unlocks, AreClocked};
 
 use super::{Mutex, MutexPass};
 use crate::answers::{locked, tried, unlocked};
-use call_loop::{call_within, call_within_by_need};
+use call_loop::{Lazy, call_within, call_within_timed};
 use protocols::MutexStage;
 use std::sync::Wait;
 use sync_model::{Answer, Note};
@@ -48,7 +48,7 @@ impl<N: Note> Mutex<N> {
         ensures journal { IsLawful next true (λ event reply. releases reply) (λ event reply. acquires reply) (mutex_start self.now) pass.new }
         ensures turns { NeedsNoTurn next true is_uncontended (mutex_start self.now) pass.old (N.front note.old) pass.new (N.front note.new) }
     {
-        locked(call_within_by_need(&self.object, rt, at, pass, note, MutexStage::Lock))
+        locked(call_within_timed(&self.object, rt, at, pass, note, MutexStage::Lock, &Lazy))
     }
 
     /// The event of `try_lock`, and its answer. It takes nothing off the calls that are left.

@@ -14,7 +14,7 @@ ghost use Rattle.go_locks.specs.RwCalls.{WriteLocks, Tries, Unlocks, AreClocked}
 
 use super::{RwMutex, RwPass};
 use crate::answers::{locked, tried, unlocked};
-use call_loop::call;
+use call_loop::{Lazy, call, call_timed};
 use protocols::RwMutexStage;
 use std::sync::Wait;
 use sync_model::{Answer, Note};
@@ -26,6 +26,9 @@ impl<N: Note> RwMutex<N> {
     /// was halted before.
     ///
     /// Each earlier `unlock` and `r_unlock` is synchronized before it.
+    ///
+    /// It reads the clock where its arrival is queued or refused, and each time that it goes on, and not where it has the lock
+    /// at once.
     pub fn lock<C: Clock, R: Wait>(
         &self,
         rt: &R,
@@ -42,7 +45,7 @@ impl<N: Note> RwMutex<N> {
         ensures halted { (misuse : Misuse) → result ≡ Halted misuse → SameCounts (N.front note.new) (N.front note.old) }
         ensures journal { IsLawful next true (λ event reply. releases reply) (λ event reply. acquires reply) (rw_start self.now) pass.new }
     {
-        locked(call(&self.object, rt, at, pass, note, RwMutexStage::Lock))
+        locked(call_timed(&self.object, rt, at, pass, note, RwMutexStage::Lock, &Lazy))
     }
 
     /// Go's `TryLock`: whether the caller holds the lock, which it does where nobody else does or waits to write.

@@ -1,6 +1,6 @@
 //! The word of a mutex, and a mutex that is brought up to date by it.
 ghost use Rattle.std.specs.Prelude.{◌≡◌, ◌<◌, ◌≤◌, ◌^◌, false, length, IfNone, IfSome};
-ghost use Rattle.mutex_core.specs.MutexMachine.{next};
+ghost use Rattle.mutex_core.specs.MutexMachine.{is_open, next};
 ghost use Rattle.mutex_core.specs.Word.{bit, is_quiet, is_uncontended, told_by, word_of};
 
 use super::MutexCore;
@@ -53,6 +53,15 @@ impl MutexCore {
             Flight::Nobody => self.queue.is_empty(),
             _ => false,
         }
+    }
+
+    /// Whether the word tells that the mutex is open: a newcomer acquires it at once. It does where neither its 1 nor its 4 is
+    /// set: the mutex isn't locked, and not in starvation mode. The mutex may be older than the word.
+    pub fn tells_open(&self, word: u64) -> bool
+        requires { word ≡ word_of (told_by self.now word) }
+        ensures { result ≡ is_open (told_by self.now word) }
+    {
+        word % 2 == 0 && word / 4 % 2 == 0
     }
 
     /// Brings a mutex up to date by the word. Where nobody waits and nobody is in flight the word tells whether it is

@@ -3,6 +3,7 @@ ghost use Rattle.thread_objects.specs.CondKind.{cond};
 
 use crate::kind::DeclaredKind;
 use crate::parts::{CallAnswer, Catalog, Worker, part, returned};
+use call_loop::Eager;
 use protocols::CondStage;
 use ruled_object::{Object, PassOf};
 use script_calls::Operation;
@@ -38,11 +39,11 @@ impl DeclaredKind for NotifyCore {
         match (declared, operation) {
             (ObjectKind::Cond { .. }, Operation::Cond(call)) => match call {
                 CondCall::Signal => {
-                    let answer = part(rt, worker, object, pass, note, CondStage::Signal);
+                    let answer = part(rt, worker, object, pass, note, CondStage::Signal, &Eager);
                     Some(returned(answer))
                 }
                 CondCall::Broadcast => {
-                    let answer = part(rt, worker, object, pass, note, CondStage::Broadcast);
+                    let answer = part(rt, worker, object, pass, note, CondStage::Broadcast, &Eager);
                     Some(returned(answer))
                 }
                 CondCall::Wait => unreachable!(),

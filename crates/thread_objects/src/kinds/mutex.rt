@@ -7,6 +7,7 @@ ghost use Rattle.thread_objects.specs.MutexKind.{mutex};
 
 use crate::kind::DeclaredKind;
 use crate::parts::{CallAnswer, Catalog, Worker, lock_reply, part};
+use call_loop::Lazy;
 use mutex_core::MutexCore;
 use protocols::MutexStage;
 use ruled_object::{Object, PassOf};
@@ -52,7 +53,15 @@ impl DeclaredKind for MutexCore {
     ) -> Option<CallAnswer> {
         match (declared, operation) {
             (ObjectKind::Mutex, Operation::Mutex(call)) => {
-                let answer = part(rt, worker, object, pass, &mut caller.note, stage_of(*call));
+                let answer = part(
+                    rt,
+                    worker,
+                    object,
+                    pass,
+                    &mut caller.note,
+                    stage_of(*call),
+                    &Lazy,
+                );
                 Some(lock_reply(answer))
             }
             _ => unreachable!(),

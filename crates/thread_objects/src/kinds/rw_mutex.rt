@@ -7,6 +7,7 @@ ghost use Rattle.thread_objects.specs.RwMutexKind.{rw_mutex};
 
 use crate::kind::DeclaredKind;
 use crate::parts::{CallAnswer, Catalog, Worker, lock_reply, part};
+use call_loop::Lazy;
 use protocols::RwMutexStage;
 use ruled_object::{Object, PassOf};
 use rw_core::RwCore;
@@ -55,7 +56,15 @@ impl DeclaredKind for RwCore {
     ) -> Option<CallAnswer> {
         match (declared, operation) {
             (ObjectKind::RwMutex, Operation::RwMutex(call)) => {
-                let answer = part(rt, worker, object, pass, &mut caller.note, stage_of(*call));
+                let answer = part(
+                    rt,
+                    worker,
+                    object,
+                    pass,
+                    &mut caller.note,
+                    stage_of(*call),
+                    &Lazy,
+                );
                 Some(lock_reply(answer))
             }
             _ => unreachable!(),

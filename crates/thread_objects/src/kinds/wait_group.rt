@@ -7,6 +7,7 @@ ghost use Rattle.thread_objects.specs.WaitGroupKind.{wait_group};
 
 use crate::kind::DeclaredKind;
 use crate::parts::{CallAnswer, Catalog, Worker, part, returned};
+use call_loop::Eager;
 use protocols::GroupStage;
 use ruled_object::{Object, PassOf};
 use script_calls::Operation;
@@ -63,7 +64,15 @@ impl DeclaredKind for GroupCore {
     ) -> Option<CallAnswer> {
         match (declared, operation) {
             (ObjectKind::WaitGroup { .. }, Operation::WaitGroup(call)) => {
-                let answer = part(rt, worker, object, pass, &mut caller.note, stage_of(*call));
+                let answer = part(
+                    rt,
+                    worker,
+                    object,
+                    pass,
+                    &mut caller.note,
+                    stage_of(*call),
+                    &Eager,
+                );
                 Some(returned(answer))
             }
             _ => unreachable!(),

@@ -15,7 +15,7 @@ ghost use Rattle.thread_objects.specs.Own.{own_as};
 
 use crate::parts::laws::{a_note_counts_its_calls, what_a_call_leaves};
 use crate::parts::worker::Worker;
-use call_loop::call_within;
+use call_loop::{Timing, call_within, call_within_timed};
 use protocols::Protocol;
 use ruled_object::{Object, PassOf};
 use std::sync::Wait;
@@ -24,14 +24,15 @@ use sync_outside::Clock;
 use sync_types::Misuse;
 
 /// Makes a call of a protocol that leaves its caller out of the object, whatever it comes to. The run of a worker is one long
-/// call, as passes count them: it takes nothing off the calls that are left.
-pub fn part<P: Protocol + Worded, N: Note, C: Clock, R: Wait>(
+/// call, as passes count them: it takes nothing off the calls that are left. Its clock is read by `timing`.
+pub fn part<P: Protocol + Worded, T: Timing<P>, N: Note, C: Clock, R: Wait>(
     rt: &R,
     worker: &Worker<N, C>,
     object: &Object<P, N>,
     pass: &mut PassOf<P, N>,
     note: &mut N,
     stage: P::Stage,
+    timing: &T,
 ) -> Answer<Result<P::Outcome, Misuse>>
     requires seat { IsSeat P.begins P.out P.stands N.at worker.now.at.home.now worker.now.workers worker.now.number object.now pass.old }
     requires note { N.at worker.now.at.home.now note.old }
@@ -46,7 +47,7 @@ pub fn part<P: Protocol + Worded, N: Note, C: Clock, R: Wait>(
 {
     a_note_counts_its_calls();
     what_a_call_leaves::<N>();
-    call_within(object, rt, &worker.at, pass, note, stage)
+    call_within_timed(object, rt, &worker.at, pass, note, stage, timing)
 }
 
 /// Makes a part of a call that may leave its caller inside, for another part to go on from there; or goes on with one from where the

@@ -6,7 +6,7 @@ use Rattle.go_locks.proofs.RwSpelling.{write_lock_did}
 use Rattle.go_locks.proofs.rw_mutex.RwMutex.lock.Goals as goal
 
 pub returns-clause-events : goal.returns-clause-events
-returns-clause-events g c = write_lock_did (g.C.Clock.shows c.args.at.now.clock.now) c.locked.ensures c.call.ensures.events
+returns-clause-events g c = write_lock_did (g.C.Clock.shows c.args.at.now.clock.now) c.locked.ensures c.call_timed.ensures.events
 
 pub returns-clause-halted : goal.returns-clause-halted
-returns-clause-halted g c misuse is = c.call.ensures.no_edge (lock_halted (rw_gains stage.Lock) c.call.result misuse (sym c.locked.ensures ∙ is))
+returns-clause-halted g c misuse is = c.call_timed.ensures.no_edge (lock_halted (rw_gains stage.Lock) c.call_timed.result misuse (sym c.locked.ensures ∙ is))
