@@ -5,10 +5,10 @@ pub returns-clause-own : goal.returns-clause-own
 returns-clause-own c old new items worker i made moves is at = counted_at worker _ items i made (moves.counts worker is) at
 
 pub returns-clause-rises : goal.returns-clause-rises
-returns-clause-rises c old new items i j earlier later moves before first second = risen_between old.front new.front items i j earlier later moves.fronts before first second
+returns-clause-rises c old new items i j earlier later moves before first second = risen_between old.front new.front items moves.numbers i j earlier later moves.fronts before first second
 
 pub returns-clause-ends : goal.returns-clause-ends
-returns-clause-ends c old new items i made moves at = risen_to old.front new.front items i made moves.fronts at
+returns-clause-ends c old new items i made moves at = risen_to old.front new.front items moves.numbers i made moves.fronts at
 
 pub returns-clause-times : goal.returns-clause-times
-returns-clause-times c old new items i j object other earlier later moves before first second = times_between old.front new.front items i j object other earlier later moves.fronts before first second
+returns-clause-times c old new items i j earlier later moves before first second = times_between old.front new.front items moves.numbers i j earlier later moves.fronts before first second
