@@ -11,6 +11,7 @@ pub mod SharedCallers
 pub mod SharedEntries
 pub mod SharedUses
 pub mod MapValues
+mod Orders
 mod EndNames
 mod LastEntry
 mod Tellers

@@ -9,4 +9,5 @@ pub mod Shared
 pub mod SharedCalls
 pub mod SharedHistory
 pub mod SharedLaws
+pub mod SharedOrder
 pub mod Told

@@ -2,10 +2,11 @@
 use Rattle.std.specs.Prelude.{◌≡◌, ℕ, List, Option, Some, None, length, slice_index}
 use Rattle.sync_model.specs.declared.item.Item.{Item}
 
--- a caller, with its shared calls in its own order, and the entries that it may still store
+-- a caller, with its shared calls in its own order, their numbers in the one order of all events, and the entries that it may still store
 pub record Holding : Type 0 where
   pub number : ℕ
   pub items : List Item
+  pub times : List ℕ
   pub spare : ℕ
 
 -- the second is a note of each home of which the first is one

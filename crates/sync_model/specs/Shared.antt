@@ -16,6 +16,7 @@ use Rattle.sync_model.specs.Journal.{Begins}
 use Rattle.sync_model.specs.Note.{Holding}
 use Rattle.sync_model.specs.SharedHistory.{Contents, contents_at, IsReply, is_entry, IsLegal, entry_of, entries_by, marked_in}
 use Rattle.sync_model.specs.SharedCalls.{bound, Lawful}
+use Rattle.sync_model.specs.SharedOrder.{InOrder}
 
 -- the values in a call, which are 0 to 2^63 - 1
 abbrev pub values_of : {K : Type 0} → MapCall K → List ℕ
@@ -52,7 +53,7 @@ pub record IsAtomicCall (kinds : List AtomicKind) (a : ℕ) (call : AtomicCall) 
   pub at : slice_get kinds a ≡ Some kind
   pub has : is_atomic_call kind call ≡ true
 
--- a caller, as contracts see its note: whose it is with all its calls, its front's counts and its number, and how much of the history it has seen
+-- a caller, as contracts see its note: whose it is with all its calls, its front's counts, the number of its last event, and how much of the history it has seen
 pub record CallerState : Type 0 where
   pub own : Option Holding
   pub front : List ℕ
@@ -75,8 +76,11 @@ pub record Called (start : Contents) (call : SharedCall) (reply : SharedReply) (
   -- the new front counts the call
   pub counted : slice_index new.front was.number ≡ length becomes.items
   pub rises : AtLeast new.front old.front
-  -- it is no event of an object
-  pub time : new.time ≡ old.time
+  -- its number in the one order of all events, which is past that of the caller's last event; the next one's will be past it
+  pub time : ℕ
+  pub times : becomes.times ≡ was.times ++ time ∷ []
+  pub past : old.time < time
+  pub reached : time ≤ new.time
   -- it forgets nothing of the history, and its place lies between what the caller had seen before and what it has seen after
   pub begins : Begins new.seen old.seen
   pub from : length old.seen ≤ item.place
@@ -95,10 +99,14 @@ pub record Called (start : Contents) (call : SharedCall) (reply : SharedReply) (
 abbrev pub IsHeldBy : ℕ → Option Holding → Type 0
 IsHeldBy c own = (holding : Holding) × (own ≡ Some holding) × (holding.number ≡ c)
 
--- the calls that a holder made; none, where there is no holder
+-- the calls that a holder made, and their numbers; none, where there is no holder
 abbrev pub items_of : Option Holding → List Item
 items_of None = []
 items_of (Some holding) = holding.items
+
+abbrev pub times_by : Option Holding → List ℕ
+times_by None = []
+times_by (Some holding) = holding.times
 
 module _ {H N : Type 0} (at : H → N → Type 0) (own : N → Option Holding) (home : H) where
   -- a caller of this home: its note is of the home, and its own
@@ -117,6 +125,12 @@ module _ {N : Type 0} (own : N → Option Holding) where
   calls_of (caller ∷ callers) zero = items_of (own caller.note)
   calls_of (caller ∷ callers) (suc c) = calls_of callers c
 
+  -- and their numbers
+  abbrev pub times_of : List (Caller N) → ℕ → List ℕ
+  times_of [] c = []
+  times_of (caller ∷ callers) zero = times_by (own caller.note)
+  times_of (caller ∷ callers) (suc c) = times_of callers c
+
 module _ {N : Type 0} (own : N → Option Holding) (front : N → Front) (seen : N → List SharedEntry) where
   -- what contracts see of a note
   abbrev pub state_of : N → CallerState
@@ -129,9 +143,11 @@ module _ {N : Type 0} (own : N → Option Holding) (front : N → Front) (seen :
     pub rises : (i : ℕ) (before after : Caller N) → slice_get old i ≡ Some before → slice_get new i ≡ Some after → NoLess (front after.note) (front before.note)
     pub begins : (i : ℕ) (before after : Caller N) → slice_get old i ≡ Some before → slice_get new i ≡ Some after → Begins (seen after.note) (seen before.note)
 
-  -- callers who have all seen one history, which is lawful with their own calls; no front counts a call that wasn't made
+  -- callers who have all seen one history, which is lawful with their own calls and in the one order of all events with them; no front counts a call that wasn't made
   pub record Settled (start : Contents) (callers : List (Caller N)) : Type 0 where
     pub history : List SharedEntry
     pub all : (i : ℕ) (caller : Caller N) → slice_get callers i ≡ Some caller → seen caller.note ≡ history
     pub lawful : Lawful start history (calls_of own callers)
+    pub entry_times : List ℕ
+    pub order : InOrder history (calls_of own callers) entry_times (times_of own callers)
     pub fronts : (i c : ℕ) (caller : Caller N) → slice_get callers i ≡ Some caller → slice_index (front caller.note).counts c ≤ length (calls_of own callers c)

@@ -86,7 +86,10 @@ pub record TakesIn (x : Item) (cost : ℕ) (old new : CallerState) : Type 0 wher
   pub is_front : x.front ≡ old.front
   pub counted : slice_index new.front was.number ≡ length becomes.items
   pub rises : AtLeast new.front old.front
-  pub time : new.time ≡ old.time
+  pub time : ℕ
+  pub times : becomes.times ≡ was.times ++ time ∷ []
+  pub past : old.time < time
+  pub reached : time ≤ new.time
   pub begins : Begins new.seen old.seen
   pub from : length old.seen ≤ x.place
   -- it has seen the call's entry, where it is one

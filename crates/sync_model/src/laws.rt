@@ -4,5 +4,6 @@ pub mod callers;
 pub mod ends;
 pub mod journals;
 pub mod logs;
+pub mod order;
 pub mod shared;
 pub mod shared_steps;

@@ -10,6 +10,7 @@ use Rattle.table_rule.specs.declared.view.Gate.TheVariants.{Closed}
 use Rattle.table_rule.specs.declared.view.View.{View}
 use Rattle.table_rule.specs.Making.{MadeCall}
 use Rattle.table_rule.specs.Pruning.{having_cut}
+use Rattle.table_rule.specs.Views.{at_time}
 use Rattle.table_rule.specs.Writing.{holding}
 
 -- a seat has closed the gate of a map; it knows that no writer is inside, or doesn't know. It stands nowhere, and holds no lock
@@ -24,12 +25,12 @@ pub record HasClosed (k : Begin) (me : Me (Unit {0}) View) (m : ℕ) (alone : Bo
   pub gate : me.0.gate ≡ Closed m alone
   pub spot : me.0.spot ≡ None
 
--- a seat tried to close the gate of a map, and has closed it where the gate's word was still this. Writers may be inside
-abbrev pub TriedClose : ℕ → Bool → Me (Unit {0}) View → Me (Unit {0}) View → Type 0
-TriedClose m as_before before after = (after.1 ≡ before.1) × MatchBool as_before (after.0 ≡ holding before.0 (Closed m false) None None) (after.0 ≡ before.0)
+-- a seat tried to close the gate of a map, and has closed it where the gate's word was still this. It was told the number of its caller's last event. Writers may be inside
+abbrev pub TriedClose : ℕ → ℕ → Bool → Me (Unit {0}) View → Me (Unit {0}) View → Type 0
+TriedClose m time as_before before after = (after.1 ≡ before.1) × MatchBool as_before (after.0 ≡ holding (at_time before.0 time) (Closed m false) None None) (after.0 ≡ before.0)
 
-abbrev pub Closes : ℕ → ℕ → Me (Unit {0}) View → ℕ → Me (Unit {0}) View → Type 0
-Closes m old before found after = TriedClose m (found == old) before after
+abbrev pub Closes : ℕ → ℕ → ℕ → Me (Unit {0}) View → ℕ → Me (Unit {0}) View → Type 0
+Closes m time old before found after = TriedClose m time (found == old) before after
 
 -- a seat looked at the gate that it has closed. Where the word counts no writer, it knows that none is inside
 abbrev pub SeesAlone : ℕ → Bool → Me (Unit {0}) View → Me (Unit {0}) View → Type 0

@@ -18,7 +18,7 @@ use Rattle.trie_nodes.specs.declared.slot.Slot.{Slot}
 use Rattle.trie_nodes.specs.declared.slot.Slot.TheVariants.{Empty, Node, Entry}
 use Rattle.trie_nodes.specs.Places.{bump, but_last}
 use Rattle.table_rule.specs.Shape.{start_of}
-use Rattle.table_rule.specs.Views.{made_by, copied, with_item, called_view, view_state, Looks}
+use Rattle.table_rule.specs.Views.{made_by, at_time, copied, with_item, called_view, view_state, Looks}
 use Rattle.table_rule.specs.Walking.{HasWords}
 
 -- the view of a seat whose cursor stands here, and that knows this entry
@@ -57,15 +57,16 @@ pub record IsCursorOf (items : List Item) (z : Spot) : Type 0 where
 -- a seat's step placed a call of a cursor, which is no entry of the history, and left the cursor here, and the seat with this entry. The seat has then seen the whole history
 pub record Sweeps (call : SharedCall) (reply : SharedReply) (spot : Option Spot) (leaf : Option Leaf) (v w : View) : Type 0 where
   pub item : Item
+  pub time : ℕ
   pub seen : List SharedEntry
-  pub is : w ≡ at_spot (called_view v (with_item v.owns item) seen) spot leaf
+  pub is : w ≡ at_spot (called_view v (with_item v.owns item time) seen time) spot leaf
   pub called : Called (start_of v.begin) call reply 0 (view_state v) (view_state w)
   pub looks : Looks w w
 
--- a seat read a map's root word, and began a cursor there
-abbrev pub BeginsCursor : ℕ → Me (Unit {0}) View → ℕ → Me (Unit {0}) View → Type 0
-BeginsCursor m before found after =
-    (after.1 ≡ before.1) × HasWords before.0 found 18 × ((since : ℕ) × Sweeps (calls.Begin m) replies.Begun (Some (first_spot (made_by before.0.owns) m since before.0.front found)) before.0.leaf before.0 after.0)
+-- a seat read a map's root word, and began a cursor there, for a caller whose last event has this number
+abbrev pub BeginsCursor : ℕ → ℕ → Me (Unit {0}) View → ℕ → Me (Unit {0}) View → Type 0
+BeginsCursor m time before found after =
+    (after.1 ≡ before.1) × HasWords before.0 found 18 × ((since : ℕ) × Sweeps (calls.Begin m) replies.Begun (Some (first_spot (made_by before.0.owns) m since before.0.front found)) before.0.leaf (at_time before.0 time) after.0)
 
 -- a seat read the slot where its cursor stands. It goes on behind an empty slot, or down into a node. An entry is shown: the step is placed, and the seat knows the entry's words
 abbrev pub SweepsIn : Spot → Slot → View → View → Type 0
@@ -101,9 +102,9 @@ pub record StandsIn (z : Spot) (node slot : ℕ) : Type 0 where
   pub nodes : z.nodes ≡ above ++ node ∷ []
   pub slots : z.slots ≡ front ++ slot ∷ []
 
--- a caller's seat that took in a cursor's: it has the cursor, and knows what it knew
-abbrev pub mounted : View → View → View
-mounted v w = record v { spot = w.spot }
+-- a caller's seat that took in a cursor's: it has the cursor, and was told the number of its caller's last event
+abbrev pub mounted : ℕ → View → View → View
+mounted time v w = record v { spot = w.spot; time = time }
 
 -- a caller's seat that let its cursor go, and the cursor's own seat, which stands for nobody
 abbrev pub unmounted : View → View

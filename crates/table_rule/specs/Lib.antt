@@ -5,6 +5,7 @@ pub mod Unused
 pub mod Values
 pub mod Gates
 pub mod Owed
+pub mod Order
 pub mod Rule
 pub mod Views
 pub mod WordSteps

@@ -98,8 +98,9 @@ pub record Expands (k : Begin) (own : Own) (leaf : Option Leaf) (l : Lock) (call
 -- a call on a map is placed, at the cost that it has, used so many words of its caller's room, and left its seat with this entry and this lock. The seat has then seen the whole history
 pub record Makes (m : ℕ) (call : MapCall ℕ) (reply : MapReply) (words : ℕ) (leaf : Option Leaf) (lock : Option Lock) (v w : View) : Type 0 where
   pub item : Item
+  pub time : ℕ
   pub seen : List SharedEntry
-  pub is : w ≡ record (called_view v (paid (cost_of call) words (with_item v.owns item)) seen) { walk = None; leaf = leaf; lock = lock }
+  pub is : w ≡ record (called_view v (paid (cost_of call) words (with_item v.owns item time)) seen time) { walk = None; leaf = leaf; lock = lock }
   pub called : Called (start_of v.begin) (calls.Map m call) (replies.Map reply) (cost_of call) (view_state v) (view_state w)
   pub looks : Looks w w
 
@@ -165,7 +166,8 @@ HasUnit all next = (own : Own) × (owns : List Own) × (all ≡ own ∷ owns) ×
 -- a seat made a call on a map, which used so many words of its caller's room, and has nothing else than before. The seat has then seen the whole history
 pub record MadeCall (m : ℕ) (call : MapCall ℕ) (reply : MapReply) (words : ℕ) (v w : View) : Type 0 where
   pub item : Item
+  pub time : ℕ
   pub seen : List SharedEntry
-  pub is : w ≡ called_view v (paid (cost_of call) words (with_item v.owns item)) seen
+  pub is : w ≡ called_view v (paid (cost_of call) words (with_item v.owns item time)) seen time
   pub called : Called (start_of v.begin) (calls.Map m call) (replies.Map reply) (cost_of call) (view_state v) (view_state w)
   pub looks : Looks w w

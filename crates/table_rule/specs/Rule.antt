@@ -1,4 +1,4 @@
--- The rule of a shared table: whatever its seats do, there is one history, which is lawful with all callers' calls, and of which the words are the outcome.
+-- The rule of a shared table: whatever its seats do, there is one history, which is lawful and in order with all callers' calls, and of which the words are the outcome.
 use Rattle.std.specs.Prelude.{◌≡◌, ℕ, ◌<◌, ◌≤◌, ◌^◌, true, List, [], slice_index}
 use mathlib.Core.Option.{some}
 use lib.ListN.{get_elem?}
@@ -14,6 +14,7 @@ use Rattle.table_rule.specs.Layout.{callers_of, IsBegin}
 use Rattle.table_rule.specs.Ledger.{Fits}
 use Rattle.table_rule.specs.Shape.{Shape, start_of, Fine}
 use Rattle.table_rule.specs.Gates.{Gated}
+use Rattle.table_rule.specs.Order.{Ordered}
 use Rattle.table_rule.specs.Owed.{Suits}
 use Rattle.table_rule.specs.Unused.{IsUnused}
 use Rattle.table_rule.specs.Values.{AreInRange}
@@ -37,4 +38,5 @@ pub record Kept (k : Begin) (s : TableState) : Type 0 where
   pub gates : (m : ℕ) → m < k.maps → Gated k shape s.words m
   pub unused : (i : ℕ) → IsUnused k shape s.views i → slice_index s.words i ≡ 0
   pub fits : (j : ℕ) (v : View) → get_elem? s.views j ≡ some v → v.live ≡ true → Fits (callers_of k) log calls claim j v
+  pub ordered : Ordered shape log calls s.views
   pub suits : (j : ℕ) (v : View) → get_elem? s.views j ≡ some v → v.live ≡ true → Suits k shape log calls s.words v

@@ -5,6 +5,7 @@ use Rattle.sync_model.specs.declared.item.Item.{Item}
 use Rattle.sync_model.specs.Journal.{Begins}
 use Rattle.sync_model.specs.Note.{Holding}
 use Rattle.sync_model.specs.SharedCalls.{Lawful}
+use Rattle.sync_model.specs.SharedOrder.{InOrder}
 use Rattle.sync_model.specs.Shared.{CallerState}
 use Rattle.table_rule.specs.declared.begin.Begin.{Begin}
 use Rattle.table_rule.specs.declared.view.Own.{Own}
@@ -18,7 +19,7 @@ use Rattle.table_rule.specs.Values.{AreInRange}
 -- callers that made no call, each with its room behind the one before
 abbrev pub new_owns : ℕ → List ℕ → List Own
 new_owns next [] = []
-new_owns next (spare ∷ spares) = record { items = []; next = next; spare = spare; draft = [] } ∷ new_owns (next + unit_words * spare) spares
+new_owns next (spare ∷ spares) = record { items = []; times = []; next = next; spare = spare; draft = [] } ∷ new_owns (next + unit_words * spare) spares
 
 -- the first seat stands for all callers
 abbrev pub first_view : Begin → View
@@ -28,6 +29,7 @@ first_view k = record {
   seen = [];
   heard = [];
   front = replicate (callers_of k) 0;
+  time = 0;
   number = 0;
   owns = new_owns (first_room k) k.spares;
   walk = None;
@@ -42,21 +44,25 @@ first_view k = record {
 -- what contracts see of the first caller that a seat stands for
 abbrev pub held_in : ℕ → List Own → Option Holding
 held_in number [] = None
-held_in number (own ∷ owns) = Some (record { number = number; items = own.items; spare = own.spare })
+held_in number (own ∷ owns) = Some (record { number = number; items = own.items; times = own.times; spare = own.spare })
 
--- what contracts see of a view alone. No event of an object changes it, so that its number is 0; the caller's note has a number of its own
+-- what contracts see of a view
 abbrev pub view_state : View → CallerState
-view_state v = record { own = held_in v.number v.owns; front = v.front; time = 0; seen = v.seen }
+view_state v = record { own = held_in v.number v.owns; front = v.front; time = v.time; seen = v.seen }
 
 -- how many calls the first caller made
 abbrev pub made_by : List Own → ℕ
 made_by [] = 0
 made_by (own ∷ owns) = length own.items
 
--- one more call of the first caller
-abbrev pub with_item : List Own → Item → List Own
-with_item [] x = []
-with_item (own ∷ owns) x = record own { items = own.items ++ x ∷ [] } ∷ owns
+-- a seat was told the number of its caller's last event
+abbrev pub at_time : View → ℕ → View
+at_time v time = record v { time = time }
+
+-- one more call of the first caller, which has this number
+abbrev pub with_item : List Own → Item → ℕ → List Own
+with_item [] x time = []
+with_item (own ∷ owns) x time = record own { items = own.items ++ x ∷ []; times = own.times ++ time ∷ [] } ∷ owns
 
 -- a caller used up one unit of its room. It goes on behind the words that it used
 abbrev pub spend_own : ℕ → Own → Own
@@ -80,9 +86,9 @@ abbrev pub MayPay : ℕ → Own → Type 0
 MayPay zero own = Unit {0}
 MayPay (suc cost) own = (cost ≡ 0) × (0 < own.spare) × (own.draft ≡ [])
 
--- the view after a call of the first caller, who has then seen this
-abbrev pub called_view : View → List Own → List SharedEntry → View
-called_view v owns seen = record v { seen = seen; front = slice_set v.front v.number (made_by owns); owns = owns }
+-- the view after a call of the first caller, who has then seen this, and whose call has this number
+abbrev pub called_view : View → List Own → List SharedEntry → ℕ → View
+called_view v owns seen time = record v { seen = seen; front = slice_set v.front v.number (made_by owns); owns = owns; time = time }
 
 -- a seat stands nowhere, holds no lock and is outside of all gates: so it is between two calls
 pub record IsIdle (v : View) : Type 0 where
@@ -135,6 +141,7 @@ spent = record {
   seen = [];
   heard = [];
   front = [];
+  time = 0;
   number = 0;
   owns = [];
   walk = None;
@@ -146,7 +153,7 @@ spent = record {
   cut = [];
 }
 
--- a seat looked at the whole history: what it had seen and heard are beginnings of it, and it is lawful with all callers' calls
+-- a seat looked at the whole history: what it had seen and heard are beginnings of it, and it is lawful and in order with all callers' calls
 pub record Looks (v w : View) : Type 0 where
   pub log : List SharedEntry
   pub calls : ℕ → List Item
@@ -154,8 +161,11 @@ pub record Looks (v w : View) : Type 0 where
   pub seen : Begins log v.seen
   pub heard : (i : ℕ) (xs : List SharedEntry) → slice_get v.heard i ≡ Some xs → Begins log xs
   pub lawful : Lawful (start_of v.begin) log calls
+  pub entry_times : List ℕ
+  pub times : ℕ → List ℕ
+  pub order : InOrder log calls entry_times times
   pub none_else : (c : ℕ) → callers_of v.begin ≤ c → calls c ≡ []
-  pub owned : (i : ℕ) (own : Own) → slice_get v.owns i ≡ Some own → (v.number + i < callers_of v.begin) × (calls (v.number + i) ≡ own.items)
+  pub owned : (i : ℕ) (own : Own) → slice_get v.owns i ≡ Some own → (v.number + i < callers_of v.begin) × (calls (v.number + i) ≡ own.items) × (times (v.number + i) ≡ own.times)
   pub made : (c : ℕ) → slice_index v.front c ≤ length (calls c)
   pub long : length v.front ≡ callers_of v.begin
   pub values : AreInRange log

@@ -20,7 +20,7 @@ use Rattle.trie_nodes.specs.Paths.{route}
 use Rattle.sync_types.specs.KeyCalls.{is_key_entry, key_reply}
 use Rattle.table_rule.specs.Layout.{size_of}
 use Rattle.table_rule.specs.Shape.{start_of}
-use Rattle.table_rule.specs.Views.{with_item, paid, MayPay, called_view, view_state, IsIdle, Looks}
+use Rattle.table_rule.specs.Views.{at_time, with_item, paid, MayPay, called_view, view_state, IsIdle, Looks}
 
 -- the view of a seat that stands here, and knows this entry
 abbrev pub standing : View → Option Walk → Option Leaf → View
@@ -34,6 +34,10 @@ walk_at map key node level since = record { map = map; key = key; node = node; l
 abbrev pub HasWords : View → ℕ → ℕ → Type 0
 HasWords v place words = (place + words ≤ size_of v.begin) × (place < 2 ^ 32)
 
+-- a seat that was told the number of its caller's last event
+abbrev pub told_at : ℕ → Me (Unit {0}) View → Me (Unit {0}) View
+told_at time me = (at_time me.0 time, me.1)
+
 -- a seat read a map's root word: it stands at the root
 abbrev pub Enters : ℕ → ℕ → Me (Unit {0}) View → ℕ → Me (Unit {0}) View → Type 0
 Enters m key before found after =
@@ -42,8 +46,9 @@ Enters m key before found after =
 -- a seat's call on a map is placed, used so many words of its caller's room, and left the seat with this entry. The seat has then seen the whole history
 pub record Answers (m : ℕ) (call : MapCall ℕ) (reply : MapReply) (words : ℕ) (leaf : Option Leaf) (v w : View) : Type 0 where
   pub item : Item
+  pub time : ℕ
   pub seen : List SharedEntry
-  pub is : w ≡ standing (called_view v (paid (cost_of call) words (with_item v.owns item)) seen) None leaf
+  pub is : w ≡ standing (called_view v (paid (cost_of call) words (with_item v.owns item time)) seen time) None leaf
   pub called : Called (start_of v.begin) (calls.Map m call) (replies.Map reply) (cost_of call) (view_state v) (view_state w)
   pub looks : Looks w w
 

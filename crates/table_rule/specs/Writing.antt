@@ -10,6 +10,7 @@ use Rattle.table_rule.specs.declared.view.View.{View}
 use Rattle.table_rule.specs.declared.view.Walk.{Walk}
 use Rattle.trie_nodes.specs.Layout.{unit_words}
 use Rattle.table_rule.specs.Layout.{size_of}
+use Rattle.table_rule.specs.Views.{at_time}
 use Rattle.table_rule.specs.Walking.{standing}
 
 -- the view of a seat that stands to a gate so, and holds these locks
@@ -50,12 +51,12 @@ pub record Holds (k : Begin) (me : Me (Unit {0}) View) (l : Lock) : Type 0 where
 abbrev pub Unlocks : Me (Unit {0}) View → ℕ → Me (Unit {0}) View → Type 0
 Unlocks before found after = (after.1 ≡ before.1) × (after.0 ≡ standing (holding before.0 before.0.gate None None) None None)
 
--- a seat tried to come in as a writer of a map, and is inside where the gate's word was still this
-abbrev pub CameIn : ℕ → Bool → Me (Unit {0}) View → Me (Unit {0}) View → Type 0
-CameIn m as_before before after = (after.1 ≡ before.1) × MatchBool as_before (after.0 ≡ holding before.0 (Inside m) None None) (after.0 ≡ before.0)
+-- a seat tried to come in as a writer of a map, and is inside where the gate's word was still this. It was told the number of its caller's last event
+abbrev pub CameIn : ℕ → ℕ → Bool → Me (Unit {0}) View → Me (Unit {0}) View → Type 0
+CameIn m time as_before before after = (after.1 ≡ before.1) × MatchBool as_before (after.0 ≡ holding (at_time before.0 time) (Inside m) None None) (after.0 ≡ before.0)
 
-abbrev pub ComesIn : ℕ → ℕ → Me (Unit {0}) View → ℕ → Me (Unit {0}) View → Type 0
-ComesIn m old before found after = CameIn m (found == old) before after
+abbrev pub ComesIn : ℕ → ℕ → ℕ → Me (Unit {0}) View → ℕ → Me (Unit {0}) View → Type 0
+ComesIn m time old before found after = CameIn m time (found == old) before after
 
 -- a writer of a map between two walks: it holds no lock
 pub record IsInside (k : Begin) (me : Me (Unit {0}) View) (m : ℕ) : Type 0 where

@@ -2,18 +2,18 @@
 ghost use Rattle.table_rule.specs.Clearing.{Closes, LooksInside, Clears};
 ghost use Rattle.table_rule.specs.Writing.{GoesOut};
 
-use crate::subject::Way;
+use crate::subject::{Timed, Way};
 use crate::view::View;
 use atomic_table::Play;
 use std::marker::PhantomData;
 
-/// A seat closes the gate of a map.
+/// A seat closes the gate of a map, and is told the number of its caller's last event.
 pub struct Close<W> {
     marker: PhantomData<W>,
 }
 
-impl<W: Way> Play<(), View> for Close<W> {
-    ghost then = { λ step before found after. Closes W.map step.first before found after };
+impl<W: Way + Timed> Play<(), View> for Close<W> {
+    ghost then = { λ step before found after. Closes W.map W.time step.first before found after };
 }
 
 /// A seat looks whether a writer is inside the gate that it has closed.

@@ -3,7 +3,7 @@ ghost use Rattle.table_rule.specs.Cursors.{mounted, unmounted, cursor_seat, Begi
 ghost use Rattle.table_rule.specs.Views.{spent};
 ghost use Rattle.trie_nodes.specs.Slots.{slot_in};
 
-use crate::subject::Way;
+use crate::subject::{Timed, Way};
 use crate::view::View;
 use atomic_table::{Join, Play, Split};
 use std::marker::PhantomData;
@@ -13,8 +13,8 @@ pub struct BeginCursor<W> {
     marker: PhantomData<W>,
 }
 
-impl<W: Way> Play<(), View> for BeginCursor<W> {
-    ghost then = { λ step before found after. BeginsCursor W.map before found after };
+impl<W: Way + Timed> Play<(), View> for BeginCursor<W> {
+    ghost then = { λ step before found after. BeginsCursor W.map W.time before found after };
 }
 
 /// A seat's cursor reads the slot where it stands.
@@ -38,11 +38,13 @@ impl Play<(), View> for ShowNone {
     ghost then = { λ step before found after. ShowsNone before found after };
 }
 
-/// A seat takes in its cursor's.
-pub struct Mount;
+/// A seat takes in its cursor's, and is told the number of its caller's last event.
+pub struct Mount<T> {
+    marker: PhantomData<T>,
+}
 
-impl Join<View> for Mount {
-    ghost both = { mounted };
+impl<T: Timed> Join<View> for Mount<T> {
+    ghost both = { mounted T.time };
 
     ghost spent = { spent };
 }

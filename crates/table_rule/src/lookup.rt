@@ -1,19 +1,19 @@
 //! The reads of a seat on its way to a key.
-ghost use Rattle.table_rule.specs.Walking.{Enters, LooksIn, ReadsKey, KeepsValue, ReadsValue};
+ghost use Rattle.table_rule.specs.Walking.{told_at, Enters, LooksIn, ReadsKey, KeepsValue, ReadsValue};
 ghost use Rattle.trie_nodes.specs.Slots.{slot_in};
 
-use crate::subject::{Making, Way};
+use crate::subject::{Making, Timed, Way};
 use crate::view::View;
 use atomic_table::Play;
 use std::marker::PhantomData;
 
-/// A seat reads the root word of a map.
+/// A seat reads the root word of a map, and is told the number of its caller's last event.
 pub struct Enter<W> {
     marker: PhantomData<W>,
 }
 
-impl<W: Way> Play<(), View> for Enter<W> {
-    ghost then = { λ step before found after. Enters W.map W.key before found after };
+impl<W: Way + Timed> Play<(), View> for Enter<W> {
+    ghost then = { λ step before found after. Enters W.map W.key (told_at W.time before) found after };
 }
 
 /// A seat reads a slot, and its call is placed there, where it is no entry of the history.

@@ -1,7 +1,7 @@
 //! The step of a call on an atomic.
 ghost use Rattle.table_rule.specs.Operations.{Operates};
 
-use crate::subject::Operation;
+use crate::subject::{Operation, Timed};
 use crate::view::View;
 use atomic_table::Play;
 use std::marker::PhantomData;
@@ -11,6 +11,6 @@ pub struct Operate<O> {
     marker: PhantomData<O>,
 }
 
-impl<O: Operation> Play<(), View> for Operate<O> {
-    ghost then = { λ step before found after. Operates O.atomic O.call before found after };
+impl<O: Operation + Timed> Play<(), View> for Operate<O> {
+    ghost then = { λ step before found after. Operates O.atomic O.call O.time before found after };
 }

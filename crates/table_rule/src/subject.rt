@@ -1,4 +1,4 @@
-//! What a step is about, told by a type, for proofs: a map and a key, or a call.
+//! What a step is about, told by a type, for proofs: a map and a key, a call, or a number of its caller.
 ghost use Rattle.std.specs.Prelude.{ℕ};
 ghost use Rattle.sync_types.specs.declared.atomic_object.AtomicCall.{AtomicCall};
 ghost use Rattle.sync_types.specs.declared.atomic_object.AtomicCall.TheVariants.{Load};
@@ -18,6 +18,15 @@ impl Way for Brand {
     ghost map = { 0 };
 
     ghost key = { 0 };
+}
+
+/// The number of the last event of a seat's caller, for proofs. A call at `Brand` picks it.
+pub trait Timed {
+    ghost time: { ℕ };
+}
+
+impl Timed for Brand {
+    ghost time = { 0 };
 }
 
 /// The call on a map that a seat makes, for proofs. A call at `Brand` picks it.

@@ -6,8 +6,9 @@ use sync_model::{Item, SharedEntry};
 
 /// A caller that a seat stands for.
 pub struct Own {
-    /// All shared calls of the caller, in its own order.
+    /// All shared calls of the caller, in its own order, and their numbers in the one order of all events.
     pub items: LinkedList<Item>,
+    pub times: LinkedList<u64>,
     /// Where its room of words that nobody else uses begins.
     pub next: u64,
     /// How many units of words the room has.
@@ -98,6 +99,8 @@ pub struct View {
     pub heard: LinkedList<LinkedList<SharedEntry>>,
     /// For each caller the number of its shared calls that are known.
     pub front: LinkedList<u64>,
+    /// The number of its caller's last event, as the seat was told it when its call began, and then that of the call.
+    pub time: u64,
     /// The number of the first caller that the seat stands for.
     pub number: u32,
     /// The callers that it stands for, in order of number.

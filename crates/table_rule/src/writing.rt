@@ -5,18 +5,18 @@ ghost use Rattle.table_rule.specs.Making.{LooksHeld};
 ghost use Rattle.table_rule.specs.Writing.{TriesLock, Unlocks, ComesIn, GoesOut, Drafts};
 ghost use Rattle.trie_nodes.specs.Slots.{slot_in};
 
-use crate::subject::{Making, Way};
+use crate::subject::{Making, Timed, Way};
 use crate::view::View;
 use atomic_table::Play;
 use std::marker::PhantomData;
 
-/// A seat comes in as a writer of a map.
+/// A seat comes in as a writer of a map, and is told the number of its caller's last event.
 pub struct ComeIn<W> {
     marker: PhantomData<W>,
 }
 
-impl<W: Way> Play<(), View> for ComeIn<W> {
-    ghost then = { λ step before found after. ComesIn W.map step.first before found after };
+impl<W: Way + Timed> Play<(), View> for ComeIn<W> {
+    ghost then = { λ step before found after. ComesIn W.map W.time step.first before found after };
 }
 
 /// A seat goes out.

@@ -20,7 +20,7 @@ ghost use Rattle.table_rule.specs.Cursors.{cursor_seat, mounted, unmounted, Begi
 ghost use Rattle.table_rule.specs.Making.{used_in, FindsHeld, Publishes};
 ghost use Rattle.table_rule.specs.Operations.{Operates};
 ghost use Rattle.table_rule.specs.Pruning.{CutsOff, Marks, ReadsParent, SeesSlot, TriedUpper};
-ghost use Rattle.table_rule.specs.Walking.{Enters, FindsIn, IsUncounted, KeepsValue, ReadsKey, ReadsValue};
+ghost use Rattle.table_rule.specs.Walking.{told_at, Enters, FindsIn, IsUncounted, KeepsValue, ReadsKey, ReadsValue};
 ghost use Rattle.table_rule.specs.Writing.{CameIn, Drafts, GoesOut, TriedLock, Unlocks};
 ghost use Rattle.trie_nodes.specs.declared.slot.Slot.{Slot};
 
@@ -29,14 +29,14 @@ ghost use Rattle.trie_nodes.specs.declared.slot.Slot.{Slot};
 /// and joins with such as have no cursor.
 pub fn a_loads_reads_are_counted()
     ensures idle { (v : View) → IsIdle v → IsUncounted v → ⊥ }
-    ensures enters { (m key found : ℕ) (before after : Me (Unit {0}) View) → Enters m key before found after → IsUncounted after.0 → IsUncounted before.0 }
+    ensures enters { (m key time found : ℕ) (before after : Me (Unit {0}) View) → Enters m key (told_at time before) found after → IsUncounted after.0 → IsUncounted before.0 }
     ensures finds { (call : MapCall ℕ) (w : Walk) (slot : Slot) (before after : View) → FindsIn call w slot before after → IsUncounted after → IsUncounted before }
     ensures reads_key { (found : ℕ) (before after : Me (Unit {0}) View) → ReadsKey before found after → IsUncounted after.0 → IsUncounted before.0 }
     ensures reads_value { (found : ℕ) (before after : Me (Unit {0}) View) → ReadsValue before found after → IsUncounted after.0 → IsUncounted before.0 }
     ensures copies { (v : View) → IsUncounted (copied v) → IsUncounted v }
     ensures joins { (v w : View) → IsUncounted (joined v w) → IsUncounted v }
     ensures lets_go { (v : View) → IsUncounted (unmounted v) → IsUncounted v }
-    ensures mounts { (v w : View) → IsIdle w → IsUncounted (mounted v w) → IsUncounted v }
+    ensures mounts { (time : ℕ) (v w : View) → IsIdle w → IsUncounted (mounted time v w) → IsUncounted v }
 {}
 
 /// How many words of its room a call uses, behind which its caller goes on. One that shows an entry, or removes one, uses two; one that
@@ -62,24 +62,24 @@ pub fn a_seat_forgets_no_node_that_it_cut_off()
     ensures reads_parent { (found : ℕ) (before after : Me (Unit {0}) View) → ReadsParent before found after → after.0.cut ≡ before.0.cut }
     ensures tries_upper { (l : Lock) (free : Bool) (before after : Me (Unit {0}) View) → TriedUpper l free before after → after.0.cut ≡ before.0.cut }
     ensures marks { (l : Lock) (before after : Me (Unit {0}) View) → before.0.lock ≡ Some l → Marks before after → after.0.cut ≡ before.0.cut }
-    ensures enters { (m key found : ℕ) (before after : Me (Unit {0}) View) → Enters m key before found after → after.0.cut ≡ before.0.cut }
+    ensures enters { (m key time found : ℕ) (before after : Me (Unit {0}) View) → Enters m key (told_at time before) found after → after.0.cut ≡ before.0.cut }
     ensures finds { (call : MapCall ℕ) (w : Walk) (slot : Slot) (before after : View) → FindsIn call w slot before after → after.cut ≡ before.cut }
     ensures reads_key { (found : ℕ) (before after : Me (Unit {0}) View) → ReadsKey before found after → after.0.cut ≡ before.0.cut }
     ensures keeps_value { (found : ℕ) (before after : Me (Unit {0}) View) → KeepsValue before found after → after.0.cut ≡ before.0.cut }
     ensures reads_value { (found : ℕ) (before after : Me (Unit {0}) View) → ReadsValue before found after → after.0.cut ≡ before.0.cut }
-    ensures comes_in { (m : ℕ) (as_before : Bool) (before after : Me (Unit {0}) View) → CameIn m as_before before after → after.0.cut ≡ before.0.cut }
+    ensures comes_in { (m time : ℕ) (as_before : Bool) (before after : Me (Unit {0}) View) → CameIn m time as_before before after → after.0.cut ≡ before.0.cut }
     ensures tries_lock { (w : Walk) (free : Bool) (before after : Me (Unit {0}) View) → TriedLock w free before after → after.0.cut ≡ before.0.cut }
     ensures finds_held { (call : MapCall ℕ) (w : Walk) (l : Lock) (place : ℕ) (slot : Slot) (before after : View) → FindsHeld call w l place slot before after → after.cut ≡ before.cut }
     ensures drafts { (x found : ℕ) (before after : Me (Unit {0}) View) → Drafts x before found after → after.0.cut ≡ before.0.cut }
     ensures publishes { (m : ℕ) (call : MapCall ℕ) (words : ℕ) (l : Lock) (before after : Me (Unit {0}) View) → before.0.lock ≡ Some l → Publishes m call words before after → after.0.cut ≡ before.0.cut }
     ensures unlocks { (found : ℕ) (before after : Me (Unit {0}) View) → Unlocks before found after → after.0.cut ≡ before.0.cut }
     ensures goes_out { (found : ℕ) (before after : Me (Unit {0}) View) → GoesOut before found after → after.0.cut ≡ before.0.cut }
-    ensures closes { (m : ℕ) (as_before : Bool) (before after : Me (Unit {0}) View) → TriedClose m as_before before after → after.0.cut ≡ before.0.cut }
+    ensures closes { (m time : ℕ) (as_before : Bool) (before after : Me (Unit {0}) View) → TriedClose m time as_before before after → after.0.cut ≡ before.0.cut }
     ensures looks_inside { (m : ℕ) (alone : Bool) (before after : Me (Unit {0}) View) → SeesAlone m alone before after → after.0.cut ≡ before.0.cut }
     ensures clears { (m : ℕ) (before after : Me (Unit {0}) View) → Clears m before after
         → (d : CutNode) × (d.level ≡ 0) × (d.map ≡ m) × (suc (length d.before) ≡ length after.0.seen) × Begins after.0.seen d.before × (after.0.cut ≡ d ∷ before.0.cut) }
-    ensures operates { (a found : ℕ) (call : AtomicCall) (kind : AtomicKind) (before after : Me (Unit {0}) View) → slice_get before.0.begin.kinds a ≡ Some kind → Operates a call before found after → after.0.cut ≡ before.0.cut }
-    ensures begins_cursor { (m found : ℕ) (before after : Me (Unit {0}) View) → BeginsCursor m before found after → after.0.cut ≡ before.0.cut }
+    ensures operates { (a time found : ℕ) (call : AtomicCall) (kind : AtomicKind) (before after : Me (Unit {0}) View) → slice_get before.0.begin.kinds a ≡ Some kind → Operates a call time before found after → after.0.cut ≡ before.0.cut }
+    ensures begins_cursor { (m time found : ℕ) (before after : Me (Unit {0}) View) → BeginsCursor m time before found after → after.0.cut ≡ before.0.cut }
     ensures sweeps { (z : Spot) (slot : Slot) (before after : View) → SweepsIn z slot before after → after.cut ≡ before.cut }
     ensures goes_up { (z : Spot) (found : ℕ) (before after : Me (Unit {0}) View) → before.0.spot ≡ Some z → GoesUp before found after → after.0.cut ≡ before.0.cut }
     ensures shows_none { (z : Spot) (found : ℕ) (before after : Me (Unit {0}) View) → before.0.spot ≡ Some z → ShowsNone before found after → after.0.cut ≡ before.0.cut }
@@ -87,6 +87,6 @@ pub fn a_seat_forgets_no_node_that_it_cut_off()
     ensures copies { (v : View) → (copied v).cut ≡ v.cut }
     ensures deals { (v : View) → ((kept v).cut ≡ v.cut) × ((dealt v).cut ≡ v.cut) }
     ensures joins { (v w : View) → (joined v w).cut ≡ v.cut ++ w.cut }
-    ensures mounts { (v w : View) → (mounted v w).cut ≡ v.cut }
+    ensures mounts { (time : ℕ) (v w : View) → (mounted time v w).cut ≡ v.cut }
     ensures unmounts { (v : View) → ((unmounted v).cut ≡ v.cut) × ((cursor_seat v).cut ≡ v.cut) }
 {}

@@ -18,7 +18,7 @@ returns-clause-clears c = λ m before after told.
     one_more xs x ys e = let long = length-append xs (x ∷ []) in let same = ap length e in omega arith
 
 pub returns-clause-operates : goal.returns-clause-operates
-returns-clause-operates c = λ a found call kind before after at told. ap (λ (v : View). v.cut) (told.1 kind at).1.is
+returns-clause-operates c = λ a time found call kind before after at told. ap (λ (v : View). v.cut) (told.1 kind at).1.is
 
 pub returns-clause-goes_up : goal.returns-clause-goes_up
 returns-clause-goes_up c = λ z found before after stands told. ap (λ (v : View). v.cut) (told.1 z stands)
