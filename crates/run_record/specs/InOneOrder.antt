@@ -1,5 +1,5 @@
 -- One order of all events: those on maps and atomics, and those on all other objects.
-use Rattle.std.specs.Prelude.{◌≡◌, ℕ, ◌<◌, List, length, take, Some, slice_get, slice_index}
+use Rattle.std.specs.Prelude.{◌≡◌, ℕ, ◌+◌, ◌<◌, ◌≤◌, List, [], ◌∷◌, length, take, Some, slice_get, slice_index}
 use Rattle.sync_model.specs.Journal.{TimesRise}
 use Rattle.sync_model.specs.SharedOrder.{InOrder}
 use Rattle.run_record.specs.declared.made.Made.{Made}
@@ -10,6 +10,14 @@ use Rattle.run_record.specs.Record.{Record, journal_of, list_of, shared_in, call
 abbrev pub number_behind : List ℕ → List Made → Made → ℕ
 number_behind times earlier (Shared x) = slice_index times (length (shared_in earlier))
 number_behind times earlier (Entered object entry) = entry.time
+
+-- along a list each item has a number past those before it, and the first one at least this: item by item
+abbrev pub NumbersRise : ℕ → List Made → List ℕ → Type 0
+NumbersRise least [] [] = Unit {0}
+NumbersRise least [] (time ∷ times) = ⊥
+NumbersRise least (Shared x ∷ list) [] = ⊥
+NumbersRise least (Shared x ∷ list) (time ∷ times) = (least ≤ time) × NumbersRise (time + 1) list times
+NumbersRise least (Entered object entry ∷ list) times = (least ≤ entry.time) × NumbersRise (entry.time + 1) list times
 
 -- Each event has a number. The numbers rise along each journal, Stop's and each part's of a pool too, along the shared history, and along what each worker made. A call on a map or an atomic has a number that lies between those of the entries of the history around its place.
 pub record InOneOrder (r : Record) : Type 0 where

@@ -5,7 +5,7 @@ use Rattle.sync_model.specs.Front.{Front, AtLeast, Later}
 use Rattle.sync_model.specs.Journal.{front_at}
 use Rattle.run_record.specs.declared.made.Made.{Made}
 use Rattle.run_record.specs.declared.made.Made.TheVariants.{Shared, Entered}
-use Rattle.run_record.specs.InOneOrder.{number_behind}
+use Rattle.run_record.specs.InOneOrder.{NumbersRise}
 use Rattle.run_record.specs.Record.{shared_in, front_of}
 use Rattle.thread_objects.specs.Working.{Rises, CountsOwn}
 use Rattle.thread_objects.proofs.Moving.{least_over}
@@ -71,38 +71,10 @@ risen_between from to (x ∷ items) times zero (suc j) earlier later rises befor
 risen_between from to (x ∷ items) times (suc i) (suc j) earlier later rises before first second =
     risen_between (at_item x times) to items (behind_item x times) i j earlier later (step from to x items times rises).1 (omega (arith, before)) first second
 
--- the first item has the first number, and a later one its number among those that are left
-number_first : (x : Made) (times : List ℕ) → (at_item x times).time ≡ number_behind times [] x
-number_first (Shared x) times = refl
-number_first (Entered object entry) times = refl
-
-number_later : (from to : Front) (x : Made) (items : List Made) (times : List ℕ) (earlier : List Made) (made : Made) → Rises from (x ∷ items) times to → number_behind (behind_item x times) earlier made ≡ number_behind times (x ∷ earlier) made
-number_later from to (Shared x) items [] earlier made rises = absurd rises
-number_later from to (Shared x) items (time ∷ times) earlier (Shared y) rises = refl
-number_later from to (Shared x) items (time ∷ times) earlier (Entered object entry) rises = refl
-number_later from to (Entered other entry) items times earlier (Shared y) rises = refl
-number_later from to (Entered other entry) items times earlier (Entered object later) rises = refl
-
--- each item has a number past that from which the items rise
-risen_past : (from to : Front) (items : List Made) (times : List ℕ) (i : ℕ) (made : Made) → Rises from items times to → slice_get items i ≡ Some made → from.time < number_behind times (take i items) made
-risen_past from to [] times i made rises at = absurd (none-some made at)
-risen_past from to (x ∷ items) times zero made rises at =
-    let next = step from to x items times rises in
-    subst (λ (m : Made). from.time < number_behind times [] m) (same_Some x made at) (subst (λ (n : ℕ). from.time < n) (number_first x times) next.0.1)
-risen_past from to (x ∷ items) times (suc i) made rises at =
-    let next = step from to x items times rises in
-    let later = risen_past (at_item x times) to items (behind_item x times) i made next.1 at in
-    subst (λ (n : ℕ). from.time < n) (number_later from to x items times (take i items) made rises) (omega (arith, next.0.1, later))
-
--- of two items the later one has the higher number
-pub times_between : (from to : Front) (items : List Made) (times : List ℕ) (i j : ℕ) (earlier later : Made) → Rises from items times to → i < j → slice_get items i ≡ Some earlier → slice_get items j ≡ Some later
-    → number_behind times (take i items) earlier < number_behind times (take j items) later
-times_between from to [] times i j earlier later rises before first second = absurd (none-some earlier first)
-times_between from to (x ∷ items) times i zero earlier later rises before first second = absurd (omega (arith, before))
-times_between from to (x ∷ items) times zero (suc j) earlier later rises before first second =
-    let past = risen_past (at_item x times) to items (behind_item x times) j later (step from to x items times rises).1 second in
-    let higher : (at_item x times).time < number_behind times (x ∷ take j items) later = subst (λ (n : ℕ). (at_item x times).time < n) (number_later from to x items times (take j items) later rises) past in
-    subst (λ (m : Made). number_behind times [] m < number_behind times (x ∷ take j items) later) (same_Some x earlier first) (subst (λ (n : ℕ). n < number_behind times (x ∷ take j items) later) (number_first x times) higher)
-times_between from to (x ∷ items) times (suc i) (suc j) earlier later rises before first second =
-    let among = times_between (at_item x times) to items (behind_item x times) i j earlier later (step from to x items times rises).1 (omega (arith, before)) first second in
-    omega (arith, among, number_later from to x items times (take i items) earlier rises, number_later from to x items times (take j items) later rises)
+-- the numbers of the items rise too
+pub numbers_rise : (least : ℕ) (from to : Front) (items : List Made) (times : List ℕ) → least ≤ from.time + 1 → Rises from items times to → NumbersRise least items times
+numbers_rise least from to [] [] low rises = tt
+numbers_rise least from to [] (time ∷ times) low rises = absurd rises
+numbers_rise least from to (Shared x ∷ items) [] low rises = absurd rises
+numbers_rise least from to (Shared x ∷ items) (time ∷ times) low rises = (omega (arith, low, rises.0.1), numbers_rise (time + 1) (record { counts = x.front; time = time }) to items times (omega arith) rises.1)
+numbers_rise least from to (Entered object entry ∷ items) times low rises = (omega (arith, low, rises.0.1), numbers_rise (entry.time + 1) (front_at entry) to items times (omega arith) rises.1)
