@@ -177,6 +177,32 @@ module _ (r : Record) (order : InOneOrder r) where
       by_place (inr (inl before)) = absurd (past before)
       by_place (inr (inr more)) = omega (arith, more)
 
+    -- an entry that lies before a call's place comes before the call
+    pub place_by : (e f : ItemOf r) (entry call : Item) → e.made ≡ Shared entry → f.made ≡ Shared call → entry.entry ≡ true → entry.place < call.place → First r order e f
+    place_by e f entry call first second entered before = inl ((among_entries f call second).past entry.place (time e) before ((among_entries e entry first).is entered))
+
+    -- two entries at one place are one
+    abbrev pub AreOne : Type 0
+    AreOne = (e f : ItemOf r) (x y : Item) → e.made ≡ Shared x → f.made ≡ Shared y → x.entry ≡ true → y.entry ≡ true → x.place ≡ y.place → e.worker ≡ f.worker
+
+    -- and an entry that comes before a call lies before its place
+    pub placed_by : AreOne → (e f : ItemOf r) (entry call : Item) → e.made ≡ Shared entry → f.made ≡ Shared call → entry.entry ≡ true → First r order e f → entry.place < call.place
+    placed_by one e f entry call first second entered (inl less) = seen_by e f entry call less first second entered
+    placed_by one e f entry call first second entered (inr (times, apart)) = by_place (cases_order entry.place call.place) where
+      here : slice_get order.entry_times entry.place ≡ Some (time e)
+      here = (among_entries e entry first).is entered
+
+      by_entry : (b : Bool) → call.entry ≡ b → (entry.place ≡ call.place) ⊎ (call.place < entry.place) → ⊥
+      by_entry true also (inl same) = let mine = one e f entry call first second entered also same in omega (arith, mine, apart)
+      by_entry true also (inr more) = let lower = (among_entries e entry first).past call.place (time f) more ((among_entries f call second).is also) in omega (arith, lower, times)
+      by_entry false none (inl same) = let higher = (among_entries f call second).before none entry.place (time e) (omega (arith, same)) here in omega (arith, higher, times)
+      by_entry false none (inr more) = let higher = (among_entries f call second).before none entry.place (time e) (omega (arith, more)) here in omega (arith, higher, times)
+
+      by_place : (entry.place ≡ call.place) ⊎ ((entry.place < call.place) ⊎ (call.place < entry.place)) → entry.place < call.place
+      by_place (inl same) = absurd (by_entry call.entry refl (inl same))
+      by_place (inr (inl before)) = before
+      by_place (inr (inr more)) = absurd (by_entry call.entry refl (inr more))
+
     module _ (items : AreItems) (plan : Plan) (lawful : IsRecordOf plan r) where
       pub rises_in_history : (e f : ItemOf r) → InHistory r e f → time_of r order e < time_of r order f
       rises_in_history e f both = by_places both.before where

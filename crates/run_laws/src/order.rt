@@ -1,6 +1,6 @@
 //! One order of all events: on maps and atomics, and on all other objects. A record that is in one order has no circle of causes: what
 //! happened before is before in that order, and what a call on a map or an atomic answers follows from what is before it.
-ghost use Rattle.std.specs.Prelude.{◌≡◌, ◌⊎◌, ℕ, ◌<◌, ◌≤◌, true, false, negsuc, List, Some, slice_get};
+ghost use Rattle.std.specs.Prelude.{◌≡◌, ◌↔◌, ◌⊎◌, ℕ, ◌<◌, ◌≤◌, true, false, negsuc, List, Some, slice_get};
 ghost use Rattle.sync_model.specs.declared.item.Item.{Item};
 ghost use Rattle.sync_model.specs.declared.item.SharedEntry.{SharedEntry};
 ghost use Rattle.sync_model.specs.Journal.{is_such, TimesRise};
@@ -16,7 +16,9 @@ ghost use Rattle.run_laws.specs.ExamplesStoreAndTry as store_and_try;
 ghost use Rattle.run_laws.specs.Order.{ItemOf, First, IsSame, InJournal, InList, InHistory, Leads, time_of};
 
 use run_record::Made;
-use run_record::laws::order::{calls_are_items_of_lists, calls_have_their_numbers_among_the_entries};
+use run_record::laws::order::{
+    calls_are_items_of_lists, calls_have_their_numbers_among_the_entries,
+};
 use run_record::laws::returns::what_a_wait_group_call_has_done;
 use run_record::laws::runs::scripts_without_tests_are_spelt_call_by_call;
 use run_record::laws::starts::where_nobody_waits_to_be_started_lists_are_of_calls;
@@ -69,10 +71,13 @@ pub fn what_was_waited_for_happened_before()
     calls_have_their_numbers_among_the_entries();
 }
 
-/// What happened before is seen, and nothing else is. Where steps lead from an entry of the shared history to another call, the call
-/// has its place behind the entry: it is answered as by the one-thread objects behind that entry, and so finds what was stored. Where
-/// they lead from a call to an entry, the call's place is no later than the entry's: so it doesn't find what was stored after it.
+/// What happened before is seen, and what happened after isn't. The place of a call on a map or an atomic is behind exactly those
+/// entries of the shared history that come before the call in the one order of all items: so it is answered as by the one-thread objects
+/// behind these. Where steps lead from an entry to another call, the call's place is behind the entry: it finds what was stored. Where
+/// they lead from a call to an entry, the call's place is no later than the entry's: it doesn't find what was stored after it.
 pub fn what_happened_before_is_seen()
+    ensures places { (plan : Plan) (r : Record) → IsRecordOf plan r → (order : InOneOrder r) (e f : ItemOf r) (entry call : Item)
+        → e.made ≡ Made.Shared entry → f.made ≡ Made.Shared call → entry.entry ≡ true → First r order e f ↔ entry.place < call.place }
     ensures seen { (plan : Plan) (r : Record) (e f : ItemOf r) (between : List (ItemOf r)) (entry call : Item) → IsRecordOf plan r → InOneOrder r → Leads r e between f
         → e.made ≡ Made.Shared entry → f.made ≡ Made.Shared call → entry.entry ≡ true → entry.place < call.place }
     ensures unseen { (plan : Plan) (r : Record) (e f : ItemOf r) (between : List (ItemOf r)) (entry call : Item) → IsRecordOf plan r → InOneOrder r → Leads r e between f
@@ -80,6 +85,7 @@ pub fn what_happened_before_is_seen()
 {
     calls_are_items_of_lists();
     calls_have_their_numbers_among_the_entries();
+    each_entry_is_a_call();
 }
 
 /// A circle of waits is never done. Worker 0 waits for `g` and is then done with `h`, and worker 1 waits for `h` and is then done with

@@ -36,9 +36,14 @@ pub returns-clause-entries : goal.returns-clause-entries
 returns-clause-entries c plan r n entry lawful at =
     let call = c.each_entry_is_a_call.ensures.call (contents_of plan) r.history (calls_of r) n entry lawful.shared at in
     let there = c.calls_are_items_of_lists.ensures.from (list_of r entry.caller) call.0 call.1 call.2 in
-    let called : SharedCall → SharedReply → SharedEntry = λ call reply. record { caller = entry.caller; call = call; reply = reply } in
-    (record { worker = entry.caller; place = there.0; made = Shared call.1; at = there.1 }, call.1, refl, call.4, call.3,
-    ap (λ (x : SharedCall). called x call.1.reply) call.5 ∙ ap (λ (x : SharedReply). called entry.call x) call.6)
+    let called : SharedCall → SharedReply → SharedEntry = λ call reply. record { caller = entry.caller; call = call; reply = reply } in (
+      record { worker = entry.caller; place = there.0; made = Shared call.1; at = there.1 },
+      call.1,
+      refl,
+      call.4,
+      call.3,
+      ap (λ (x : SharedCall). called x call.1.reply) call.5 ∙ ap (λ (x : SharedReply). called entry.call x) call.6,
+    )
 
 pub returns-clause-no_circle : goal.returns-clause-no_circle
 returns-clause-no_circle c plan r lawful in_order e between leads =
