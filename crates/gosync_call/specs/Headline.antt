@@ -1,4 +1,4 @@
--- The headline: what a run with a thread for each worker writes is explained by one legal history, and its events stand in one order.
+-- The headline: what a run with a thread for each worker writes is explained by one record, all of which stands in one order.
 --
 -- For every workload and interleaving in which the run returns there is one record that explains what is written: one
 -- history of all maps and atomics, one journal of each other object, and one list of what each worker made (`Record`).
@@ -11,8 +11,10 @@
 -- * the run is done where each script is at its end, but those of workers that were never started, and then the ends are what stands after the whole history; else it was
 --   misused, and the misuse is the first that halted it (`Agrees`).
 --
--- And `InOneOrder` says that each event on an object other than a map or an atomic has a number, which rises along each journal and
--- along each worker's list: so no circle of such events leads from one to the next by journals and lists.
+-- And `InOneOrder` says that each item of each worker's list has a number, be it an event on an object or a call on a map or an
+-- atomic. The numbers rise along each worker's list, along each journal and along the history, and each call has its place in the
+-- history by its number. So all that was made stands in one order, in which each event and each call but a `range` is answered by
+-- what comes before it.
 use Rattle.std.specs.Prelude.{◌≡◌, ◌⊎◌, ℕ, true, false, List, [], Option, Some, slice_get, get_or, map, length}
 use Rattle.sync_outside.specs.Faults.{RoseBy}
 use Rattle.script_calls.specs.Runs.{have_tests, left_of}
@@ -27,7 +29,7 @@ use Rattle.run_record.specs.Lines.{Line, misused}
 use Rattle.gosync_call.specs.declared.status.Status.{Status}
 use Rattle.gosync_call.specs.ComesTo.{ComesTo}
 
--- a run with threads comes to this outcome of a workload: one record explains it, and all its events stand in one order
+-- a run with threads comes to this outcome of a workload: one record explains it, and all its items stand in one order
 abbrev pub RunsTo : Plan → Outcome → Type 0
 RunsTo plan outcome = (r : Record) × Explains plan outcome r × InOneOrder r
 

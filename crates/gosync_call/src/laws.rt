@@ -56,8 +56,8 @@ pub fn a_run_by_schedule_is_computed()
 
 /// What the headline says in short, where all is written. In a run with threads that ends done every worker that was live has ended:
 /// nothing is left of any script but those of workers that were never started, which made no call, and each call that was made was
-/// answered once. One that ends misused tells a misuse that some worker met. None is told to be deadlocked. The events of each stand in
-/// one order, and each reply is of a call that was made. Where the bytes are told, all this is so of the workload that they are read as.
+/// answered once. One that ends misused tells a misuse that some worker met. None is told to be deadlocked. All that was made in each
+/// stands in one order, and each reply is of a call that was made. Where the bytes are told, all this is so of the workload that they are read as.
 pub fn a_run_with_threads_is_explained()
     ensures done { (told old new : Option (List ℕ)) → Headline told old new (statuses.Ended endings.Done)
         → (plan : Plan) × (left : Report) × (r : Record) × IsReadFromFile told plan × Explains plan (outcomes.Done left) r × InOneOrder r × HasEnded plan left × Appends old new (report_text plan (outcomes.Done left)) }

@@ -64,7 +64,7 @@ pub fn gosync<
     spawner: &mut P,
     gate: &G,
 ) -> Status
-    // The headline: whatever a run with threads comes to is explained by one record, whose events stand in one order.
+    // The headline: whatever a run with threads comes to is explained by one record, whose items stand in one order.
     ensures headline { (file : List ℕ) → AskFor (map string_bytes words.now) modes.Run file → Headline (S.contents src.old file) (O.contents out.old) (O.contents out.new) result }
 
     // A run by schedule comes to what that run is defined to come to.

@@ -6,14 +6,14 @@ use Rattle.sync_model.specs.declared.item.Item.{Item}
 use Rattle.sync_model.specs.Journal.{TimesRise}
 use Rattle.workload.specs.Plan.{Plan}
 use Rattle.run_record.specs.declared.made.Made.{Made}
-use Rattle.run_record.specs.declared.made.Made.TheVariants.{Entered}
 use Rattle.run_record.specs.Explains.{KeepsFronts}
-use Rattle.run_record.specs.InOneOrder.{InOneOrder}
+use Rattle.run_record.specs.InOneOrder.{InOneOrder, NumbersRise, number_behind}
 use Rattle.run_record.specs.Record.{ObjectEntry, list_of, shared_in, calls_of, front_of}
 use Rattle.kept_record.specs.Acts.{AreActsOf}
 use Rattle.kept_record.specs.Keeping.{Act, made_by, account_of, record_of}
 use Rattle.kept_record.proofs.History.{calls_by}
 use Rattle.kept_record.proofs.Keeps.{keeps}
+use Rattle.kept_record.proofs.Ordered.{IsOrdered, numbers_rise}
 use Rattle.kept_record.proofs.Within.{list_is, journal_is}
 
 module _ (plan : Plan) (acts : List Act) (all : AreActsOf plan acts) where
@@ -53,8 +53,21 @@ module _ (plan : Plan) (acts : List Act) (all : AreActsOf plan acts) where
     made = λ w i other x at. subst (λ (l : List Item). slice_index (front_of x) other ≤ length l) (sym (calls_are other)) ((keeps plan acts all).counts.made w i other x (made_at w i x at));
   }
 
-  pub in_one_order : InOneOrder (record_of plan acts)
-  in_one_order = record {
-    journals = λ o. subst (λ (l : List ObjectEntry). TimesRise l) (sym (journal_is plan (account_of plan acts) (keeps plan acts all).within o)) ((keeps plan acts all).ordered.journals o);
-    lists = λ w i j o other x y before at_x at_y. (keeps plan acts all).ordered.lists w i j (Entered o x) (Entered other y) before (made_at w i (Entered o x) at_x) (made_at w j (Entered other y) at_y);
-  }
+  -- numbers that rise item by item rise from any item to a later one
+  pub in_one_order : ((least : ℕ) (list : List Made) (times : List ℕ) (i j : ℕ) (x y : Made) → NumbersRise least list times → i < j → slice_get list i ≡ Some x → slice_get list j ≡ Some y → number_behind times (take i list) x < number_behind times (take j list) y)
+      → InOneOrder (record_of plan acts)
+  in_one_order between = record {
+    journals = λ o. subst (λ (l : List ObjectEntry). TimesRise l) (sym (journal_is plan (account_of plan acts) (keeps plan acts all).within o)) (ordered.journals o);
+    entry_times = ordered.entry_times;
+    times = ordered.times;
+    history = record {
+      entries = ordered.history.entries;
+      rise = ordered.history.rise;
+      all = λ w. ordered.history.all w ∙ sym (ap (λ (l : List Item). length l) (calls_are w));
+      among = λ w j time x at is. ordered.history.among w j time x (call_at w j x at) is;
+    };
+    lists = λ w i j x y before at_x at_y. between 0 (list_of (record_of plan acts) w) (ordered.times w) i j x y
+        (subst (λ (l : List Made). NumbersRise 0 l (ordered.times w)) (sym (list_here w)) (numbers_rise 0 (made_by w (account_of plan acts).acts) (ordered.times w) (length (account_of plan acts).acts) (ordered.lists w))) before at_x at_y;
+  } where
+    ordered : IsOrdered (account_of plan acts)
+    ordered = (keeps plan acts all).ordered

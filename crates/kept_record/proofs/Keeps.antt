@@ -37,7 +37,7 @@ step plan kept act of now = record {
   history = histories.step plan kept act now.history;
   knowing = knowing.step plan kept act of now.numbered now.counts now.history now.knowing;
   within = within.step plan kept act of now.within;
-  ordered = ordered.step kept act now.ordered;
+  ordered = ordered.step plan kept act now.history now.ordered;
   tells = telling.step kept act now.tells;
 }
 

@@ -20,6 +20,8 @@ ghost use Rattle.kept_record.specs.Example as example;
 ghost use Rattle.kept_record.specs.Keeping.{Act, made_by, entries_on, account_of, record_of};
 ghost use Rattle.kept_record.specs.SameItems.{HasSameItems};
 
+use run_record::laws::order::numbers_that_rise_item_by_item_rise;
+
 /// The record has what was made, and nothing else: the acts themselves, in order, whatever places, fronts and numbers they are kept with. A
 /// worker's list has its own acts, and the journal of an object the entries on it: so what was done on the object, and by whom.
 pub fn a_record_has_what_was_made()
@@ -88,10 +90,13 @@ pub fn answered_calls_are_a_legal_history()
         → IsReply x.call x.reply (contents_at (contents_of plan) (record_of plan acts).history x.place) }
 {}
 
-/// All entries stand in one order, by their numbers: these rise along each journal and along each list.
-pub fn all_entries_stand_in_one_order()
+/// All that was made stands in one order, by numbers: each is how much was made before. They rise along each journal, along the history and
+/// along each list, and each call has its place in the history by its number.
+pub fn all_that_was_made_stands_in_one_order()
     ensures { (plan : Plan) (acts : List Act) → AreActsOf plan acts → InOneOrder (record_of plan acts) }
-{}
+{
+    numbers_that_rise_item_by_item_rise();
+}
 
 /// The record of a small run, written out: worker 0 locks a mutex, stores and unlocks; worker 1 waits for the mutex, and loads what was stored.
 /// The store stands at place 0 and the load at place 1, and who goes on behind the unlock knows the store from there on.

@@ -261,7 +261,7 @@ module _ (behind : Behind) (r : Record) (order : InOneOrder r) (lawful : IsRecor
 
   -- and the worker's own `done` has a number past that of its wait's return
   done_later : (object other worker : ℕ) (mine : WaitsFirst object other (list_of r worker)) → mine.returned.time < mine.done.time
-  done_later object other worker mine = order.lists worker (length mine.earlier) (length mine.items) object other mine.returned mine.done
+  done_later object other worker mine = order.lists worker (length mine.earlier) (length mine.items) (Entered object mine.returned) (Entered other mine.done)
       (returned_first object other (list_of r worker) mine) (returned_at object other (list_of r worker) mine) (done_at object other (list_of r worker) mine)
 
   no_circle : (first : WaitsFirst 1 2 (list_of r 0)) (second : WaitsFirst 2 1 (list_of r 1)) → ⊥

@@ -24,6 +24,7 @@ mod ExplainedOnceValue
 mod ExplainedPool
 mod ExplainedRwMutex
 mod ExplainedStarts
+mod ExplainedStoreAndTry
 mod ExplainedWaitGroup
 mod ExplainedWriter
 mod FrontNumbers

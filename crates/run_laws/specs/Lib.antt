@@ -12,6 +12,7 @@ pub mod ExamplesOnceValue
 pub mod ExamplesPool
 pub mod ExamplesRwMutex
 pub mod ExamplesStarts
+pub mod ExamplesStoreAndTry
 pub mod ExamplesWaitGroup
 pub mod Known
 pub mod Locks

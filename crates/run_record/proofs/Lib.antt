@@ -32,6 +32,7 @@ mod PlainLemmas
 mod PoolReturns
 mod RangeReplies
 mod Returning
+mod RisingNumbers
 mod RoundCounts
 mod RoundLemmas
 mod RunLines

@@ -1,7 +1,7 @@
 -- Items of lists.
-use Rattle.std.proofs.Common.{◌≡◌, ℕ, zero, suc, ◌<◌, ◌≤◌, List, [], ◌∷◌, ◌++◌, length, get_or, take, Option, Some, None, slice_get, refl, ap, arith}
+use Rattle.std.proofs.Common.{◌≡◌, ℕ, zero, suc, ◌<◌, ◌≤◌, List, [], ◌∷◌, ◌++◌, length, get_or, take, Option, Some, None, slice_get, slice_index, refl, ap, arith}
 use Rattle.std.specs.Prelude.{unwrap_or}
-use Rattle.std.proofs.lemmas.Option.{none-some}
+use Rattle.std.proofs.lemmas.Option.{none-some, same_Some}
 use Rattle.sync_model.specs.declared.item.Item.{Item}
 use Rattle.run_record.specs.declared.made.Made.{Made}
 use Rattle.run_record.specs.declared.made.Made.TheVariants.{Shared, Entered}
@@ -24,6 +24,19 @@ shared_at (Shared y ∷ list) (suc i) x at = later (length (shared_in (take i li
   later : (n : ℕ) → slice_get (shared_in list) n ≡ Some x → slice_get (y ∷ shared_in list) (suc n) ≡ Some x
   later n is = is
 shared_at (Entered object entry ∷ list) (suc i) x at = shared_at list i x at
+
+-- each of these calls is an item of the list
+pub shared_from : (list : List Made) (n : ℕ) (x : Item) → slice_get (shared_in list) n ≡ Some x → (i : ℕ) × (slice_get list i ≡ Some (Shared x)) × (length (shared_in (take i list)) ≡ n)
+shared_from [] n x at = absurd (none-some x at)
+shared_from (Shared y ∷ list) zero x at = (0, ap (λ (z : Item). Some (Shared z)) (same_Some y x at), refl)
+shared_from (Shared y ∷ list) (suc n) x at = let there = shared_from list n x at in (suc there.0, there.1, ap (λ (m : ℕ). suc m) there.2)
+shared_from (Entered object entry ∷ list) n x at = let there = shared_from list n x at in (suc there.0, there.1, there.2)
+
+-- the number at a place that a list has
+pub number_at : (numbers : List ℕ) (n : ℕ) → n < length numbers → slice_get numbers n ≡ Some (slice_index numbers n)
+number_at [] n within = absurd (omega (arith, within))
+number_at (first ∷ numbers) zero within = refl
+number_at (first ∷ numbers) (suc n) within = number_at numbers n (omega (arith, within))
 
 -- a later item has more of them before it
 pub shared_before : (list : List Made) (i j : ℕ) (x : Item) → i < j → slice_get list i ≡ Some (Shared x) → length (shared_in (take i list)) < length (shared_in (take j list))

@@ -6,6 +6,7 @@ pub mod limits;
 pub mod locks;
 pub mod numbers;
 pub mod objects;
+pub mod order;
 pub mod ranges;
 pub mod returns;
 pub mod runs;

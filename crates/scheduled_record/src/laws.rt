@@ -104,15 +104,15 @@ pub fn the_journals_of_a_scheduled_run_keep_the_edge_law()
     kept::who_acquires_knows_what_was_released();
 }
 
-/// Each entry of a journal of a run by schedule stands in one list, that of its caller, in the order of the journal. All entries stand in one
-/// order, by their numbers.
+/// Each entry of a journal of a run by schedule stands in one list, that of its caller, in the order of the journal. All that was made stands
+/// in one order, by numbers: the calls on maps and atomics too.
 pub fn each_entry_of_a_scheduled_run_stands_in_one_list()
     ensures once { (plan : Plan) (worker object : ℕ) → is_valid plan ≡ true → entries_in object (list_of (scheduled_record plan) worker) ≡ by worker (journal_of (scheduled_record plan) object) }
     ensures ordered { (plan : Plan) → is_valid plan ≡ true → InOneOrder (scheduled_record plan) }
 {
     the_acts_of_a_run_are_the_workloads();
     kept::each_entry_stands_in_one_list();
-    kept::all_entries_stand_in_one_order();
+    kept::all_that_was_made_stands_in_one_order();
 }
 
 /// Each call on a map or an atomic in a run by schedule stands at a place of the history, behind all that its worker knew, and is an entry there

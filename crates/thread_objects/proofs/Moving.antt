@@ -34,16 +34,19 @@ entries_append object [] ys = refl
 entries_append object (Shared x ∷ xs) ys = entries_append object xs ys
 entries_append object (Entered other entry ∷ xs) ys = entries_joined (other == object) entry (entries_in object xs) (entries_in object ys) (entries_in object (xs ++ ys)) (entries_append object xs ys)
 
-rises_from : (low from to : Front) (xs : List Made) → NoLess from low → Rises from xs to → Rises low xs to
-rises_from low from to [] least rises = (least_over low.counts from.counts to.counts least.0 rises.0, omega (arith, least.1, rises.1))
-rises_from low from to (Shared x ∷ xs) least rises =
-    (least_over low.counts from.counts x.front least.0 rises.0, rises_from (record { counts = x.front; time = low.time }) (record { counts = x.front; time = from.time }) to xs (λ i. omega arith, least.1) rises.1)
-rises_from low from to (Entered object entry ∷ xs) least rises = ((least_over low.counts from.counts entry.front least.0 rises.0.0, omega (arith, least.1, rises.0.1)), rises.1)
+rises_from : (low from to : Front) (xs : List Made) (times : List ℕ) → NoLess from low → Rises from xs times to → Rises low xs times to
+rises_from low from to [] [] least rises = (least_over low.counts from.counts to.counts least.0 rises.0, omega (arith, least.1, rises.1))
+rises_from low from to [] (time ∷ times) least rises = absurd rises
+rises_from low from to (Shared x ∷ xs) [] least rises = absurd rises
+rises_from low from to (Shared x ∷ xs) (time ∷ times) least rises = ((least_over low.counts from.counts x.front least.0 rises.0.0, omega (arith, least.1, rises.0.1)), rises.1)
+rises_from low from to (Entered object entry ∷ xs) times least rises = ((least_over low.counts from.counts entry.front least.0 rises.0.0, omega (arith, least.1, rises.0.1)), rises.1)
 
-rises_append : (from between to : Front) (xs ys : List Made) → Rises from xs between → Rises between ys to → Rises from (xs ++ ys) to
-rises_append from between to [] ys first later = rises_from from between to ys first later
-rises_append from between to (Shared x ∷ xs) ys first later = (first.0, rises_append (record { counts = x.front; time = from.time }) between to xs ys first.1 later)
-rises_append from between to (Entered object entry ∷ xs) ys first later = (first.0, rises_append (front_at entry) between to xs ys first.1 later)
+rises_append : (from between to : Front) (xs : List Made) (times : List ℕ) (ys : List Made) (more : List ℕ) → Rises from xs times between → Rises between ys more to → Rises from (xs ++ ys) (times ++ more) to
+rises_append from between to [] [] ys more first later = rises_from from between to ys more first later
+rises_append from between to [] (time ∷ times) ys more first later = absurd first
+rises_append from between to (Shared x ∷ xs) [] ys more first later = absurd first
+rises_append from between to (Shared x ∷ xs) (time ∷ times) ys more first later = (first.0, rises_append (record { counts = x.front; time = time }) between to xs times ys more first.1 later)
+rises_append from between to (Entered object entry ∷ xs) times ys more first later = (first.0, rises_append (front_at entry) between to xs times ys more first.1 later)
 
 counts_append : (worker before : ℕ) (xs ys : List Made) → CountsOwn worker before xs → CountsOwn worker (before + length (shared_in xs)) ys → CountsOwn worker before (xs ++ ys)
 counts_append worker before [] ys first later = subst (λ (n : ℕ). CountsOwn worker n ys) (omega arith) later
@@ -53,7 +56,7 @@ counts_append worker before (Entered object entry ∷ xs) ys first later = (firs
 
 -- nothing is made
 pub stays : (desk : Desk) → Moves desk [] desk
-stays desk = record { worker = refl; owns = λ object. sym (append-nil (desk.owns object)); calls = sym (append-nil desk.calls); fronts = (λ i. omega arith, omega arith); counts = λ worker is. tt }
+stays desk = record { worker = refl; owns = λ object. sym (append-nil (desk.owns object)); calls = sym (append-nil desk.calls); numbers = []; times = sym (append-nil desk.times); fronts = (λ i. omega arith, omega arith); counts = λ worker is. tt }
 
 -- these items, and then those
 pub joined : (old between new : Desk) (xs ys : List Made) → Moves old xs between → Moves between ys new → Moves old (xs ++ ys) new
@@ -61,6 +64,8 @@ joined old between new xs ys a b = record {
   worker = b.worker ∙ a.worker;
   owns = λ object. b.owns object ∙ ap (λ (l : List ObjectEntry). l ++ entries_in object ys) (a.owns object) ∙ append_assoc (old.owns object) (entries_in object xs) (entries_in object ys) ∙ ap (λ (l : List ObjectEntry). old.owns object ++ l) (sym (entries_append object xs ys));
   calls = b.calls ∙ ap (λ (l : List Item). l ++ shared_in ys) a.calls ∙ append_assoc old.calls (shared_in xs) (shared_in ys) ∙ ap (λ (l : List Item). old.calls ++ l) (sym (shared_append xs ys));
-  fronts = rises_append old.front between.front new.front xs ys a.fronts b.fronts;
+  numbers = a.numbers ++ b.numbers;
+  times = b.times ∙ ap (λ (l : List ℕ). l ++ b.numbers) a.times ∙ append_assoc old.times a.numbers b.numbers;
+  fronts = rises_append old.front between.front new.front xs a.numbers ys b.numbers a.fronts b.fronts;
   counts = λ worker is. counts_append worker (length old.calls) xs ys (a.counts worker is) (subst (λ (n : ℕ). CountsOwn worker n ys) (ap (λ (l : List Item). length l) a.calls ∙ length-append old.calls (shared_in xs)) (b.counts worker (a.worker ∙ is)));
 }

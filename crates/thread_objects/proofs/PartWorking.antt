@@ -7,7 +7,7 @@ use Rattle.sync_model.specs.declared.journal.Entry.{Entry}
 use Rattle.sync_model.specs.Front.{Front, AtLeast}
 use Rattle.sync_model.specs.Journal.{Rising, front_at}
 use Rattle.sync_model.specs.Note.{Holding, IsCounted}
-use Rattle.sync_model.specs.Shared.{items_of}
+use Rattle.sync_model.specs.Shared.{items_of, times_by}
 use Rattle.ruled_object.specs.declared.pass.Pass.{Pass}
 use Rattle.ruled_object.specs.Growth.{Placed, entries_of, deeds_of, KeepsNote}
 use Rattle.protocols.specs.declared.step.Step.{Step}
@@ -32,7 +32,7 @@ module _ {E R : Type 0} (event : E → ObjectEvent) (reply : R → ObjectReply) 
   abbrev items_as : List (Entry E R) → List Made
   items_as es = map (λ entry. Entered number (lifted event reply entry)) es
 
-  rises_as : (from to : Front) (es : List (Entry E R)) → Rising from es to → Rises from (items_as es) to
+  rises_as : (from to : Front) (es : List (Entry E R)) → Rising from es to → Rises from (items_as es) [] to
   rises_as from to [] rises = rises
   rises_as from to (e ∷ es) rises = (rises.0, rises_as (front_at e) to es rises.1)
 
@@ -87,6 +87,8 @@ module _ {S N H E R G O : Type 0} (next : S → ℕ → E → S × R) (halts : B
           worker = ap number_in keeps.kept;
           owns = λ object. alone_grows event reply number (own_as event reply old) (own_as event reply new) es grown object (number == object) refl;
           calls = ap items_of keeps.kept ∙ sym (ap (λ (xs : List Item). items_of (owner was) ++ xs) (none_shared event reply number es) ∙ append-nil (items_of (owner was)));
+          numbers = [];
+          times = ap times_by keeps.kept ∙ sym (append-nil (times_by (owner was)));
           fronts = rises_as event reply number (front was) (front note) es did.grows.fronts;
           counts = λ worker is. counts_as event reply number worker _ (front was) (front note) es did.grows.fronts (counts (owner was) (front was).counts worker (counted home was here) is) (counts (owner was) (front note).counts worker later is);
         };

@@ -15,7 +15,7 @@ use Rattle.sync_model.specs.declared.item.SharedReply.TheVariants as answers
 use Rattle.sync_model.specs.declared.item.SharedEntry.{SharedEntry}
 use Rattle.sync_model.specs.Front.{Front, AtLeast}
 use Rattle.sync_model.specs.Note.{Holding, IsCounted}
-use Rattle.sync_model.specs.Shared.{Called, items_of, state_of}
+use Rattle.sync_model.specs.Shared.{Called, items_of, times_by, state_of}
 use Rattle.sync_model.specs.SharedHistory.{Contents}
 use Rattle.protocols.specs.Spelling.{CallAnswer}
 use Rattle.run_record.specs.AtomicKind.{adds}
@@ -42,7 +42,9 @@ module _ {O N : Type 0} (start : Contents) (call : SharedCall) (reply : SharedRe
       worker = ap number_in called.own_new ∙ ap (λ (n : ℕ). Some n) called.number ∙ sym (ap number_in called.own_old);
       owns = λ object. sym (append-nil (owns object));
       calls = ap items_of called.own_new ∙ called.items ∙ ap (λ (l : List Item). l ++ called.item ∷ []) (sym (ap items_of called.own_old));
-      fronts = (subst (λ (f : List ℕ). AtLeast f (front old).counts) (sym called.is_front) (λ i. omega arith), (subst (λ (f : List ℕ). AtLeast (front new).counts f) (sym called.is_front) called.rises, omega (arith, called.time)));
+      numbers = called.time ∷ [];
+      times = ap times_by called.own_new ∙ called.times ∙ ap (λ (l : List ℕ). l ++ called.time ∷ []) (sym (ap times_by called.own_old));
+      fronts = ((subst (λ (f : List ℕ). AtLeast f (front old).counts) (sym called.is_front) (λ i. omega arith), called.past), (subst (λ (f : List ℕ). AtLeast (front new).counts f) (sym called.is_front) called.rises, called.reached));
       counts = λ worker is. (ap (λ (f : List ℕ). slice_index f worker) called.is_front ∙ counted_of (owner old) (front old).counts counted worker is, tt);
     };
     spelt = spelt (Shared called.item ∷ []) (called.item ∷ [], refl, same_calls called.item.call call called.item.reply reply called.is_call called.is_reply);

@@ -16,7 +16,7 @@ use Rattle.sync_model.specs.declared.item.SharedEntry.{SharedEntry}
 use Rattle.sync_model.specs.Front.{Front}
 use Rattle.sync_model.specs.Journal.{by}
 use Rattle.sync_model.specs.Note.{Holding}
-use Rattle.sync_model.specs.Shared.{AreAllCallers, IsHeldBy, SameCalls, Settled, calls_of, items_of}
+use Rattle.sync_model.specs.Shared.{AreAllCallers, IsHeldBy, SameCalls, Settled, calls_of, times_of, items_of, times_by}
 use Rattle.workload.specs.Keys.{keys_in}
 use Rattle.workload.specs.Plan.{Plan}
 use Rattle.run_record.specs.Limits.{IsCallOf, HasShown}
@@ -49,11 +49,22 @@ module _ {N : Type 0} (own : N → Option Holding) where
   calls_past (x ∷ callers) zero past = absurd (omega (arith, past))
   calls_past (x ∷ callers) (suc c) past = calls_past callers c (omega (arith, past))
 
+  -- and their numbers
+  times_at : (callers : List (Caller N)) (c : ℕ) (caller : Caller N) → slice_get callers c ≡ Some caller → times_of own callers c ≡ times_by (own caller.note)
+  times_at [] c caller at = absurd (none-some caller at)
+  times_at (x ∷ callers) zero caller at = ap (λ (k : Caller N). times_by (own k.note)) (same_Some x caller at)
+  times_at (x ∷ callers) (suc c) caller at = times_at callers c caller at
+
+  times_past : (callers : List (Caller N)) (c : ℕ) → length callers ≤ c → times_of own callers c ≡ []
+  times_past [] c past = refl
+  times_past (x ∷ callers) zero past = absurd (omega (arith, past))
+  times_past (x ∷ callers) (suc c) past = times_past callers c (omega (arith, past))
+
 module _ {N : Type 0} (own : N → Option Holding) (front : N → Front) where
   -- what the worker has done whose caller this is, and whose passes these are
   abbrev pub desk_of : Option (Caller N) → List (AnyPass N) → Desk
   desk_of (Some caller) row = desk_with own front (owns_of row) caller.note
-  desk_of None row = record { owns = λ object. []; calls = []; front = record { counts = []; time = 0 }; worker = None }
+  desk_of None row = record { owns = λ object. []; calls = []; times = []; front = record { counts = []; time = 0 }; worker = None }
 
 pub held_number : (own : Option Holding) (c : ℕ) → IsHeldBy c own → number_in own ≡ Some c
 held_number own c (holding, is, number) = ap number_in is ∙ ap (λ n. Some n) number
@@ -134,6 +145,14 @@ module _ {N H : Type 0} (at : H → N → Type 0) (own : N → Option Holding) (
       ∙ sym (ap (λ (h : Option Holding). items_of h) (same.same worker now.0 last.0 now.1 last.1))
       ∙ sym (calls_at own settled_callers worker last.0 last.1)
 
+  numbered : (worker : ℕ) → worker < plan.workers → (desk worker).times ≡ times_of own settled_callers worker
+  numbered worker within =
+      let now = caller_of now_callers worker (omega (arith, within, gone.callers_count)) in
+      let last = caller_of settled_callers worker (omega (arith, within, gone.callers_count, same.count)) in
+      ap (λ (o : Option (Caller N)). (desk_of own front o (get_or now_rows worker [])).times) now.1
+      ∙ sym (ap (λ (h : Option Holding). times_by h) (same.same worker now.0 last.0 now.1 last.1))
+      ∙ sym (times_at own settled_callers worker last.0 last.1)
+
   did : (worker : ℕ) → worker < plan.workers → (line : Line) × Did worker line
   did worker within =
       let was = caller_of callers worker (omega (arith, within, callers_are.all)) in
@@ -167,7 +186,7 @@ module _ {N H : Type 0} (at : H → N → Type 0) (own : N → Option Holding) (
       let rises = (same.rises worker now.0 last.0 now.1 last.1).0 other in
       subst (λ (o : Option (Caller N)). slice_index (desk_of own front o (get_or now_rows worker [])).front.counts other ≤ length (calls_of own settled_callers other)) (sym now.1) (omega (arith, most, rises))
 
-  pub all_done : AllDone plan settled.history journals (calls_of own settled_callers) replies start desk all_lines.0
+  pub all_done : AllDone plan settled.history journals (calls_of own settled_callers) settled.entry_times (times_of own settled_callers) replies start desk all_lines.0
   all_done = record {
     did = λ worker line found. subst (λ n. Did n line) (omega arith) (all_lines.2 worker line found);
     fresh = λ worker within. fresh worker (omega (arith, within, all_lines.1));
@@ -178,7 +197,10 @@ module _ {N H : Type 0} (at : H → N → Type 0) (own : N → Option Holding) (
     beyond = λ worker object past. beyond object worker (omega (arith, past, all_lines.1));
     called = λ worker within. called worker (omega (arith, within, all_lines.1));
     uncalled = λ worker past. calls_past own settled_callers worker (omega (arith, past, all_lines.1, gone.callers_count, same.count));
+    numbered = λ worker within. numbered worker (omega (arith, within, all_lines.1));
+    unnumbered = λ worker past. times_past own settled_callers worker (omega (arith, past, all_lines.1, gone.callers_count, same.count));
     lawful = settled.lawful;
+    order = settled.order;
     known = λ worker other within. known worker other (omega (arith, within, all_lines.1));
   } where
     owned : (worker object : ℕ) → worker < plan.workers → (desk worker).owns object ≡ by worker (get_or journals object [])

@@ -21,28 +21,28 @@ abbrev pub StopSays : Type 0
 StopSays = (plan : Plan) (r : Record) (outcome : Outcome) (lines : List Line) → AreLines plan r outcome lines → IsRecordOf plan r → All (λ line. HasEnded line.ending) lines
     → ((worker : ℕ) (line : Line) → slice_get lines worker ≡ Some line → HaltsStop line) → halt_of (journal_of r stop) ≡ None → All (λ line. IsAtEnd line.ending) lines
 
-module _ (plan : Plan) (history : List SharedEntry) (journals : List (List ObjectEntry)) (calls : ℕ → List Item) (replies : List (List (Reply ℕ))) (start desk : ℕ → Desk) (lines : List Line) (all : AllDone plan history journals calls replies start desk lines) (knowing : Knowing) (same : SameLists) where
+module _ (plan : Plan) (history : List SharedEntry) (journals : List (List ObjectEntry)) (calls : ℕ → List Item) (entry_times : List ℕ) (times : ℕ → List ℕ) (replies : List (List (Reply ℕ))) (start desk : ℕ → Desk) (lines : List Line) (all : AllDone plan history journals calls entry_times times replies start desk lines) (knowing : Knowing) (same : SameLists) where
   abbrev it : Record
-  it = joined plan history journals calls replies start desk lines all knowing
+  it = joined plan history journals calls entry_times times replies start desk lines all knowing
 
   -- a run in which nobody halted Stop is done
   pub done : StopSays → halt_of (get_or journals stop []) ≡ None → (left : Report) → left.replies ≡ replies → IsExplained plan (Done left) history calls
   done says none left is =
       let outcome : Outcome = Done (record left { ends = ends_after plan history }) in
-      let lawful = is_record plan history journals calls replies start desk lines all knowing same in
-      let are = are_lines plan history journals calls replies start desk lines all knowing outcome is in
+      let lawful = is_record plan history journals calls entry_times times replies start desk lines all knowing same in
+      let are = are_lines plan history journals calls entry_times times replies start desk lines all knowing outcome is in
       record {
         run = it;
         history_is = refl;
-        calls_are = joined_calls plan history journals calls replies start desk lines all knowing;
+        calls_are = joined_calls plan history journals calls entry_times times replies start desk lines all knowing;
         explains = record {
           lines = lines;
           are = are;
           lawful = lawful;
-          agrees = (says plan it outcome lines are lawful (have_ended plan history journals calls replies start desk lines all knowing) (halt_stop plan history journals calls replies start desk lines all knowing) none, refl);
+          agrees = (says plan it outcome lines are lawful (have_ended plan history journals calls entry_times times replies start desk lines all knowing) (halt_stop plan history journals calls entry_times times replies start desk lines all knowing) none, refl);
         };
-        halts = halt_each plan history journals calls replies start desk lines all knowing;
-        order = in_one_order plan history journals calls replies start desk lines all knowing;
+        halts = halt_each plan history journals calls entry_times times replies start desk lines all knowing;
+        order = in_one_order plan history journals calls entry_times times replies start desk lines all knowing;
       }
 
   -- and the first halt of Stop is the misuse that another one comes to
@@ -52,13 +52,13 @@ module _ (plan : Plan) (history : List SharedEntry) (journals : List (List Objec
       record {
         run = it;
         history_is = refl;
-        calls_are = joined_calls plan history journals calls replies start desk lines all knowing;
+        calls_are = joined_calls plan history journals calls entry_times times replies start desk lines all knowing;
         explains = record {
           lines = lines;
-          are = are_lines plan history journals calls replies start desk lines all knowing outcome is;
-          lawful = is_record plan history journals calls replies start desk lines all knowing same;
-          agrees = (have_ended plan history journals calls replies start desk lines all knowing, ends, first);
+          are = are_lines plan history journals calls entry_times times replies start desk lines all knowing outcome is;
+          lawful = is_record plan history journals calls entry_times times replies start desk lines all knowing same;
+          agrees = (have_ended plan history journals calls entry_times times replies start desk lines all knowing, ends, first);
         };
-        halts = halt_each plan history journals calls replies start desk lines all knowing;
-        order = in_one_order plan history journals calls replies start desk lines all knowing;
+        halts = halt_each plan history journals calls entry_times times replies start desk lines all knowing;
+        order = in_one_order plan history journals calls entry_times times replies start desk lines all knowing;
       }

@@ -7,7 +7,7 @@ use Rattle.std.proofs.lemmas.Option.{slice_get_within, get_or_from_slice_get}
 use Rattle.sync_model.specs.declared.answer.Answer.TheVariants.{Done}
 use Rattle.sync_model.specs.Front.{Front, NoLess, Later}
 use Rattle.sync_model.specs.Note.{Holding, IsCounted}
-use Rattle.sync_model.specs.Shared.{items_of}
+use Rattle.sync_model.specs.Shared.{items_of, times_by}
 use Rattle.sync_types.specs.declared.misuse.Misuse.{Misuse}
 use Rattle.workload.specs.declared.object.ObjectKind.{ObjectKind}
 use Rattle.workload.specs.declared.object.ObjectKind.TheVariants as kinds
@@ -150,6 +150,8 @@ module _ {K : Type 0} (owner : K → Option Holding) (front : K → Front) (was 
       worker = ap number_in kept;
       owns = λ object. one_more halts (number == object);
       calls = ap items_of kept ∙ sym (append-nil (items_of (owner was)));
+      numbers = [];
+      times = ap times_by kept ∙ sym (append-nil (times_by (owner was)));
       fronts = (subst (λ (f : Front). Later f (front was)) (sym halts.known) halts.later, subst (λ (f : Front). NoLess (front note) f) (sym halts.known) (λ i. omega arith, omega arith));
       counts = λ worker is. (ap (λ (f : Front). slice_index f.counts worker) halts.known ∙ ap (λ (l : List ℕ). slice_index l worker) halts.same ∙ counts (owner was) (front was).counts worker counted is, tt);
     };
@@ -157,7 +159,7 @@ module _ {K : Type 0} (owner : K → Option Holding) (front : K → Front) (was 
   }
 
   abbrev desk_from : Option Holding → Front → List ObjectEntry → Desk
-  desk_from own knows entries = record { owns = alone number entries; calls = items_of own; front = knows; worker = number_in own }
+  desk_from own knows entries = record { owns = alone number entries; calls = items_of own; times = times_by own; front = knows; worker = number_in own }
 
   leaves_it : Stays → new ≡ old → front note ≡ front was → Works (halting misuse []) start (Done (Ok tt)) desk
   leaves_it stays same knows =

@@ -62,7 +62,7 @@ module _ {N O : Type 0} (part : Part O) (owner : N → Option Holding) (front : 
       → Works part (desk_at owner front number was old) answer (desk_at owner front number is new) → Works part (desk_with owner front owns old) answer (desk_with owner front others new)
   among before after same works = record {
     items = works.items;
-    moves = record { worker = works.moves.worker; owns = λ object. grows object (number == object) refl; calls = works.moves.calls; fronts = works.moves.fronts; counts = works.moves.counts };
+    moves = record { worker = works.moves.worker; owns = λ object. grows object (number == object) refl; calls = works.moves.calls; numbers = works.moves.numbers; times = works.moves.times; fronts = works.moves.fronts; counts = works.moves.counts };
     spelt = works.spelt;
   } where
     grows : (object : ℕ) (here : Bool) → (number == object) ≡ here → others object ≡ owns object ++ entries_in object works.items

@@ -29,7 +29,7 @@ with_ends ends (Deadlocked left) = Deadlocked left
 abbrev pub ends_after : Plan → List SharedEntry → List End
 ends_after plan history = ends_in plan (contents_after (contents_of plan) history)
 
--- A record explains the outcome, once the ends are filled in. Its history is this one, and its workers' calls on maps and atomics are these. A worker that met a misuse has halted Stop and then each object in order. All events stand in one order.
+-- A record explains the outcome, once the ends are filled in. Its history is this one, and its workers' calls on maps and atomics are these. A worker that met a misuse has halted Stop and then each object in order. All its items stand in one order.
 pub record IsExplained (plan : Plan) (outcome : Outcome) (history : List SharedEntry) (calls : ℕ → List Item) : Type 0 where
   pub run : Record
   pub history_is : run.history ≡ history

@@ -19,6 +19,7 @@ use crate::hire::hire;
 use crate::site::{Site, numbers_of};
 use run_record::laws::endings::stop_says_how_a_run_ended;
 use run_record::laws::limits::{a_range_shows_no_key_but_the_workloads, an_int64_answers_an_int64};
+use run_record::laws::order::numbers_that_rise_item_by_item_rise;
 use script_calls::{Outcome, Report};
 use std::alloc::Global;
 use std::sync::Wait;
@@ -54,6 +55,7 @@ fn outcome_of<S: Shared>(
     a_range_shows_no_key_but_the_workloads();
     an_int64_answers_an_int64();
     a_worker_knows_its_own_calls();
+    numbers_that_rise_item_by_item_rise();
     one_more_call_keeps_the_law();
     stop_says_how_a_run_ended();
     let _workers = workload.workers();

@@ -61,7 +61,7 @@ where
 /// hash tries and its atomics words, in one table: loads, walks over a map and calls on atomics wait for nobody. Each call
 /// passes the gate before and after. All memory is taken before the first start.
 ///
-/// The outcome is explained by one record, whose events stand in one order. A run that is misused tells the first misuse; none
+/// The outcome is explained by one record, whose items stand in one order. A run that is misused tells the first misuse; none
 /// is told to be deadlocked.
 ///
 /// # Errors

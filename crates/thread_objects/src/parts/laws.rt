@@ -9,8 +9,9 @@ ghost use Rattle.sync_model.specs.Note.{Holding, SameHome};
 ghost use Rattle.sync_model.specs.Shared.{IsAtomicCall, items_of};
 ghost use Rattle.workload.specs.declared.object.ObjectKind.TheVariants.{Atomic};
 ghost use Rattle.workload.specs.Plan.{Plan};
+ghost use Rattle.run_record.specs.InOneOrder.{NumbersRise};
 ghost use Rattle.run_record.specs.Limits.{IsCallOf};
-ghost use Rattle.run_record.specs.Record.{ObjectEntry, shared_in, front_of};
+ghost use Rattle.run_record.specs.Record.{shared_in, front_of};
 ghost use Rattle.thread_objects.specs.Calling.{HasCalled};
 ghost use Rattle.thread_objects.specs.Catalog.{HasAtomics, IsAt};
 ghost use Rattle.thread_objects.specs.GivenUp.{MakesOnly};
@@ -30,7 +31,7 @@ pub fn moves()
 {}
 
 /// A worker knows all its own earlier calls on maps and atomics, forgets nothing from one item to the next, and knows at the end
-/// what it knew at each of them. Of two entries that it made, on whichever objects, the later one has the higher number.
+/// what it knew at each of them. The numbers of what it made rise from each item to the next, on whichever objects.
 pub fn a_worker_knows_its_own_calls()
     ensures own { (old new : Desk) (items : List Made) (worker i : ℕ) (made : Made)
         → Moves old items new → old.worker ≡ Some worker → slice_get items i ≡ Some made → slice_index (front_of made) worker ≡ length old.calls + length (shared_in (take i items)) }
@@ -38,8 +39,7 @@ pub fn a_worker_knows_its_own_calls()
         → Moves old items new → i < j → slice_get items i ≡ Some earlier → slice_get items j ≡ Some later → AtLeast (front_of later) (front_of earlier) }
     ensures ends { (old new : Desk) (items : List Made) (i : ℕ) (made : Made)
         → Moves old items new → slice_get items i ≡ Some made → AtLeast new.front.counts (front_of made) }
-    ensures times { (old new : Desk) (items : List Made) (i j object other : ℕ) (earlier later : ObjectEntry)
-        → Moves old items new → i < j → slice_get items i ≡ Some (Made.Entered object earlier) → slice_get items j ≡ Some (Made.Entered other later) → earlier.time < later.time }
+    ensures times { (old new : Desk) (items : List Made) → (moves : Moves old items new) → NumbersRise 0 items moves.numbers }
 {}
 
 /// A note that counts all its holder's calls on maps and atomics has their number as its holder's own.

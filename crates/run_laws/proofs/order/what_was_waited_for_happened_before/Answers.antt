@@ -1,5 +1,6 @@
 use Rattle.std.proofs.Common.{subst, arith}
 use Rattle.workload.specs.declared.object.ObjectKind.{ObjectKind}
+use Rattle.run_record.specs.declared.made.Made.TheVariants.{Entered}
 use Rattle.run_record.specs.Calls.{IsJournalOf}
 use Rattle.run_record.specs.Record.{object_number, journal_of}
 use Rattle.run_laws.proofs.DoneBefore.{done_before}
@@ -22,8 +23,9 @@ returns-clause-notified c r object taken left ticket leaving notified order at_t
 pub returns-clause-behind : goal.returns-clause-behind
 returns-clause-behind c r object other worker m n i j before behind later order before_it at_before at_behind on in_list at_later =
     let first = order.journals object m n before behind before_it at_before at_behind in
-    let rest = order.lists worker i j object other behind later on in_list at_later in
+    let rest = order.lists worker i j (Entered object behind) (Entered other later) on in_list at_later in
     (first, omega (arith, first, rest))
 
 pub returns-clause-chain : goal.returns-clause-chain
-returns-clause-chain c r order e f between leads = leads_on r order e between f leads
+returns-clause-chain c plan r lawful order e f between leads =
+    leads_on r order c.calls_have_their_numbers_among_the_entries.ensures c.calls_are_items_of_lists.ensures.at plan lawful e between f leads

@@ -66,7 +66,7 @@ returns g c =
     (λ caller shown all has. few plan settled.history (calls_of mark.own new) caller shown settled.lawful all has)
     (λ caller i a amount x all at is. int64 plan settled.history (calls_of mark.own new) caller i a amount x settled.lawful all at is) in
     let all = all_done mark.at mark.own mark.front g.S.Shared.seen home plan c.args.objects.now of.0 rows of.1 now new replies of.2 of.3 of.4 of.5 same settled (one_script_each plan c.workers-workers.ensures.valid) never told.0 told.1 parts beyond in
-    let knowing : Knowing = record { own = c.a_worker_knows_its_own_calls.ensures.own; rises = c.a_worker_knows_its_own_calls.ensures.rises; ends = c.a_worker_knows_its_own_calls.ensures.ends; times = c.a_worker_knows_its_own_calls.ensures.times } in
+    let knowing : Knowing = record { own = c.a_worker_knows_its_own_calls.ensures.own; rises = c.a_worker_knows_its_own_calls.ensures.rises; ends = c.a_worker_knows_its_own_calls.ensures.ends; times = c.a_worker_knows_its_own_calls.ensures.times; rise = c.numbers_that_rise_item_by_item_rise.ensures } in
     let law = c.one_more_call_keeps_the_law.ensures.same in
     let report : Report = record { replies = c.into_seq.result; ends = c.new.result } in
     let Leaves : Outcome → List (Caller g.row.S-Mark.Denot) → Type 0 = λ outcome list. HasRun mark.at mark.own mark.front g.S.Shared.seen home plan outcome list in
@@ -78,7 +78,7 @@ returns g c =
     λ outcome is it. subst (λ (l : List (Caller g.row.S-Mark.Denot)). Leaves c.match-stopped.outcome l) (sym list) (subst (λ (o : Outcome). Leaves o new) (sym is) it) in
     record {
       comes = elim c.match-stopped.branch [
-        | in-None w ↦ leaves_it (Done report) w.outcome-is (leaves (Done report) (done _ _ _ _ _ _ _ _ all knowing law c.stop_says_how_a_run_ended.ensures.done (sym told.2 ∙ w.in-None.is) report c.into_seq.ensures) c.new.ensures)
-        | in-Some w ↦ leaves_it (Misused report w.in-Some.misuse) w.outcome-is (leaves (Misused report w.in-Some.misuse) (stopped _ _ _ _ _ _ _ _ all knowing law w.in-Some.misuse (sym told.2 ∙ w.in-Some.is) report c.into_seq.ensures c.new.ensures) c.new.ensures)
+        | in-None w ↦ leaves_it (Done report) w.outcome-is (leaves (Done report) (done _ _ _ _ _ _ _ _ _ _ all knowing law c.stop_says_how_a_run_ended.ensures.done (sym told.2 ∙ w.in-None.is) report c.into_seq.ensures) c.new.ensures)
+        | in-Some w ↦ leaves_it (Misused report w.in-Some.misuse) w.outcome-is (leaves (Misused report w.in-Some.misuse) (stopped _ _ _ _ _ _ _ _ _ _ all knowing law w.in-Some.misuse (sym told.2 ∙ w.in-Some.is) report c.into_seq.ensures c.new.ensures) c.new.ensures)
       ];
     }
