@@ -8,7 +8,7 @@ use Rattle.record_text.specs.declared.fault.CheckReason.{CheckReason}
 use Rattle.record_text.specs.declared.limits.TheConstants.{MAX_RECORD}
 use Rattle.record_text.specs.Refused.{IsRecordRefused}
 use Rattle.record_text.specs.Told.{IsTold, Told}
-use Rattle.run_check.specs.Completeness.{ComeTo}
+use Rattle.run_check.specs.Completeness.{HasVerdict}
 use Rattle.run_check.specs.Tells.{ComesTo}
 use Rattle.gosync_call.specs.Checks.{IsJudged, IsNoRecord, JudgesTo}
 use Rattle.gosync_call.specs.Front.{IsLeftOfAllBytes, IsOfAllBytes}
@@ -24,7 +24,7 @@ use Rattle.gosync_call.proofs.Reading.{fits_whole}
 use Rattle.gosync_call.proofs.Runs.{told_so}
 
 -- the text of a record was taken whole
-pub whole_judged : (told : Option (List ℕ)) (bytes : List ℕ) (verdict : Verdict) → IsInputTo MAX_RECORD told bytes → ComeTo bytes verdict → IsJudged told verdict
+pub whole_judged : (told : Option (List ℕ)) (bytes : List ℕ) (verdict : Verdict) → IsInputTo MAX_RECORD told bytes → HasVerdict bytes verdict → IsJudged told verdict
 whole_judged None bytes verdict h judged = (bytes, tt, judged)
 whole_judged (Some held) bytes verdict h judged =
     (held, refl, (judged.0, subst (λ (b : List ℕ). IsTold b judged.0) (fits_whole MAX_RECORD held bytes h judged.1.fits) judged.1, judged.2, judged.3))
@@ -131,8 +131,8 @@ judged_so bytes text verdict one tells judged =
     subst (λ (t : Told). ComesTo t verdict) (one bytes found.0 text (subst (λ (b : List ℕ). IsTold b found.0) judged.1 found.1) tells) found.3
 
 -- the bytes that are told come to the verdict
-pub come_so : (bytes : List ℕ) (verdict : Verdict) → IsJudged (Some bytes) verdict → ComeTo bytes verdict
-come_so bytes verdict judged = subst (λ (b : List ℕ). ComeTo b verdict) judged.1 judged.2
+pub come_so : (bytes : List ℕ) (verdict : Verdict) → IsJudged (Some bytes) verdict → HasVerdict bytes verdict
+come_so bytes verdict judged = subst (λ (b : List ℕ). HasVerdict b verdict) judged.1 judged.2
 
 -- what is left of a front that ended
 pub left_judged : (Whole : Type 0) (status other : Status) → fronts.Ended status ≡ fronts.Ended other → (IsOfAllBytes other → Whole) → IsOfAllBytes status → Whole

@@ -7,7 +7,7 @@ use Rattle.record_clauses.specs.declared.clause.Verdict.{Verdict}
 use Rattle.record_clauses.specs.declared.clause.Verdict.TheVariants.{Yes, No}
 use Rattle.record_text.specs.Refused.{IsRecordRefused}
 use Rattle.record_text.specs.Told.{IsTold, Told}
-use Rattle.run_check.specs.Completeness.{ComeTo}
+use Rattle.run_check.specs.Completeness.{HasVerdict}
 use Rattle.gosync_call.specs.Input.{AreBytesOf}
 use Rattle.gosync_call.specs.declared.status.Fault.TheVariants as faults
 use Rattle.gosync_call.specs.declared.status.Status.{Status}
@@ -34,7 +34,7 @@ verdict_line (No clause) = codes "no " ++ clause_word clause ++ codes "\n"
 
 -- all bytes of the file, where they are told, are the text of a record, and it comes to this verdict
 abbrev pub IsJudged : Option (List ℕ) → Verdict → Type 0
-IsJudged told verdict = (bytes : List ℕ) × AreBytesOf told bytes × ComeTo bytes verdict
+IsJudged told verdict = (bytes : List ℕ) × AreBytesOf told bytes × HasVerdict bytes verdict
 
 -- why no record is read from a file: its text is none of a record, it can't be read, or memory is out
 abbrev pub IsNoRecord : Option (List ℕ) → Unread → Type 0

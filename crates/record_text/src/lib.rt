@@ -5,6 +5,7 @@
 pub mod answer;
 pub mod answer_reading;
 pub mod cut;
+pub mod deed_words;
 pub mod directory;
 pub mod event;
 pub mod event_reading;
@@ -18,7 +19,6 @@ pub mod laws;
 pub mod limits;
 pub mod line_reading;
 pub mod line_writing;
-pub mod made_words;
 pub mod number;
 pub mod number_writing;
 pub mod pair;

@@ -3,9 +3,9 @@ ghost use Rattle.std.specs.Prelude.{◌≡◌, IfOk};
 ghost use Rattle.record_text.specs.Written.{entry_said, front_in, item_line, made_said, shared_said};
 
 use crate::answer::AnswerWord;
+use crate::deed_words::{answer_of, atomic_reply, event_of, map_reply};
 use crate::event::EventWord;
 use crate::item_line::{ItemLine, Said};
-use crate::made_words::{answer_of, atomic_reply, event_of, map_reply};
 use run_record::{Made, ObjectEvent, ObjectReply};
 use std::alloc::{AllocError, Global};
 use std::collections::LinkedList;

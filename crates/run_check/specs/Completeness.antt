@@ -21,12 +21,12 @@ pub record AreLinesOf (told : Told) (claim : Claim) : Type 0 where
   pub report : claim.report ≡ joined told.report
 
 -- the bytes are the text of a record, of a readable workload, and what they tell comes to this verdict
-abbrev pub ComeTo : List ℕ → Verdict → Type 0
-ComeTo bytes verdict = (told : Told) × IsTold bytes told × IsReadable told.plan × ComesTo told verdict
+abbrev pub HasVerdict : List ℕ → Verdict → Type 0
+HasVerdict bytes verdict = (told : Told) × IsTold bytes told × IsReadable told.plan × ComesTo told verdict
 
 -- the bytes are the text of a record that explains a run: they have the lines, the end and the report of some claim, and all clauses hold of the claim
-abbrev pub Explain : List ℕ → Type 0
-Explain bytes = (told : Told) × IsTold bytes told × ((claim : Claim) × AreLinesOf told claim × claims.ComesTo claim Yes)
+abbrev pub IsExplainingText : List ℕ → Type 0
+IsExplainingText bytes = (told : Told) × IsTold bytes told × ((claim : Claim) × AreLinesOf told claim × claims.ComesTo claim Yes)
 
 -- an entry of a journal without what its line leaves out: what its worker had seen of the journal, and its number among all events
 abbrev pub plain_entry : ObjectEntry → ObjectEntry

@@ -8,7 +8,7 @@ ghost use Rattle.record_text.specs.Told.{IsTold, Told};
 ghost use Rattle.record_clauses.specs.Account.{Account, Claim};
 ghost use Rattle.record_clauses.specs.Clauses.{Holds};
 ghost use Rattle.record_clauses.specs.Verdicts as claims;
-ghost use Rattle.run_check.specs.Completeness.{AreLinesOf, ComeTo, Explain, plain_record};
+ghost use Rattle.run_check.specs.Completeness.{AreLinesOf, HasVerdict, IsExplainingText, plain_record};
 ghost use Rattle.run_check.specs.Tells.{ComesTo};
 
 use crate::laws::{a_text_comes_to_one_verdict, what_a_text_tells_is_written_as_its_lines};
@@ -40,7 +40,7 @@ pub fn nothing_that_explains_is_lost()
 /// all clauses hold of the claim. Which claim that is, a line may leave open, but not whether there is one.
 pub fn a_yes_is_exactly_that_a_record_explains()
     ensures told { (bytes : List ℕ) (told : Told) → IsTold bytes told → IsReadable told.plan → (ComesTo told Verdict.Yes ↔ (claim : Claim) × AreLinesOf told claim × claims.ComesTo claim Verdict.Yes) }
-    ensures bytes { (bytes : List ℕ) (verdict : Verdict) → ComeTo bytes verdict → (verdict ≡ Verdict.Yes ↔ Explain bytes) }
+    ensures bytes { (bytes : List ℕ) (verdict : Verdict) → HasVerdict bytes verdict → (verdict ≡ Verdict.Yes ↔ IsExplainingText bytes) }
 {
     what_a_text_tells_is_written_as_its_lines();
     nothing_that_explains_is_lost();

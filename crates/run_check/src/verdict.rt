@@ -14,7 +14,7 @@ ghost use Rattle.record_text.specs.Refused.{IsCheckFault};
 ghost use Rattle.record_text.specs.Told.{IsTold};
 ghost use Rattle.record_clauses.specs.Account.{Claim};
 ghost use Rattle.record_clauses.specs.Verdicts as claims;
-ghost use Rattle.run_check.specs.Completeness.{ComeTo, Explain};
+ghost use Rattle.run_check.specs.Completeness.{HasVerdict, IsExplainingText};
 ghost use Rattle.run_check.specs.Findings.{HoldsTo, HoldsWith, IsFound};
 ghost use Rattle.run_check.specs.Lists.{AreSpeltTo};
 ghost use Rattle.run_check.specs.Tells.{ComesTo, UpTo};
@@ -65,8 +65,8 @@ struct Findings {
 ///
 /// The verdict is Yes exactly where the text has the lines of a record that explains its run, with its end and its report.
 pub fn check(alloc: Global, bytes: &[u8]) -> Result<Verdict, CheckFault>
-    ensures comes { MatchResult result (ComeTo bytes.now) (IsCheckFault bytes.now) }
-    ensures exactly { IfOk result (λ verdict. verdict ≡ Verdict.Yes ↔ Explain bytes.now) }
+    ensures comes { MatchResult result (HasVerdict bytes.now) (IsCheckFault bytes.now) }
+    ensures exactly { IfOk result (λ verdict. verdict ≡ Verdict.Yes ↔ IsExplainingText bytes.now) }
 {
     plain_texts_are_race_texts_without_variables();
     a_yes_is_exactly_that_a_record_explains();

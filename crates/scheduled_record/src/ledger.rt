@@ -16,7 +16,7 @@ ghost use Rattle.scheduled_record.specs.Ledgers.{Adds, adding, waits_in, known_i
 
 use crate::edges::{frees, takes};
 use crate::fronts::{copied, counted, joined_if, one_more};
-use record_text::made_words::{
+use record_text::deed_words::{
     answer_of, atomic_reply, event_of, map_reply, number_fits, shown_fits,
 };
 use record_text::{ItemLine, Said};

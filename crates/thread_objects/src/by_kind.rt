@@ -47,7 +47,8 @@ macro_rules! taking_arms {
     };
 }
 
-/// The same, with a pass that is of the column's kind.
+/// One arm for each kind of a pass: goes on with it and with the passes of a column, which is of the same kind, and by the first expression
+/// with no pass and the count of a column of a map or an atomic.
 macro_rules! adding_arms {
     ([$($kind:ident)*] $column:expr, $pass:expr, |$count:ident| $none:expr, |$passes:ident, $p:ident| $go:expr) => {
         match $pass {

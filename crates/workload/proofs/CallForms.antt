@@ -53,6 +53,7 @@ use Rattle.workload.proofs.Numbers.{is_number-decimal, number_of-decimal}
 use Rattle.workload.proofs.CallWords.{number_passes, amount_passes, passes_pass, tries_pass, tries_back}
 use Rattle.workload.proofs.Started.{start_parts}
 use Rattle.workload.proofs.Awaits.{Awaits, awaits, alone_second, no_second}
+use Rattle.workload.proofs.Refuted.{no}
 
 pub value_passes : (n : ℕ) → nat_le n MAX_VALUE ≡ true → is_number_to MAX_VALUE (decimal n) ≡ true
 value_passes n le =
@@ -134,8 +135,8 @@ var_passes d (var_calls.Write v) h = (refl, refl, rw (value_passes v h) refl)
 
 composed_passes : (d : Draft) (k : AtomicKind) (c : ComposedCall) → has_call (kinds.Atomic k) (operations.Composed c) ≡ true → is_composed_call c ≡ true → PassesWith d (atomic_form k (composed_verb c)) (composed_operands c) [] 0
 composed_passes d k (IfEqual v n) on h = (refl, refl, rw (number_passes k v on, passes_pass n h) refl)
-composed_passes d k (WaitFor a v n) on h = absurd cc
-composed_passes d k (Go w) on h = absurd cc
+composed_passes d k (WaitFor a v n) on h = no on
+composed_passes d k (Go w) on h = no on
 
 -- an operation that an object of the kind has alone
 alone_passes : (d : Draft) (kind : ObjectKind) (o : Operation) → has_call kind o ≡ true → is_operation o ≡ true → PassesWith d (form_of (verb_of o) (word_of kind)) (operands_of o) (operation_keys o) 0
@@ -152,7 +153,7 @@ alone_passes d (kinds.OnceValue n) operations.OnceValue on h = (refl, refl, refl
 alone_passes d kinds.Pool (operations.Pool c) on h = pool_passes d c h
 alone_passes d kinds.Var (operations.Var c) on h = var_passes d c h
 alone_passes d (kinds.Atomic k) (operations.Composed c) on h = composed_passes d k c on h
-alone_passes d kind c on h = absurd cc
+alone_passes d kind c on h = no on
 
 -- the form of a call hangs on the draft only where it is a `waitfor` of a cond or a `go` of a wait group
 pub plain_form : (d : Draft) (verb : Verb) (word : ObjectWord) (words : List (List ℕ)) → ((verb ≡ verbs.WaitFor) → (word ≡ object_words.Cond) → ⊥) → ((verb ≡ verbs.Go) → (word ≡ object_words.WaitGroup) → ⊥) → call_form d verb word words ≡ form_of verb word

@@ -68,6 +68,7 @@ use Rattle.workload.proofs.DraftLemmas.{found_at}
 use Rattle.workload.proofs.FirstFailing.{PassesWith, form_passes}
 use Rattle.workload.proofs.Numbers.{decimal-number_of}
 use Rattle.workload.proofs.OneReading.{IsSmall, read_small}
+use Rattle.workload.proofs.Refuted.{something}
 
 -- ---- checks that all pass
 
@@ -379,7 +380,7 @@ map_spelled d verbs.CompareAndDelete words h = let said = pair_said d words h in
 map_spelled d verbs.CompareAndSwap words h = let said = exchange_said d words h in (operations.Map (map_calls.CompareAndSwap said.0 said.1 said.2), refl, sym said.6, refl, rw (said.3, said.4, said.5) refl)
 map_spelled d verbs.Clear words h = (operations.Map map_calls.Clear, refl, sym (none_said d words h), refl, refl)
 map_spelled d verbs.Range words h = (operations.Range, refl, sym (none_said d words h), refl, refl)
-map_spelled d verb words h = absurd cc
+map_spelled d verb words h = something h
 
 atomic_spelled : (d : Draft) (kind : AtomicKind) (verb : Verb) (words : List (List ℕ)) → first_failing (form_words d (atomic_form kind verb) words) ≡ None → Spelled (kinds.Atomic kind) verb words
 atomic_spelled d kind verbs.Load words h = (operations.Atomic atomic_calls.Load, refl, sym (none_said d words h), refl, refl)
@@ -390,13 +391,13 @@ atomic_spelled d kind verbs.And words h = let said = bits_said d kind words h in
 atomic_spelled d kind verbs.Or words h = let said = bits_said d kind words h in (operations.Atomic (atomic_calls.Or said.0), refl, sym said.2, said.1, refl)
 atomic_spelled d kind verbs.CompareAndSwap words h = let said = numbers_said d kind words h in (operations.Atomic (atomic_calls.CompareAndSwap said.0 said.1), refl, sym said.4, pair (is_of kind said.0) (is_of kind said.1) said.2 said.3, refl)
 atomic_spelled d kind verbs.IfEqual words h = let said = test_said d kind words h in (operations.Composed (IfEqual said.0 said.1), refl, sym said.4, said.2, said.3)
-atomic_spelled d kind verb words h = absurd cc
+atomic_spelled d kind verb words h = something h
 
 mutex_spelled : (d : Draft) (verb : Verb) (words : List (List ℕ)) → first_failing (form_words d (mutex_form verb) words) ≡ None → Spelled kinds.Mutex verb words
 mutex_spelled d verbs.Lock words h = (operations.Mutex mutex_calls.Lock, refl, sym (none_said d words h), refl, refl)
 mutex_spelled d verbs.Unlock words h = (operations.Mutex mutex_calls.Unlock, refl, sym (none_said d words h), refl, refl)
 mutex_spelled d verbs.TryLock words h = (operations.Mutex mutex_calls.TryLock, refl, sym (none_said d words h), refl, refl)
-mutex_spelled d verb words h = absurd cc
+mutex_spelled d verb words h = something h
 
 rw_mutex_spelled : (d : Draft) (verb : Verb) (words : List (List ℕ)) → first_failing (form_words d (rw_mutex_form verb) words) ≡ None → Spelled kinds.RwMutex verb words
 rw_mutex_spelled d verbs.Lock words h = (operations.RwMutex rw_mutex_calls.Lock, refl, sym (none_said d words h), refl, refl)
@@ -405,13 +406,13 @@ rw_mutex_spelled d verbs.TryLock words h = (operations.RwMutex rw_mutex_calls.Tr
 rw_mutex_spelled d verbs.RLock words h = (operations.RwMutex rw_mutex_calls.RLock, refl, sym (none_said d words h), refl, refl)
 rw_mutex_spelled d verbs.RUnlock words h = (operations.RwMutex rw_mutex_calls.RUnlock, refl, sym (none_said d words h), refl, refl)
 rw_mutex_spelled d verbs.TryRLock words h = (operations.RwMutex rw_mutex_calls.TryRLock, refl, sym (none_said d words h), refl, refl)
-rw_mutex_spelled d verb words h = absurd cc
+rw_mutex_spelled d verb words h = something h
 
 cond_spelled : (d : Draft) (m : ℕ) (verb : Verb) (words : List (List ℕ)) → first_failing (form_words d (cond_form verb) words) ≡ None → Spelled (kinds.Cond m) verb words
 cond_spelled d m verbs.Wait words h = (operations.Cond cond_calls.Wait, refl, sym (none_said d words h), refl, refl)
 cond_spelled d m verbs.Signal words h = (operations.Cond cond_calls.Signal, refl, sym (none_said d words h), refl, refl)
 cond_spelled d m verbs.Broadcast words h = (operations.Cond cond_calls.Broadcast, refl, sym (none_said d words h), refl, refl)
-cond_spelled d m verb words h = absurd cc
+cond_spelled d m verb words h = something h
 
 amount_alone_said : (d : Draft) (words : List (List ℕ)) → first_failing (form_words d (Some (operands.Amount ∷ [])) words) ≡ None → (z : ℤ) × (is_amount z ≡ true) × (words ≡ signed_decimal z ∷ [])
 amount_alone_said d [] h = absurd cc
@@ -425,7 +426,7 @@ group_spelled : (d : Draft) (n : ℕ) (verb : Verb) (words : List (List ℕ)) �
 group_spelled d n verbs.Add words h = let said = amount_alone_said d words h in (operations.WaitGroup (group_calls.Add said.0), refl, sym said.2, refl, said.1)
 group_spelled d n verbs.Done words h = (operations.WaitGroup group_calls.Done, refl, sym (none_said d words h), refl, refl)
 group_spelled d n verbs.Wait words h = (operations.WaitGroup group_calls.Wait, refl, sym (none_said d words h), refl, refl)
-group_spelled d n verb words h = absurd cc
+group_spelled d n verb words h = something h
 
 item_alone_said : (d : Draft) (words : List (List ℕ)) → first_failing (form_words d (Some (operands.Value ∷ [])) words) ≡ None → (v : ℕ) × (is_value v ≡ true) × (words ≡ decimal v ∷ [])
 item_alone_said d [] h = absurd cc
@@ -439,12 +440,12 @@ pool_spelled : (d : Draft) (verb : Verb) (words : List (List ℕ)) → first_fai
 pool_spelled d verbs.Put words h = let said = item_alone_said d words h in (operations.Pool (pool_calls.Put said.0), refl, sym said.2, refl, said.1)
 pool_spelled d verbs.Get words h = (operations.Pool pool_calls.Get, refl, sym (none_said d words h), refl, refl)
 pool_spelled d verbs.Sweep words h = (operations.Pool pool_calls.Sweep, refl, sym (none_said d words h), refl, refl)
-pool_spelled d verb words h = absurd cc
+pool_spelled d verb words h = something h
 
 var_spelled : (d : Draft) (verb : Verb) (words : List (List ℕ)) → first_failing (form_words d (var_form verb) words) ≡ None → Spelled kinds.Var verb words
 var_spelled d verbs.Read words h = (operations.Var var_calls.Read, refl, sym (none_said d words h), refl, refl)
 var_spelled d verbs.Write words h = let said = item_alone_said d words h in (operations.Var (var_calls.Write said.0), refl, sym said.2, refl, said.1)
-var_spelled d verb words h = absurd cc
+var_spelled d verb words h = something h
 
 spelled_on : (d : Draft) (kind : ObjectKind) (verb : Verb) (words : List (List ℕ)) → first_failing (form_words d (form_of verb (word_of kind)) words) ≡ None → Spelled kind verb words
 spelled_on d kinds.Map verb words h = map_spelled d verb words h
@@ -458,7 +459,7 @@ spelled_on d (kinds.OnceFunc n) verbs.Call words h = (operations.OnceFunc, refl,
 spelled_on d (kinds.OnceValue n) verbs.Value words h = (operations.OnceValue, refl, sym (none_said d words h), refl, refl)
 spelled_on d kinds.Pool verb words h = pool_spelled d verb words h
 spelled_on d kinds.Var verb words h = var_spelled d verb words h
-spelled_on d kind verb words h = absurd cc
+spelled_on d kind verb words h = something h
 
 -- the call with its second name, if it has one
 abbrev SpelledAmong : Draft → ObjectKind → Verb → List (List ℕ) → Type 0

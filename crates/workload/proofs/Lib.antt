@@ -11,6 +11,7 @@ pub mod Numbers
 pub mod Passing
 mod PutCounts
 pub mod References
+mod Refuted
 pub mod CallForms
 mod CallWords
 mod Awaits

@@ -52,6 +52,7 @@ use Rattle.workload.proofs.References.{Refers, some_reference, no_reference}
 use Rattle.workload.proofs.Numbers.{is_number-decimal}
 use Rattle.workload.proofs.Keywords.{same_keyword}
 use Rattle.workload.proofs.CallWords.{map_call_at, map_call_spelled, atomic_call_at, atomic_call_spelled, signed_of, amount_spelled, group_call_at, group_call_spelled, pool_call_at, pool_call_spelled, var_call_at, var_call_spelled, composed_call_at, composed_call_spelled, number_read, number_spelled, tries_back}
+use Rattle.workload.proofs.Refuted.{no, not_both, something, other_kinds}
 use Rattle.workload.proofs.Awaits.{Awaits, awaits, alone_second, no_second}
 
 some_is : {X : Type 0} (x y : X) → Some x ≡ Some y → x ≡ y
@@ -220,7 +221,9 @@ same_alone kinds.Var (operations.Var c) (operations.Var d) on_c on_d p q v e = a
 same_alone (kinds.Atomic k) (operations.Composed c) (operations.Composed d) on_c on_d p q v e = ap (λ (x : ComposedCall). operations.Composed x) (same_composed_call k c d on_c on_d p q v e)
 same_alone (kinds.Atomic k) (operations.Atomic c) (operations.Composed d) on_c on_d p q v e = absurd (no_test c d v)
 same_alone (kinds.Atomic k) (operations.Composed c) (operations.Atomic d) on_c on_d p q v e = absurd (no_test d c (sym v))
-same_alone kind a b on_c on_d p q v e = absurd cc
+same_alone (kinds.Atomic k) (operations.Atomic c) b on_c on_d p q v e = no on_d
+same_alone (kinds.Atomic k) (operations.Composed c) b on_c on_d p q v e = no on_d
+same_alone kind a b on_c on_d p q v e = not_both (has_call kind a) (has_call kind b) refl on_c on_d
 
 -- ---- second names
 
@@ -290,12 +293,13 @@ same_operation d (kinds.Cond k) (operations.Composed (WaitFor i x m)) (operation
 same_operation d (kinds.Cond k) (operations.Composed (WaitFor i x m)) (operations.Cond c) r s on_a on_b f g p q v e = absurd (no_wait c (sym v))
 same_operation d (kinds.Cond k) (operations.Cond c) (operations.Composed (WaitFor j y n)) r s on_a on_b f g p q v e = absurd (no_wait c v)
 same_operation d (kinds.Cond k) (operations.Cond c) (operations.Cond b) r s on_a on_b f g p q v e = alone_same d (kinds.Cond k) (operations.Cond c) (operations.Cond b) r s on_a on_b f g p q v e
-same_operation d (kinds.Cond k) a b r s on_a on_b f g p q v e = absurd cc
+same_operation d (kinds.Cond k) (operations.Composed (WaitFor i x m)) b r s on_a on_b f g p q v e = no on_b
+same_operation d (kinds.Cond k) a b r s on_a on_b f g p q v e = not_both (has_among d.plan.objects (kinds.Cond k) a) (has_among d.plan.objects (kinds.Cond k) b) refl on_a on_b
 same_operation d (kinds.WaitGroup k) (operations.Composed (Go i)) (operations.Composed (Go j)) r s on_a on_b f g p q v e = go_same d i j r s f g p q e
 same_operation d (kinds.WaitGroup k) (operations.Composed (Go i)) (operations.WaitGroup c) r s on_a on_b f g p q v e = absurd (no_go c (sym v))
 same_operation d (kinds.WaitGroup k) (operations.WaitGroup c) (operations.Composed (Go j)) r s on_a on_b f g p q v e = absurd (no_go c v)
 same_operation d (kinds.WaitGroup k) (operations.WaitGroup c) (operations.WaitGroup b) r s on_a on_b f g p q v e = alone_same d (kinds.WaitGroup k) (operations.WaitGroup c) (operations.WaitGroup b) r s on_a on_b f g p q v e
-same_operation d (kinds.WaitGroup k) a b r s on_a on_b f g p q v e = absurd cc
+same_operation d (kinds.WaitGroup k) a b r s on_a on_b f g p q v e = not_both (has_among d.plan.objects (kinds.WaitGroup k) a) (has_among d.plan.objects (kinds.WaitGroup k) b) refl on_a on_b
 same_operation d kind a b r s on_a on_b f g p q v e = alone_same d kind a b r s on_a on_b f g p q v e
 
 same_call : (d : Draft) (o : Option Declared) (b c : Call) (r s : Option (List ℕ)) → names_object d.plan.objects o b ≡ true → names_object d.plan.objects o c ≡ true → names_second d b.operation r ≡ true → names_second d c.operation s ≡ true
@@ -337,7 +341,9 @@ plain (kinds.OnceFunc m) (kinds.OnceFunc n) none p q w e = ap (λ (x : ℕ). kin
 plain (kinds.OnceValue m) (kinds.OnceValue n) none p q w e = ap (λ (x : ℕ). kinds.OnceValue x) (number_is MAX_VALUE m n p q (omega arith) e)
 plain kinds.Pool kinds.Pool none p q w e = refl
 plain kinds.Var kinds.Var none p q w e = refl
-plain k l none p q w e = absurd cc
+plain (kinds.Cond m) l none p q w e = something none
+plain (kinds.Once a z) l none p q w e = something none
+plain k l none p q w e = other_kinds (word_of k) (word_of l) refl w
 
 plain_kind : (d : Draft) (k l : ObjectKind) (r s : Option (List ℕ)) → reference_of k ≡ None → reference_of l ≡ None → names_reference d k r ≡ true → names_reference d l s ≡ true → is_kind k ≡ true → is_kind l ≡ true → word_of k ≡ word_of l
     → option_to_list r ++ kind_parameters k ≡ option_to_list s ++ kind_parameters l → (k ≡ l) × (r ≡ s)
@@ -364,7 +370,7 @@ same_kind d (kinds.OnceFunc m) (kinds.OnceFunc n) r s f g p q w e = plain_kind d
 same_kind d (kinds.OnceValue m) (kinds.OnceValue n) r s f g p q w e = plain_kind d (kinds.OnceValue m) (kinds.OnceValue n) r s refl refl f g p q w e
 same_kind d kinds.Pool kinds.Pool r s f g p q w e = plain_kind d kinds.Pool kinds.Pool r s refl refl f g p q w e
 same_kind d kinds.Var kinds.Var r s f g p q w e = plain_kind d kinds.Var kinds.Var r s refl refl f g p q w e
-same_kind d k l r s f g p q w e = absurd cc
+same_kind d k l r s f g p q w e = other_kinds (word_of k) (word_of l) refl w
 
 same_arguments : (d : Draft) (l m : Line) → d.plan.workers ≤ MAX_WORKERS → may_follow d l ≡ true → may_follow d m ≡ true → keyword_of l ≡ keyword_of m → arguments_of l ≡ arguments_of m → l ≡ m
 same_arguments d (lines.Object o r) (lines.Object p s) few f g k e =

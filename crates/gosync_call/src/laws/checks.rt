@@ -12,7 +12,7 @@ ghost use Rattle.record_clauses.specs.declared.clause.Clause.{Clause};
 ghost use Rattle.record_clauses.specs.declared.clause.Verdict.{Verdict};
 ghost use Rattle.record_clauses.specs.declared.clause.Verdict.TheVariants as verdicts;
 ghost use Rattle.record_text.specs.Told.{IsTold, Told, joined};
-ghost use Rattle.run_check.specs.Completeness.{AreLinesOf, Explain};
+ghost use Rattle.run_check.specs.Completeness.{AreLinesOf, IsExplainingText};
 ghost use Rattle.run_check.specs.Tells.{UpTo};
 ghost use Rattle.step_runner.specs.Outcomes.{StepsTo};
 ghost use Rattle.gosync_call.specs.Checks.{IsJudged, JudgesTo, clause_word};
@@ -51,7 +51,7 @@ pub fn a_verdict_is_on_the_record_of_the_text()
     ensures yes { (bytes : List ℕ) (text : Told) (old new : Option (List ℕ)) → IsTold bytes text → JudgesTo (Some bytes) old new (statuses.Judged verdicts.Yes)
         → (r : Record) × (left : Report) × Explains text.plan (outcome_by text.misused left) r × (joined text.report ≡ report_text text.plan (outcome_by text.misused left)) }
     ensures no { (bytes : List ℕ) (text : Told) (clause : Clause) (old new : Option (List ℕ)) → IsTold bytes text → JudgesTo (Some bytes) old new (statuses.Judged (verdicts.No clause)) → ¬ UpTo text clause }
-    ensures exactly { (bytes : List ℕ) (verdict : Verdict) (old new : Option (List ℕ)) → JudgesTo (Some bytes) old new (statuses.Judged verdict) → (verdict ≡ verdicts.Yes ↔ Explain bytes) }
+    ensures exactly { (bytes : List ℕ) (verdict : Verdict) (old new : Option (List ℕ)) → JudgesTo (Some bytes) old new (statuses.Judged verdict) → (verdict ≡ verdicts.Yes ↔ IsExplainingText bytes) }
     ensures never_in_vain { (bytes : List ℕ) (text : Told) (claim : Claim) (account : Account) (clause : Clause) (old new : Option (List ℕ)) → IsTold bytes text → ((one : Clause) → Holds claim account one) → AreLinesOf text claim
         → ¬ JudgesTo (Some bytes) old new (statuses.Judged (verdicts.No clause)) }
 {

@@ -1,12 +1,12 @@
 use Rattle.std.proofs.Common.{ℕ, List, subst}
 use Rattle.record_text.specs.Refused.{IsCheckFault, IsRecordRefused}
-use Rattle.run_check.specs.Completeness.{ComeTo}
+use Rattle.run_check.specs.Completeness.{HasVerdict}
 use Rattle.gosync_call.proofs.Judged.{whole_judged, whole_refused}
 use Rattle.gosync_call.proofs.judge.verdict_of.Goals as goal
 
 pub returns-in-Ok-check-clause-judged : goal.returns-in-Ok-check-clause-judged
 returns-in-Ok-check-clause-judged g c =
-    whole_judged _ c.in-Ok.bytes.items _ c.in-Ok.ensures.bytes (subst (λ (b : List ℕ). ComeTo b c.in-Ok-check.verdict) c.deref.ensures.value c.in-Ok-check.ensures.comes)
+    whole_judged _ c.in-Ok.bytes.items _ c.in-Ok.ensures.bytes (subst (λ (b : List ℕ). HasVerdict b c.in-Ok-check.verdict) c.deref.ensures.value c.in-Ok-check.ensures.comes)
 
 pub returns-in-Err-Refused-clause-judged : goal.returns-in-Err-Refused-clause-judged
 returns-in-Err-Refused-clause-judged g c =
