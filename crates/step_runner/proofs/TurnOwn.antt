@@ -17,15 +17,16 @@ use Rattle.script_calls.specs.declared.call.Reply.TheVariants as replies
 use Rattle.sync_types.specs.declared.once_call.DoReply.TheVariants as do_replies
 use Rattle.sync_types.specs.declared.wait_call.CondCall.{CondCall}
 use Rattle.sync_types.specs.declared.wait_call.CondCall.TheVariants as cond_calls
-use Rattle.sync_types.specs.declared.wait_call.WaitGroupCall.{WaitGroupCall}
 use Rattle.mutex_core.specs.MutexMachine as mutex
 use Rattle.rw_core.specs.RwMachine as rw
 use Rattle.wait_cores.specs.NotifyMachine as notify
+use Rattle.wait_cores.specs.GroupEventsLeft.{group_left}
 use Rattle.wait_cores.specs.GroupMachine as group
 use Rattle.wait_cores.specs.OnceMachine as once
 use Rattle.wait_cores.specs.OnceStanding as once_standing
 use Rattle.wait_cores.specs.declared.once.OnceEvent.{OnceEvent}
 use Rattle.wait_cores.specs.declared.once.OnceReply.{OnceReply}
+use Rattle.protocols.specs.GroupStages.{group_event, group_meaning}
 use Rattle.protocols.specs.OnceStages.{once_event}
 use Rattle.protocols.specs.declared.once.OnceOutcome.{OnceOutcome}
 use Rattle.protocols.specs.declared.once.OnceOutcome.TheVariants.{Run, Already, Ended}
@@ -61,31 +62,23 @@ use Rattle.step_runner.specs.Tells.{Tells}
 use Rattle.step_runner.specs.Within.{IsIdle, IsOutOfOnce, StandsAtOnce, StandsOn, StandsOnBoth}
 use Rattle.step_runner.proofs.CondSpelled.{CondBehind, CondStandsAt, cond_tells}
 use Rattle.step_runner.proofs.SpellingLaws.{Laws}
+use Rattle.step_runner.proofs.KindTurns.{Behind, kind_tells}
 use Rattle.step_runner.proofs.MutexSpelled.{mutex_tells}
 use Rattle.step_runner.proofs.PlacedSpelled.{places, range_sorted}
 use Rattle.step_runner.proofs.PoolSpelled.{pool_whole, whole_tells}
 use Rattle.step_runner.proofs.RwSpelled.{rw_tells, stands_fit, stands_on}
-use Rattle.step_runner.proofs.WaitSpelled.{GroupBehind, group_tells, OnceBehind, before_end, due_made, once_tells}
+use Rattle.step_runner.proofs.WaitSpelled.{OnceBehind, before_end, due_made, once_tells}
 use Rattle.step_runner.proofs.Refuted.{no}
 
 -- where the worker stands behind its turn, at the call's object
 abbrev pub BehindOn : Operation → ℕ → Answer → ObjectState → Type 0
-BehindOn operation x answers.Still o = StandsOn operation x o
-BehindOn operation x answers.Unfinished o = StandsOn operation x o
-BehindOn operation x (answers.Completed reply) o = IsIdle x o
-BehindOn operation x (answers.Misused misuse) o = Unit {0}
+BehindOn operation x a o = Behind (StandsOn operation x o) (IsIdle x o) a
 
 behind : (operation : Operation) (x : ℕ) (a : Answer) (o : ObjectState) → StandsOn operation x o → IsIdle x o → BehindOn operation x a o
 behind operation x answers.Still o stands idle = stands
 behind operation x answers.Unfinished o stands idle = stands
 behind operation x (answers.Completed reply) o stands idle = idle
 behind operation x (answers.Misused misuse) o stands idle = tt
-
-group_behind : (call : WaitGroupCall) (x first : ℕ) (g : group.GroupState) (a : Answer) → GroupBehind call x g a → BehindOn (operations.WaitGroup call) x a (states.WaitGroup g first)
-group_behind call x first g answers.Still is = is
-group_behind call x first g answers.Unfinished is = is
-group_behind call x first g (answers.Completed reply) is = is
-group_behind call x first g (answers.Misused misuse) is = tt
 
 once_behind : {T : Type 0} (operation : Operation) (x : ℕ) (o : once.OnceState T) (a : Answer) (new : ObjectState) → (StandsAtOnce x o → StandsOn operation x new) → (IsOutOfOnce o x → IsIdle x new) → OnceBehind x o a → BehindOn operation x a new
 once_behind operation x o answers.Still new stands idle is = stands is
@@ -229,9 +222,8 @@ module _ (laws : Laws) (plan : Plan) (worker before place moment : ℕ) where
         behind (operations.RwMutex call) worker step.1 step.0 (stands_on laws.machines.mutexes call worker moment (rw.place_of m worker) m fits is.0 stands) tt,
       )
   turn_own (operations.WaitGroup call) (states.WaitGroup g first) has alone below is keys out stands plain =
-      let step = turn_on (operations.WaitGroup call) worker moment (states.WaitGroup g first) in
-      let told = group_tells laws.machines.groups plan place worker moment before call (group.place_of g worker) g refl stands (omega (arith, below, is)) in
-      (told.0, group_behind call worker first _ step.1 told.1)
+      kind_tells group.next group_event group_meaning group.callers_of due.group_turn due.group_behind due.GroupFits due.group_from group_left laws.machines.groups (λ done. replies.Returned) call worker moment g (omega (arith, below, is))
+      events.WaitGroup answered.WaitGroup plan place (λ done. replies.Returned) (λ done. refl) (λ e r. refl) before stands
   turn_own operations.OnceFunc (states.OnceFunc o code) has alone below is keys out stands plain = func_own o code stands (omega (arith, below, is))
   turn_own operations.OnceValue (states.OnceValue o value) has alone below is keys out stands plain = value_own o value stands (omega (arith, below, is))
   turn_own (operations.Pool call) (states.Pool p) has alone below is keys out stands plain =

@@ -21,22 +21,23 @@ returns c = record {
     made = c.still-2.ensures.made;
   };
   groups = record {
-    own = c.knows_where_it_stands-2.ensures.own;
-    others = λ g x by e apart. c.knows_where_it_stands-2.ensures.others g x by e apart;
-    uses = record { answers = c.knows_where_it_stands-2.ensures.answers; made = c.still-3.ensures.made; used = c.events_are_used_up.ensures };
+    uses = c.turn_laws.ensures.uses;
+    leaves = c.turn_laws.ensures.leaves;
+    goes_on = c.turn_laws.ensures.goes_on;
+    others = λ g x by e apart. c.turn_laws.ensures.others g x by e apart;
   };
   adding = record {
+    own_wait = c.knows_where_it_stands-2.ensures.own_wait;
+    own_run = c.knows_where_it_stands-2.ensures.own_run;
+    others_wait = λ o x by e apart. c.knows_where_it_stands-2.ensures.others_wait o x by e apart;
+    others_run = λ o x by e apart. c.knows_where_it_stands-2.ensures.others_run o x by e apart;
+    uses = record { answers = c.knows_where_it_stands-2.ensures.answers; made = c.still-3.ensures.made; used = c.events_are_used_up.ensures };
+  };
+  giving = record {
     own_wait = c.knows_where_it_stands-3.ensures.own_wait;
     own_run = c.knows_where_it_stands-3.ensures.own_run;
     others_wait = λ o x by e apart. c.knows_where_it_stands-3.ensures.others_wait o x by e apart;
     others_run = λ o x by e apart. c.knows_where_it_stands-3.ensures.others_run o x by e apart;
     uses = record { answers = c.knows_where_it_stands-3.ensures.answers; made = c.still-4.ensures.made; used = c.events_are_used_up-2.ensures };
-  };
-  giving = record {
-    own_wait = c.knows_where_it_stands-4.ensures.own_wait;
-    own_run = c.knows_where_it_stands-4.ensures.own_run;
-    others_wait = λ o x by e apart. c.knows_where_it_stands-4.ensures.others_wait o x by e apart;
-    others_run = λ o x by e apart. c.knows_where_it_stands-4.ensures.others_run o x by e apart;
-    uses = record { answers = c.knows_where_it_stands-4.ensures.answers; made = c.still-5.ensures.made; used = c.events_are_used_up-3.ensures };
   };
 }
