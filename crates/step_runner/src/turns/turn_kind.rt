@@ -1,7 +1,7 @@
 //! What a scheduled turn needs of a kind of object, said once for all kinds whose calls are each on one object and wait there
 //! at most once.
-ghost use Rattle.std.specs.Prelude.{◌≡◌, ◌≢◌, ℕ, ◌<◌, Option, Some};
-ghost use Rattle.step_runner.specs.TurnKinds.{Uses, Leaves};
+ghost use Rattle.std.specs.Prelude.{◌≡◌, ℕ, ◌<◌, Option};
+ghost use Rattle.step_runner.specs.TurnKinds.{TurnsStand};
 
 use protocols::{GroupStage, Protocol};
 use sync_types::WaitGroupCall;
@@ -42,14 +42,7 @@ pub trait TurnKind: Protocol {
     /// to do, but where it completes the call. A call that goes on does so once: it leaves its caller waiting for the later stage,
     /// and that is the stage which is then due. A caller that waits for none begins its call. Another's event leaves a caller where it is.
     fn turn_laws()
-        ensures uses { (state : Self.State) (caller now : ℕ) (call : Self.Call) (stage : Self.Stage) → caller < callers_of state → due call state caller ≡ Some stage
-            → Uses (undone state) (undone (Self.next state caller (Self.event stage now)).0) (Self.meaning stage (Self.next state caller (Self.event stage now)).1) }
-        ensures leaves { (state : Self.State) (caller now : ℕ) (call : Self.Call) (stage : Self.Stage) → caller < callers_of state → due call state caller ≡ Some stage
-            → Leaves (fits call) (left_from call) (behind state caller) (behind (Self.next state caller (Self.event stage now)).0 caller) (Self.meaning stage (Self.next state caller (Self.event stage now)).1) }
-        ensures goes_on { (state : Self.State) (caller : ℕ) (call : Self.Call) (stage : Self.Stage) → due call state caller ≡ Some stage
-            → left_from call (behind state caller) ≡ stage }
-        ensures others { (state : Self.State) (caller by : ℕ) (event : Self.Event) → caller ≢ by
-            → behind (Self.next state by event).0 caller ≡ behind state caller };
+        ensures { TurnsStand Self.next Self.event Self.meaning callers_of due behind fits left_from undone };
 }
 
 impl TurnKind for GroupCore {

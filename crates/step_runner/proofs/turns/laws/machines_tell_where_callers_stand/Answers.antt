@@ -20,12 +20,7 @@ returns c = record {
     answers = c.answers_its_callers.ensures.answers;
     made = c.still-2.ensures.made;
   };
-  groups = record {
-    uses = c.turn_laws.ensures.uses;
-    leaves = c.turn_laws.ensures.leaves;
-    goes_on = c.turn_laws.ensures.goes_on;
-    others = λ g x by e apart. c.turn_laws.ensures.others g x by e apart;
-  };
+  groups = c.turn_laws.ensures;
   adding = record {
     own_wait = c.knows_where_it_stands-2.ensures.own_wait;
     own_run = c.knows_where_it_stands-2.ensures.own_run;
