@@ -1,5 +1,5 @@
 -- Each call is spelt by some items.
-use Rattle.std.proofs.Common.{◌≡◌, ◌≢◌, ℕ, ℤ, zero, suc, ◌*◌, ◌<◌, Bool, true, false, List, [], ◌∷◌, ◌++◌, map, Option, Some, None, refl, sym, ◌∙◌, arith}
+use Rattle.std.proofs.Common.{◌≡◌, ◌≢◌, ℕ, ℤ, zero, suc, ◌*◌, ◌<◌, List, [], ◌∷◌, ◌++◌, map, Option, Some, None, refl, sym, ◌∙◌, arith}
 use Rattle.std.specs.Prelude.{slice_get}
 use Rattle.std.specs.List.{range_with_len}
 use Rattle.sync_model.specs.declared.item.SharedCall.{SharedCall}
@@ -31,7 +31,6 @@ use Rattle.run_record.specs.AtomicKind.{atomic_call}
 use Rattle.run_record.specs.Calls.{call_on, call_at, SpellsCall}
 use Rattle.run_record.specs.Parts.{Part, and_then, read_as, stages, Places}
 use Rattle.run_record.specs.PoolKind.{found_by, swept_by}
-use Rattle.run_record.specs.Record.{object_number}
 use Rattle.run_record.specs.RwMutexKind.{write_part, rw_part}
 use Rattle.run_record.specs.Tests.{tests, waits_for}
 use Rattle.step_runner.specs.declared.turns.object_state.ObjectState.{ObjectState}

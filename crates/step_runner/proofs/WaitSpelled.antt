@@ -3,7 +3,6 @@ use Rattle.std.proofs.Common.{◌≡◌, ◌≢◌, ℕ, ◌<◌, Bool, true, fa
 use Rattle.std.specs.Prelude.{Result, Ok, slice_get, unwrap_or, Option, Some, None}
 use Rattle.sync_model.specs.declared.answer.Answer.TheVariants.{Done}
 use Rattle.script_calls.specs.declared.call.Reply.{Reply}
-use Rattle.script_calls.specs.declared.call.Reply.TheVariants as replies
 use Rattle.wait_cores.specs.OnceMachine as once
 use Rattle.wait_cores.specs.OnceStanding as once_standing
 use Rattle.wait_cores.specs.declared.once.OnceEvent.{OnceEvent}
@@ -19,29 +18,25 @@ use Rattle.protocols.specs.declared.once.OnceOutcome.{OnceOutcome}
 use Rattle.protocols.specs.declared.once.OnceOutcome.TheVariants.{Run, Already, Ended}
 use Rattle.protocols.specs.declared.once.OnceStage.{OnceStage}
 use Rattle.protocols.specs.declared.once.OnceStage.TheVariants as once_stage
-use Rattle.protocols.specs.declared.step.Step.{Step}
 use Rattle.protocols.specs.declared.step.Step.TheVariants.{Finished, Waits}
-use Rattle.run_record.specs.Parts.{Part, read_as, stages}
+use Rattle.run_record.specs.Parts.{Part, stages}
 use Rattle.run_record.specs.Record.{object_number}
 use Rattle.run_record.specs.declared.entered.ObjectEvent.{ObjectEvent}
-use Rattle.run_record.specs.declared.entered.ObjectEvent.TheVariants as events
 use Rattle.run_record.specs.declared.entered.ObjectReply.{ObjectReply}
-use Rattle.run_record.specs.declared.entered.ObjectReply.TheVariants as answered
 use Rattle.run_record.specs.declared.made.Made.{Made}
 use Rattle.workload.specs.Plan.{Plan}
 use Rattle.step_runner.specs.declared.turns.answer.Answer.{Answer}
 use Rattle.step_runner.specs.declared.turns.answer.Answer.TheVariants as answers
 use Rattle.step_runner.specs.Due.{once_due, ran_or}
-use Rattle.step_runner.specs.Items.{stage_items}
 use Rattle.step_runner.specs.Stages.{outcome_of, make, answer_by}
 use Rattle.step_runner.specs.Left.{once_left}
-use Rattle.step_runner.specs.Recorded.{recorded_reply, recorded}
+use Rattle.step_runner.specs.Recorded.{recorded_reply}
 use Rattle.step_runner.specs.Tells.{Tells}
 use Rattle.step_runner.specs.Within.{IsOutOfOnce, StandsAtOnce}
 use Rattle.step_runner.specs.MachinesStand.{OnceStands}
 use Rattle.step_runner.proofs.SpellingLaws.{may}
 use Rattle.step_runner.proofs.Refuted.{no}
-use Rattle.step_runner.proofs.Spelled.{event_made, Continues, says, stage_tells}
+use Rattle.step_runner.proofs.Spelled.{event_made, says}
 
 -- ---- a once
 
