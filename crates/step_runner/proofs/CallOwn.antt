@@ -99,7 +99,7 @@ use Rattle.step_runner.specs.TurnAtObjects.{once_made, turn_on, turn_on_both, co
 use Rattle.step_runner.specs.MachinesStand.{MutexStands, RwStands, CondStands, OnceStands, MachinesStand}
 use Rattle.step_runner.proofs.CompletesLemmas.{pool_completes}
 use Rattle.step_runner.proofs.DueLemmas.{OfDue, both_due, mutex_answer, mutex_answers, rw_answers, OnceAnswer, once_answers}
-use Rattle.step_runner.proofs.KindTurns.{kind_takes}
+use Rattle.step_runner.proofs.KindTurns.{kind_leaves}
 use Rattle.step_runner.proofs.OthersStand.{untold}
 use Rattle.step_runner.proofs.Refuted.{no}
 
@@ -416,7 +416,7 @@ turn_takes laws workers x moment object (operations.RwMutex call) (states.RwMute
     (both_due (RwAt (rw.place_of m x)) Answered due (rw_at call (rw.place_of m x)) (rw_answers laws.rw_mutexes.answered call m x moment (omega (arith, below, is.1))))
 turn_takes laws workers x moment object (operations.WaitGroup call) (states.WaitGroup g first) below is =
     forward x (states.WaitGroup g first) (turn_on (operations.WaitGroup call) x moment (states.WaitGroup g first)) (items_on (operations.WaitGroup call) x moment object (states.WaitGroup g first)) (stage_forward events.WaitGroup answered.WaitGroup (λ e r. refl) group.next group_event x moment object (group_turn call g x) g) refl
-    (kind_takes group.next group_event group_meaning group.callers_of group_turn group_behind GroupFits group_from group_left laws.groups (λ done. replies.Returned) call x moment g (omega (arith, below, is)))
+    (kind_leaves group.next group_event group_meaning group.callers_of group_turn group_behind GroupFits group_from group_left laws.groups (λ done. replies.Returned) call x moment g (omega (arith, below, is)) (λ n. Unit {0}) tt).1
 turn_takes laws workers x moment object operations.OnceFunc (states.OnceFunc o code) below is =
     forward x (states.OnceFunc o code) (turn_on operations.OnceFunc x moment (states.OnceFunc o code)) (items_on operations.OnceFunc x moment object (states.OnceFunc o code)) (once_forward events.OnceFunc answered.OnceFunc (λ e r. refl) x moment object code o) refl
     (once_own_takes laws.giving (replies.OnceFunc (failure code)) (λ kept. replies.OnceFunc (failure kept)) code x moment o (omega (arith, below, is)))

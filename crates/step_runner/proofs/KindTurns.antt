@@ -48,30 +48,22 @@ module _ {S E R G O C : Type 0} (next : S → ℕ → E → S × R) (event_of : 
 
   -- ---- what it leaves to do
 
-  step_uses : (old new : ℕ) (same : Type 0) (step : Step G O) → Uses old new step → UsesBy old new same (read (outcome_of step))
-  step_uses old new same (Finished outcome) uses = uses
-  step_uses old new same (Misused misuse) uses = tt
-  step_uses old new same (Waits later) uses = uses
-  step_uses old new same (Next later) uses = uses
-  step_uses old new same Never uses = absurd uses
-
-  pub kind_uses : (Same : S → Type 0) → Same s → let n = made (due call s x) in UsesBy (undone s) (undone n.0) (Same n.0) (read n.1)
-  kind_uses Same same = by_due (λ stage. let n = made stage in UsesBy (undone s) (undone n.0) (Same n.0) (read n.1)) same
-      (λ stage is. let n = next s x (event_of stage moment) in step_uses (undone s) (undone n.0) (Same n.0) (meaning stage n.1) (law.uses s x moment call stage below is))
-
   abbrev turns : Option G → ℕ
   turns waits = if is_some waits then 0 else 1
 
-  step_takes : (old new : Option G) (step : Step G O) → Leaves (Fits call) (left call) old new step → TakesBy false (turns old) (turns new) (read (outcome_of step))
-  step_takes old new (Finished outcome) leaves = tt
-  step_takes old new (Misused misuse) leaves = tt
-  step_takes old new (Waits later) leaves = omega (arith, ap turns leaves.0, ap turns leaves.1.0)
-  step_takes old new (Next later) leaves = omega (arith, ap turns leaves.0, ap turns leaves.1.0)
-  step_takes old new Never leaves = absurd leaves
+  step_leaves : (undone left_undone : ℕ) (same : Type 0) (old new : Option G) (step : Step G O) → Uses undone left_undone step → Leaves (Fits call) (left call) old new step
+      → UsesBy undone left_undone same (read (outcome_of step)) × TakesBy false (turns old) (turns new) (read (outcome_of step))
+  step_leaves undone left_undone same old new (Finished outcome) uses leaves = (uses, tt)
+  step_leaves undone left_undone same old new (Misused misuse) uses leaves = (tt, tt)
+  step_leaves undone left_undone same old new (Waits later) uses leaves = (uses, omega (arith, ap turns leaves.0, ap turns leaves.1.0))
+  step_leaves undone left_undone same old new (Next later) uses leaves = (uses, omega (arith, ap turns leaves.0, ap turns leaves.1.0))
+  step_leaves undone left_undone same old new Never uses leaves = absurd uses
 
-  pub kind_takes : let n = made (due call s x) in TakesBy false (turns (behind s x)) (turns (behind n.0 x)) (read n.1)
-  kind_takes = by_due (λ stage. let n = made stage in TakesBy false (turns (behind s x)) (turns (behind n.0 x)) (read n.1)) tt
-      (λ stage is. let n = next s x (event_of stage moment) in step_takes (behind s x) (behind n.0 x) (meaning stage n.1) (law.leaves s x moment call stage below is))
+  -- of all callers, and of the worker's own call
+  pub kind_leaves : (Same : S → Type 0) → Same s → let n = made (due call s x) in UsesBy (undone s) (undone n.0) (Same n.0) (read n.1) × TakesBy false (turns (behind s x)) (turns (behind n.0 x)) (read n.1)
+  kind_leaves Same same = by_due (λ stage. let n = made stage in UsesBy (undone s) (undone n.0) (Same n.0) (read n.1) × TakesBy false (turns (behind s x)) (turns (behind n.0 x)) (read n.1)) (same, tt)
+      (λ stage is. let n = next s x (event_of stage moment) in
+      step_leaves (undone s) (undone n.0) (Same n.0) (behind s x) (behind n.0 x) (meaning stage n.1) (law.uses s x moment call stage below is) (law.leaves s x moment call stage below is))
 
   -- ---- what it spells
 
@@ -80,24 +72,21 @@ module _ {S E R G O C : Type 0} (next : S → ℕ → E → S × R) (event_of : 
     abbrev left_from : Option G → Part (Reply ℕ)
     left_from waits = read_as reply (stages event answer event_of meaning (object_number place) (left call waits))
 
-    goes_on : (new : Option G) (later : G) → (new ≡ Some later) × (Fits call (Some later) × (left call (Some later) ≡ later)) → (rest : List Made) (given : CallAnswer (Reply ℕ)) → left_from new rest given
-        → read_as reply (stages event answer event_of meaning (object_number place) later) rest given
-    goes_on new later (waits, (fits, from)) rest given on =
-        subst (λ (g : G). read_as reply (stages event answer event_of meaning (object_number place) g) rest given) from (subst (λ (waits : Option G). left_from waits rest given) waits on)
+    goes_on : (new : Option G) (later : G) → (new ≡ Some later) × (Fits call (Some later) × (left call (Some later) ≡ later))
+        → ((rest : List Made) (given : CallAnswer (Reply ℕ)) → left_from new rest given → read_as reply (stages event answer event_of meaning (object_number place) later) rest given) × Fits call new
+    goes_on new later (waits, (fits, from)) = (
+      λ rest given on. subst (λ (g : G). read_as reply (stages event answer event_of meaning (object_number place) g) rest given) from (subst (λ (waits : Option G). left_from waits rest given) waits on),
+      subst (Fits call) (sym waits) fits,
+    )
 
-    continues : (old new : Option G) (step : Step G O) → Leaves (Fits call) (left call) old new step → Continues event answer event_of meaning (object_number place) x plan f reply reads (left_from new) step
-    continues old new (Finished outcome) leaves = tt
-    continues old new (Misused misuse) leaves = tt
-    continues old new (Waits later) leaves = goes_on new later leaves.1
-    continues old new (Next later) leaves = goes_on new later leaves.1
-    continues old new Never leaves = leaves
-
-    stands : (old new : Option G) (step : Step G O) → Fits call old → Leaves (Fits call) (left call) old new step → Behind (Fits call new) (new ≡ None) (read (outcome_of step))
-    stands old new (Finished outcome) fits leaves = leaves fits
-    stands old new (Misused misuse) fits leaves = tt
-    stands old new (Waits later) fits leaves = subst (Fits call) (sym leaves.1.0) leaves.1.1.0
-    stands old new (Next later) fits leaves = subst (Fits call) (sym leaves.1.0) leaves.1.1.0
-    stands old new Never fits leaves = absurd leaves
+    -- what is left then, and where the worker stands
+    goes : (old new : Option G) (step : Step G O) → Fits call old → Leaves (Fits call) (left call) old new step
+        → Continues event answer event_of meaning (object_number place) x plan f reply reads (left_from new) step × Behind (Fits call new) (new ≡ None) (read (outcome_of step))
+    goes old new (Finished outcome) fits leaves = (tt, leaves fits)
+    goes old new (Misused misuse) fits leaves = (tt, tt)
+    goes old new (Waits later) fits leaves = goes_on new later leaves.1
+    goes old new (Next later) fits leaves = goes_on new later leaves.1
+    goes old new Never fits leaves = absurd leaves
 
     pub kind_tells : (before : ℕ) → Fits call (behind s x) → let n = made (due call s x) in
         Tells plan (left_from (behind s x)) (left_from (behind n.0 x)) (recorded plan before (stage_items event answer next event_of x moment place (due call s x) s)) (read n.1)
@@ -112,10 +101,10 @@ module _ {S E R G O C : Type 0} (next : S → ℕ → E → S × R) (event_of : 
         let n = next s x e in
         let new = left_from (behind n.0 x) in
         let said = read (outcome_of (meaning stage n.1)) in
-        let leaves = law.leaves s x moment call stage below is in
-        let told = stage_tells event answer event_of meaning (object_number place) x plan f reply reads stage moment n.1 new (continues (behind s x) (behind n.0 x) (meaning stage n.1) leaves) in (
+        let on = goes (behind s x) (behind n.0 x) (meaning stage n.1) fits (law.leaves s x moment call stage below is) in
+        let told = stage_tells event answer event_of meaning (object_number place) x plan f reply reads stage moment n.1 new on.0 in (
           subst (λ (l : List Made). Tells plan (left_from (behind s x)) new l said) (sym (ap (λ (l : List Made). l ++ []) (one e n.1)))
               (subst (λ (g : G). Tells plan (read_as reply (stages event answer event_of meaning (object_number place) g)) new (event_made event answer event_of meaning (object_number place) x e n.1 ∷ []) said)
               (sym (law.goes_on s x call stage is)) told),
-          stands (behind s x) (behind n.0 x) (meaning stage n.1) fits leaves,
+          on.1,
         ))

@@ -75,7 +75,7 @@ use Rattle.step_runner.specs.Stages.{outcome_of, make, answer_by}
 use Rattle.step_runner.specs.TurnAtObjects.{once_made, number_after, cond_turn, turn_on, turn_on_both, with_object, with_both, turn_at}
 use Rattle.step_runner.proofs.AtObjects.{at_ready}
 use Rattle.step_runner.proofs.CompletesLemmas.{pool_completes}
-use Rattle.step_runner.proofs.KindTurns.{kind_uses}
+use Rattle.step_runner.proofs.KindTurns.{kind_leaves}
 use Rattle.step_runner.proofs.DueLemmas.{OfDue, each_due, OnceAnswer, mutex_answer, mutex_answers, rw_answers, once_answers}
 use Rattle.step_runner.specs.MachinesStand.{OnceUses}
 use Rattle.step_runner.proofs.MachineLaws.{MutexUses, RwUses, Uses}
@@ -271,7 +271,7 @@ turn_uses uses workers (operations.Var call) worker moment (states.Var held) bel
 turn_uses uses workers (operations.Mutex call) worker moment (states.Mutex m) below is = mutex_uses uses.mutexes call worker moment m (omega (arith, below, is.1)) is.0
 turn_uses uses workers (operations.RwMutex call) worker moment (states.RwMutex m) below is = rw_uses uses.rw_mutexes call worker moment m (omega (arith, below, is.1)) is.0
 turn_uses uses workers (operations.WaitGroup call) worker moment (states.WaitGroup g first) below is =
-    kind_uses group.next group_event group_meaning group.callers_of group_turn group_behind GroupFits group_from group_left uses.groups (λ done. replies.Returned) call worker moment g (omega (arith, below, is)) (λ h. states.WaitGroup h first ≡ states.WaitGroup g first) refl
+    (kind_leaves group.next group_event group_meaning group.callers_of group_turn group_behind GroupFits group_from group_left uses.groups (λ done. replies.Returned) call worker moment g (omega (arith, below, is)) (λ h. states.WaitGroup h first ≡ states.WaitGroup g first) refl).0
 turn_uses uses workers operations.OnceFunc worker moment (states.OnceFunc o code) below is =
     once_uses uses.giving (replies.OnceFunc (failure code)) (λ kept. replies.OnceFunc (failure kept)) worker moment code o (omega (arith, below, is)) (λ made. states.OnceFunc made.0 code ≡ states.OnceFunc o code) refl
 turn_uses uses workers operations.OnceValue worker moment (states.OnceValue o value) below is =
