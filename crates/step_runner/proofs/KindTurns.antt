@@ -93,8 +93,8 @@ module _ {S E R G O C : Type 0} (next : S → ℕ → E → S × R) (event_of : 
         × Behind (Fits call (behind n.0 x)) (behind n.0 x ≡ None) (read n.1)
     kind_tells before fits =
         by_due (λ stage. let n = made stage in
-            Tells plan (left_from (behind s x)) (left_from (behind n.0 x)) (recorded plan before (stage_items event answer next event_of x moment place stage s)) (read n.1)
-            × Behind (Fits call (behind n.0 x)) (behind n.0 x ≡ None) (read n.1))
+        Tells plan (left_from (behind s x)) (left_from (behind n.0 x)) (recorded plan before (stage_items event answer next event_of x moment place stage s)) (read n.1)
+        × Behind (Fits call (behind n.0 x)) (behind n.0 x ≡ None) (read n.1))
         (refl, fits)
         (λ stage is.
         let e = event_of stage moment in

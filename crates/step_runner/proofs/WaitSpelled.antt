@@ -26,7 +26,6 @@ use Rattle.run_record.specs.declared.entered.ObjectReply.{ObjectReply}
 use Rattle.run_record.specs.declared.made.Made.{Made}
 use Rattle.workload.specs.Plan.{Plan}
 use Rattle.step_runner.specs.declared.turns.answer.Answer.{Answer}
-use Rattle.step_runner.specs.declared.turns.answer.Answer.TheVariants as answers
 use Rattle.step_runner.specs.Due.{once_due, ran_or}
 use Rattle.step_runner.specs.Stages.{outcome_of, make, answer_by}
 use Rattle.step_runner.specs.Left.{once_left}
@@ -35,6 +34,7 @@ use Rattle.step_runner.specs.Tells.{Tells}
 use Rattle.step_runner.specs.Within.{IsOutOfOnce, StandsAtOnce}
 use Rattle.step_runner.specs.MachinesStand.{OnceStands}
 use Rattle.step_runner.proofs.SpellingLaws.{may}
+use Rattle.step_runner.proofs.KindTurns.{Behind}
 use Rattle.step_runner.proofs.Refuted.{no}
 use Rattle.step_runner.proofs.Spelled.{event_made, says}
 
@@ -47,10 +47,7 @@ once_waits once_place.Released = true
 
 module _ {T : Type 0} where
   abbrev pub OnceBehind : ℕ → once.OnceState T → Answer → Type 0
-  OnceBehind x o answers.Still = StandsAtOnce x o
-  OnceBehind x o answers.Unfinished = StandsAtOnce x o
-  OnceBehind x o (answers.Completed reply) = IsOutOfOnce o x
-  OnceBehind x o (answers.Misused misuse) = Unit {0}
+  OnceBehind x o a = Behind (StandsAtOnce x o) (IsOutOfOnce o x) a
 
   waits_in : (progress : OnceProgress T) (w : Option Bool) → unwrap_or w false ≡ once_waits (once.place_in progress w)
   waits_in progress None = refl

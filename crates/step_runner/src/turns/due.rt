@@ -9,9 +9,7 @@ ghost use Rattle.step_runner.specs.Stages.{answer_by};
 
 use crate::turns::answer::Answer;
 use mutex_core::Place as MutexPlace;
-use protocols::{
-    CondStage, MutexStage, OnceOutcome, OnceStage, PoolStage, RwMutexStage,
-};
+use protocols::{CondStage, MutexStage, OnceOutcome, OnceStage, PoolStage, RwMutexStage};
 use rw_core::Place as RwPlace;
 use script_calls::Reply;
 use sync_types::{CondCall, DoReply, LockReply, MutexCall, RwMutexCall};
