@@ -11,7 +11,7 @@ use wait_cores::{GroupCore, GroupPlace};
 /// A kind whose calls are each on one object: which stage of its call a worker's turn makes, by where the worker stands.
 ///
 /// To give a kind its turns is to say these, and to prove `turn_laws`.
-pub trait TurnKind: Protocol {
+pub(crate) trait TurnKind: Protocol {
     /// A call, as a workload has it.
     type Call: Copy + Drop;
 
