@@ -1,6 +1,6 @@
 -- At all objects: what a turn takes of what is left of its worker's call and of others', and whom it tells to go on.
 use Rattle.std.proofs.Common.{◌≡◌, ◌≢◌, ℕ, zero, suc, ◌+◌, ◌≤◌, Bool, true, false, List, [], ◌∷◌, map, set, Option, Some, None, refl, sym, ap, ◌∙◌, subst, arith}
-use Rattle.std.specs.Prelude.{slice_get, unwrap_or, ◌||◌}
+use Rattle.std.specs.Prelude.{slice_get, unwrap_or, is_some, ◌||◌}
 use Rattle.std.specs.Option.{option_map, option_map_or}
 use Rattle.std.proofs.lemmas.Option.{slice_get-map}
 use Rattle.script_calls.specs.declared.call.Call.{Call}
@@ -10,7 +10,6 @@ use Rattle.mutex_core.specs.declared.place.Place.TheVariants as mutex_place
 use Rattle.rw_core.specs.RwMachine as rw
 use Rattle.rw_core.specs.declared.place.Place.{Place as RwPlace}
 use Rattle.rw_core.specs.declared.place.Place.TheVariants as rw_place
-use Rattle.wait_cores.specs.GroupStanding as group
 use Rattle.wait_cores.specs.NotifyStanding.{has_ticket}
 use Rattle.wait_cores.specs.OnceStanding as once
 use Rattle.workload.specs.declared.object.ObjectKind.{ObjectKind}
@@ -22,6 +21,7 @@ use Rattle.step_runner.specs.declared.turns.object_state.ObjectState.TheVariants
 use Rattle.step_runner.specs.TurnsLeft.{refers_to, mutex_left, rw_left, left_at, left_in, turns_left, TakesBy, mutex_told, rw_told, told_at, is_told, TellsOwn}
 use Rattle.step_runner.specs.declared.turns.item.Item.{Item}
 use Rattle.step_runner.specs.Items.{items_on, items_on_both, items_by, items_at, goes_back, unlocks}
+use Rattle.step_runner.specs.Due.{group_behind}
 use Rattle.step_runner.specs.Objects.{kind_of}
 use Rattle.step_runner.specs.Ready.{IsReady}
 use Rattle.step_runner.specs.Stands.{IsOutAt}
@@ -218,7 +218,7 @@ left_few x (states.Atomic number) = omega arith
 left_few x (states.Mutex m) = mutex_few (mutex.place_of m x)
 left_few x (states.RwMutex m) = rw_few (rw.place_of m x)
 left_few x (states.Cond c place) = omega (arith, few (has_ticket c x))
-left_few x (states.WaitGroup g first) = omega (arith, few (group.waits_at g x))
+left_few x (states.WaitGroup g first) = omega (arith, few (is_some (group_behind g x)))
 left_few x (states.Once o place delta) = omega (arith, few (once.waits_at o x || once.runs_at o x))
 left_few x (states.OnceFunc o code) = omega (arith, few (once.waits_at o x || once.runs_at o x))
 left_few x (states.OnceValue o value) = omega (arith, few (once.waits_at o x || once.runs_at o x))

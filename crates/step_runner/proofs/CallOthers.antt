@@ -1,6 +1,6 @@
 -- Another's turn takes nothing from what is left of a worker's call, and only an unlock tells it to go on.
 use Rattle.std.proofs.Common.{◌≡◌, ◌≢◌, ℕ, ◌≤◌, inl, inr, Bool, true, false, List, [], ◌++◌, Option, Some, None, refl, sym, ap, ◌∙◌, arith}
-use Rattle.std.specs.Prelude.{ℤ, ◌||◌, if◌then◌else◌}
+use Rattle.std.specs.Prelude.{ℤ, ◌||◌, if◌then◌else◌, is_some}
 use Rattle.std.specs.Int.{w64, int_wrapping_add}
 use Rattle.sync_types.specs.declared.atomic_object.Number.{Number}
 use Rattle.sync_types.specs.declared.atomic_object.Number.TheVariants.{Int64}
@@ -25,11 +25,11 @@ use Rattle.rw_core.specs.declared.reply.RwReply.{RwReply}
 use Rattle.wait_cores.specs.NotifyMachine as notify
 use Rattle.wait_cores.specs.NotifyStanding as notify_standing
 use Rattle.wait_cores.specs.GroupMachine as group
-use Rattle.wait_cores.specs.GroupStanding as group_standing
 use Rattle.wait_cores.specs.OnceMachine as once
 use Rattle.wait_cores.specs.OnceStanding as once_standing
 use Rattle.protocols.specs.CondStages.{cond_event, cond_meaning}
 use Rattle.protocols.specs.GroupStages.{group_event, group_meaning}
+use Rattle.protocols.specs.declared.wait_group.GroupStage.{GroupStage}
 use Rattle.protocols.specs.MutexStages as mutex_stages
 use Rattle.protocols.specs.OnceStages.{once_event, once_meaning}
 use Rattle.protocols.specs.RwMutexStages as rw_stages
@@ -41,7 +41,7 @@ use Rattle.run_record.specs.declared.entered.ObjectReply.TheVariants as answered
 use Rattle.step_runner.specs.declared.turns.object_state.ObjectState.{ObjectState}
 use Rattle.step_runner.specs.declared.turns.object_state.ObjectState.TheVariants as states
 use Rattle.step_runner.specs.TurnsLeft.{mutex_left, rw_left, once_left, left_at, mutex_told, rw_told, told_at}
-use Rattle.step_runner.specs.Due.{mutex_due, rw_due, group_due, cond_due, once_due}
+use Rattle.step_runner.specs.Due.{mutex_due, rw_due, group_turn, group_behind, cond_due, once_due}
 use Rattle.step_runner.specs.declared.turns.item.Deed.TheVariants as deeds
 use Rattle.step_runner.specs.declared.turns.item.Item.{Item}
 use Rattle.step_runner.specs.Items.{stage_items, items_on, items_on_both, is_unlock, unlocks}
@@ -165,8 +165,8 @@ turn_eases laws workers x by moment object (operations.RwMutex call) (states.RwM
 turn_eases laws workers x by moment object (operations.WaitGroup call) (states.WaitGroup g first) is apart = (
   omega (
     arith,
-    ap {B = ℕ} (λ (b : Bool). if b then 0 else 1)
-        (make_moves group.next group_event group_meaning by moment (λ n. group_standing.waits_at n x ≡ group_standing.waits_at g x) (group_due call (group.place_of g by)) g refl (λ e. laws.groups.others g x by e apart)),
+    ap {B = ℕ} (λ (behind : Option GroupStage). if is_some behind then 0 else 1)
+        (make_moves group.next group_event group_meaning by moment (λ n. group_behind n x ≡ group_behind g x) (group_turn call g by) g refl (λ e. laws.groups.others g x by e apart)),
   ),
   λ was told. no told,
 )

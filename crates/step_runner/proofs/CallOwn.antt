@@ -20,8 +20,6 @@ use Rattle.sync_types.specs.declared.pool_call.PoolCall.{PoolCall}
 use Rattle.sync_types.specs.declared.pool_call.PoolCall.TheVariants as pool_calls
 use Rattle.sync_types.specs.declared.wait_call.CondCall.{CondCall}
 use Rattle.sync_types.specs.declared.wait_call.CondCall.TheVariants as cond_calls
-use Rattle.sync_types.specs.declared.wait_call.WaitGroupCall.{WaitGroupCall}
-use Rattle.sync_types.specs.declared.wait_call.WaitGroupCall.TheVariants as group_calls
 use Rattle.mutex_core.specs.MutexMachine as mutex
 use Rattle.mutex_core.specs.Moves as mutex_moves
 use Rattle.mutex_core.specs.Standing as mutex_standing
@@ -46,13 +44,9 @@ use Rattle.wait_cores.specs.NotifyLaws as notify_laws
 use Rattle.wait_cores.specs.NotifyMachine as notify
 use Rattle.wait_cores.specs.NotifyStanding as notify_standing
 use Rattle.wait_cores.specs.GroupMachine as group
-use Rattle.wait_cores.specs.GroupStanding as group_standing
+use Rattle.wait_cores.specs.GroupEventsLeft.{group_left}
 use Rattle.wait_cores.specs.OnceMachine as once
 use Rattle.wait_cores.specs.OnceStanding as once_standing
-use Rattle.wait_cores.specs.declared.group.GroupPlace.{GroupPlace}
-use Rattle.wait_cores.specs.declared.group.GroupPlace.TheVariants as group_place
-use Rattle.wait_cores.specs.declared.group.GroupReply.{GroupReply}
-use Rattle.wait_cores.specs.declared.group.GroupReply.TheVariants as group_reply
 use Rattle.wait_cores.specs.declared.notify.NotifyEvent.TheVariants as notify_event
 use Rattle.wait_cores.specs.declared.notify.NotifyPlace.{NotifyPlace}
 use Rattle.wait_cores.specs.declared.notify.NotifyPlace.TheVariants as notify_place
@@ -83,8 +77,6 @@ use Rattle.protocols.specs.declared.rw_mutex.RwMutexStage.{RwMutexStage}
 use Rattle.protocols.specs.declared.rw_mutex.RwMutexStage.TheVariants as rw_stage
 use Rattle.protocols.specs.declared.step.Step.{Step}
 use Rattle.protocols.specs.declared.step.Step.TheVariants.{Finished, Misused, Waits, Next, Never}
-use Rattle.protocols.specs.declared.wait_group.GroupStage.{GroupStage}
-use Rattle.protocols.specs.declared.wait_group.GroupStage.TheVariants as group_stage
 use Rattle.run_record.specs.declared.entered.ObjectEvent.{ObjectEvent}
 use Rattle.run_record.specs.declared.entered.ObjectEvent.TheVariants as events
 use Rattle.run_record.specs.declared.entered.ObjectReply.{ObjectReply}
@@ -96,7 +88,7 @@ use Rattle.step_runner.specs.declared.turns.object_state.ObjectState.{ObjectStat
 use Rattle.step_runner.specs.declared.turns.object_state.ObjectState.TheVariants as states
 use Rattle.step_runner.specs.TurnsLeft.{mutex_left, rw_left, once_left, left_at, TakesOf, TakesBy, mutex_told, rw_told, told_at, TellsOwn}
 use Rattle.step_runner.specs.Completes.{IsCompleted}
-use Rattle.step_runner.specs.Due.{mutex_due, rw_due, locked, group_due, returned, cond_due, waited, once_due, ran_or}
+use Rattle.step_runner.specs.Due.{mutex_due, rw_due, locked, group_turn, group_behind, GroupFits, group_from, cond_due, waited, once_due, ran_or}
 use Rattle.step_runner.specs.declared.turns.item.Deed.TheVariants as deeds
 use Rattle.step_runner.specs.declared.turns.item.Item.{Item}
 use Rattle.step_runner.specs.Items.{stage_items, items_on, items_on_both, add_items, once_items, look_items, unless_found, pool_items, is_requeued, goes_back}
@@ -104,9 +96,10 @@ use Rattle.step_runner.specs.Objects.{IsMachineOf}
 use Rattle.step_runner.specs.PoolTurn.{looked, pool_step}
 use Rattle.step_runner.specs.Stages.{outcome_of, make, answer_by}
 use Rattle.step_runner.specs.TurnAtObjects.{once_made, turn_on, turn_on_both, cond_turn}
-use Rattle.step_runner.specs.MachinesStand.{MutexStands, RwStands, CondStands, GroupStands, OnceStands, MachinesStand}
+use Rattle.step_runner.specs.MachinesStand.{MutexStands, RwStands, CondStands, OnceStands, MachinesStand}
 use Rattle.step_runner.proofs.CompletesLemmas.{pool_completes}
-use Rattle.step_runner.proofs.DueLemmas.{OfDue, both_due, mutex_answer, mutex_answers, rw_answers, GroupAnswer, group_answers, OnceAnswer, once_answers}
+use Rattle.step_runner.proofs.DueLemmas.{OfDue, both_due, mutex_answer, mutex_answers, rw_answers, OnceAnswer, once_answers}
+use Rattle.step_runner.proofs.KindTurns.{kind_leaves}
 use Rattle.step_runner.proofs.OthersStand.{untold}
 use Rattle.step_runner.proofs.Refuted.{no}
 
@@ -286,50 +279,6 @@ rw_due_takes law (Some stage) x moment object m valid of =
     let back = is_requeued (deeds.Entered (events.RwMutex (rw_event stage moment)) (answered.RwMutex n.1)) || false in
     (takes_by locked back (rw_left (rw.place_of m x)) (rw_left (rw.place_of n.0 x)) (λ outcome. tt) (rw_meaning stage n.1) takes.0, takes.1)
 
--- ---- of a wait group
-
-abbrev GroupAt : Bool → GroupStage → Type 0
-GroupAt waits (group_stage.Add delta) = Unit {0}
-GroupAt waits group_stage.Done = Unit {0}
-GroupAt waits group_stage.Wait = waits ≡ false
-GroupAt waits group_stage.Leave = Unit {0}
-
-group_at : (call : WaitGroupCall) (p : GroupPlace) → OfDue (GroupAt (group_standing.is_in p)) (group_due call p)
-group_at (group_calls.Add delta) p = tt
-group_at group_calls.Done p = tt
-group_at group_calls.Wait group_place.Out = refl
-group_at group_calls.Wait group_place.Waiting = tt
-group_at group_calls.Wait group_place.Released = tt
-
-group_takes : (stage : GroupStage) (now : ℕ) (w v : Bool) (r : GroupReply) → GroupAt w stage → group_standing.answers w (group_event stage now) r ≡ true → (r ≢ group_reply.Still)
-    → v ≡ group_standing.waits_after w (group_event stage now) r → TakesStep false (if w then 0 else 1) (if v then 0 else 1) (group_meaning stage r)
-group_takes (group_stage.Add delta) now w v group_reply.Done at is ne moved = tt
-group_takes (group_stage.Add delta) now w v (group_reply.Misused misuse) at is ne moved = tt
-group_takes (group_stage.Add delta) now w v r at is ne moved = no is
-group_takes group_stage.Done now w v group_reply.Done at is ne moved = tt
-group_takes group_stage.Done now w v (group_reply.Misused misuse) at is ne moved = tt
-group_takes group_stage.Done now w v r at is ne moved = no is
-group_takes group_stage.Wait now true v r at is ne moved = no (sym at)
-group_takes group_stage.Wait now false v group_reply.Done at is ne moved = tt
-group_takes group_stage.Wait now false v group_reply.Queued at is ne moved = omega (arith, ap {B = ℕ} (λ (b : Bool). if b then 0 else 1) moved)
-group_takes group_stage.Wait now false v r at is ne moved = no is
-group_takes group_stage.Leave now w v group_reply.Done at is ne moved = tt
-group_takes group_stage.Leave now w v (group_reply.Misused misuse) at is ne moved = tt
-group_takes group_stage.Leave now w v group_reply.Still at is ne moved = absurd (ne refl)
-group_takes group_stage.Leave now w v r at is ne moved = no is
-
-group_due_takes : GroupStands → (due : Option GroupStage) (x moment object first : ℕ) (g : group.GroupState) → OfDue (λ stage. GroupAt (group_standing.waits_at g x) stage × GroupAnswer g x moment stage) due
-    → let made = make group.next group_event group_meaning x moment due g in Takes x (states.WaitGroup g first) (states.WaitGroup made.0 first, answer_by returned made.1) (stage_items events.WaitGroup answered.WaitGroup group.next group_event x moment object due g)
-group_due_takes law None x moment object first g of = (tt, λ told. told)
-group_due_takes law (Some stage) x moment object first g of =
-    let n = group.next g x (group_event stage moment) in
-    let w = group_standing.waits_at g x in
-    let v = group_standing.waits_at n.0 x in (
-      takes_by returned false (if w then 0 else 1) (if v then 0 else 1) (λ outcome. tt) (group_meaning stage n.1)
-          (group_takes stage moment w v n.1 of.0 of.1.0 of.1.1 (law.own g x (group_event stage moment))),
-      λ told. told,
-    )
-
 -- ---- of a once
 
 -- what is left, by whether the worker waits, and whether it runs the function
@@ -419,13 +368,14 @@ module _ {T : Type 0} where
       (once_answers law.uses value o x moment below))
 
 -- events of other machines are no going back
+stage_forward : {S E R G : Type 0} (event : E → ObjectEvent) (answer : R → ObjectReply) → ((e : E) (r : R) → is_requeued (deeds.Entered (event e) (answer r)) ≡ false) → (next : S → ℕ → E → S × R) (event_of : G → ℕ → E) (x moment object : ℕ) (due : Option G) (s : S)
+    → goes_back (stage_items event answer next event_of x moment object due s) ≡ false
+stage_forward event answer forward next event_of x moment object None s = refl
+stage_forward event answer forward next event_of x moment object (Some stage) s = ap (λ (b : Bool). b || false) (forward (event_of stage moment) (next s x (event_of stage moment)).1)
+
 once_forward : {T : Type 0} (event : OnceEvent T → ObjectEvent) (answer : OnceReply T → ObjectReply) → ((e : OnceEvent T) (r : OnceReply T) → is_requeued (deeds.Entered (event e) (answer r)) ≡ false) → (x moment object : ℕ) (value : T) (o : once.OnceState T)
     → goes_back (once_items event answer x moment object value o) ≡ false
-once_forward event answer forward x moment object value o = by_due (once_due value (once_standing.runs_at o x) (once.place_of o x))
-  where
-    by_due : (due : Option (OnceStage _)) → goes_back (stage_items event answer once.next once_event x moment object due o) ≡ false
-    by_due None = refl
-    by_due (Some stage) = ap (λ (b : Bool). b || false) (forward (once_event stage moment) (once.next o x (once_event stage moment)).1)
+once_forward event answer forward x moment object value o = stage_forward event answer forward once.next once_event x moment object (once_due value (once_standing.runs_at o x) (once.place_of o x)) o
 
 -- ---- of a pool, which completes its call
 
@@ -465,9 +415,8 @@ turn_takes laws workers x moment object (operations.RwMutex call) (states.RwMute
     rw_due_takes laws.rw_mutexes due x moment object m is.0
     (both_due (RwAt (rw.place_of m x)) Answered due (rw_at call (rw.place_of m x)) (rw_answers laws.rw_mutexes.answered call m x moment (omega (arith, below, is.1))))
 turn_takes laws workers x moment object (operations.WaitGroup call) (states.WaitGroup g first) below is =
-    let due = group_due call (group.place_of g x) in
-    group_due_takes laws.groups due x moment object first g
-    (both_due (GroupAt (group_standing.waits_at g x)) (GroupAnswer g x moment) due (group_at call (group.place_of g x)) (group_answers laws.groups.uses call g x moment (omega (arith, below, is))))
+    forward x (states.WaitGroup g first) (turn_on (operations.WaitGroup call) x moment (states.WaitGroup g first)) (items_on (operations.WaitGroup call) x moment object (states.WaitGroup g first)) (stage_forward events.WaitGroup answered.WaitGroup (λ e r. refl) group.next group_event x moment object (group_turn call g x) g) refl
+    (kind_leaves group.next group_event group_meaning group.callers_of group_turn group_behind GroupFits group_from group_left laws.groups (λ done. replies.Returned) call x moment g (omega (arith, below, is)) (λ n. Unit {0}) tt).1
 turn_takes laws workers x moment object operations.OnceFunc (states.OnceFunc o code) below is =
     forward x (states.OnceFunc o code) (turn_on operations.OnceFunc x moment (states.OnceFunc o code)) (items_on operations.OnceFunc x moment object (states.OnceFunc o code)) (once_forward events.OnceFunc answered.OnceFunc (λ e r. refl) x moment object code o) refl
     (once_own_takes laws.giving (replies.OnceFunc (failure code)) (λ kept. replies.OnceFunc (failure kept)) code x moment o (omega (arith, below, is)))

@@ -50,6 +50,7 @@ use Rattle.step_runner.specs.Left.{mutex_waits, cond_left}
 use Rattle.step_runner.specs.Recorded.{recorded}
 use Rattle.step_runner.specs.Tells.{Tells}
 use Rattle.step_runner.specs.MachinesStand.{MutexStands, CondStands}
+use Rattle.step_runner.proofs.KindTurns.{Behind}
 use Rattle.step_runner.proofs.SpellingLaws.{may}
 use Rattle.step_runner.proofs.Refuted.{no}
 use Rattle.step_runner.proofs.MutexSpelled.{mutex_made}
@@ -85,16 +86,14 @@ more_first plan old behind new first made (answers.Completed reply) on told = on
 more_first plan old behind new first made (answers.Misused misuse) on told = on (made ∷ []) _ told
 
 -- what an answer leaves
-abbrev pub CondBehind : CondCall → ℕ → notify.NotifyState → mutex.State → Answer → Type 0
-CondBehind cond_calls.Wait x c m answers.Still = has_ticket c x ≡ true → mutex.place_of m x ≡ mutex_place.Out
-CondBehind cond_calls.Wait x c m answers.Unfinished = has_ticket c x ≡ true → mutex.place_of m x ≡ mutex_place.Out
-CondBehind call x c m (answers.Misused misuse) = Unit {0}
-CondBehind call x c m answer = has_ticket c x ≡ false
-
 -- where a worker stands before a call of the cond
 abbrev pub CondStandsAt : ℕ → CondCall → notify.NotifyState → mutex.State → Type 0
 CondStandsAt x cond_calls.Wait c m = has_ticket c x ≡ true → mutex.place_of m x ≡ mutex_place.Out
 CondStandsAt x call c m = has_ticket c x ≡ false
+
+-- and where it stands behind its turn
+abbrev pub CondBehind : CondCall → ℕ → notify.NotifyState → mutex.State → Answer → Type 0
+CondBehind call x c m a = Behind (CondStandsAt x call c m) (has_ticket c x ≡ false) a
 
 module _ (law : MutexStands) (cond_law : CondStands) (plan : Plan) (place other worker moment : ℕ) where
   abbrev cond_made : CondStage → NotifyReply → Made

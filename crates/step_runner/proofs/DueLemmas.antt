@@ -6,8 +6,6 @@ use Rattle.sync_types.specs.declared.lock_call.MutexCall.{MutexCall}
 use Rattle.sync_types.specs.declared.lock_call.MutexCall.TheVariants as mutex_calls
 use Rattle.sync_types.specs.declared.lock_call.RwMutexCall.{RwMutexCall}
 use Rattle.sync_types.specs.declared.lock_call.RwMutexCall.TheVariants as rw_calls
-use Rattle.sync_types.specs.declared.wait_call.WaitGroupCall.{WaitGroupCall}
-use Rattle.sync_types.specs.declared.wait_call.WaitGroupCall.TheVariants as group_calls
 use Rattle.mutex_core.specs.MutexMachine as mutex
 use Rattle.mutex_core.specs.Standing as mutex_standing
 use Rattle.mutex_core.specs.declared.event.MutexEvent.{MutexEvent}
@@ -18,25 +16,18 @@ use Rattle.rw_core.specs.Standing as rw_standing
 use Rattle.rw_core.specs.declared.event.RwEvent.{RwEvent}
 use Rattle.rw_core.specs.declared.place.Place.{Place as RwPlace}
 use Rattle.rw_core.specs.declared.place.Place.TheVariants as rw_place
-use Rattle.wait_cores.specs.GroupMachine as group
-use Rattle.wait_cores.specs.GroupStanding as group_standing
 use Rattle.wait_cores.specs.OnceMachine as once
 use Rattle.wait_cores.specs.OnceStanding as once_standing
-use Rattle.wait_cores.specs.declared.group.GroupPlace.{GroupPlace}
-use Rattle.wait_cores.specs.declared.group.GroupPlace.TheVariants as group_place
-use Rattle.wait_cores.specs.declared.group.GroupReply.TheVariants as group_reply
 use Rattle.wait_cores.specs.declared.once.OncePlace.{OncePlace}
 use Rattle.wait_cores.specs.declared.once.OncePlace.TheVariants as once_place
 use Rattle.wait_cores.specs.declared.once.OnceReply.TheVariants as once_reply
-use Rattle.protocols.specs.GroupStages.{group_event}
 use Rattle.protocols.specs.MutexStages.{mutex_event}
 use Rattle.protocols.specs.OnceStages.{once_event}
 use Rattle.protocols.specs.RwMutexStages.{rw_event}
 use Rattle.protocols.specs.declared.mutex.MutexStage.{MutexStage}
 use Rattle.protocols.specs.declared.once.OnceStage.{OnceStage}
-use Rattle.protocols.specs.declared.wait_group.GroupStage.{GroupStage}
-use Rattle.step_runner.specs.Due.{mutex_due, rw_due, group_due, once_due}
-use Rattle.step_runner.specs.MachinesStand.{GroupUses, OnceUses}
+use Rattle.step_runner.specs.Due.{mutex_due, rw_due, once_due}
+use Rattle.step_runner.specs.MachinesStand.{OnceUses}
 
 -- what is so of the stage that is due, if one is
 abbrev pub OfDue : {G : Type 0} → (G → Type 0) → Option G → Type 0
@@ -99,29 +90,6 @@ pub rw_answers : RwAnswered → (call : RwMutexCall) (m : rw.State) (c now : ℕ
 rw_answers law call m c now below =
     each_due (λ stage. rw.is_needed (rw_event stage now) (rw.place_of m c) ≡ true) (λ stage. rw_standing.is_answer (rw_event stage now) (rw.next m c (rw_event stage now)).1 ≡ true) (rw_due call (rw.place_of m c))
     (λ stage needed. law m c (rw_event stage now) (ap (λ b. b && rw.is_needed (rw_event stage now) (rw.place_of m c)) (lt-ltb c m.callers below) ∙ needed)) (rw_needed call (rw.place_of m c) now)
-
--- ---- of a wait group
-
-group_needed : (call : WaitGroupCall) (p : GroupPlace) (now : ℕ) → OfDue (λ stage. group_standing.is_needed (group_event stage now) p ≡ true) (group_due call p)
-group_needed (group_calls.Add delta) p now = refl
-group_needed group_calls.Done p now = refl
-group_needed group_calls.Wait group_place.Out now = refl
-group_needed group_calls.Wait group_place.Waiting now = tt
-group_needed group_calls.Wait group_place.Released now = refl
-
--- the answer is one to the event, and not `Still`
-abbrev pub GroupAnswer : group.GroupState → ℕ → ℕ → GroupStage → Type 0
-GroupAnswer g c now stage =
-    let r = (group.next g c (group_event stage now)).1 in
-    (group_standing.answers (group_standing.waits_at g c) (group_event stage now) r ≡ true) × (r ≢ group_reply.Still)
-
-pub group_answers : GroupUses → (call : WaitGroupCall) (g : group.GroupState) (c now : ℕ) → c < group.callers_of g → OfDue (GroupAnswer g c now) (group_due call (group.place_of g c))
-group_answers law call g c now below =
-    each_due (λ stage. group_standing.is_needed (group_event stage now) (group.place_of g c) ≡ true) (GroupAnswer g c now) (group_due call (group.place_of g c))
-    (λ stage needed. (
-      law.answers g c (group_event stage now) below,
-      law.made g c (group_event stage now) (ap (λ b. b && group_standing.is_needed (group_event stage now) (group.place_of g c)) (lt-ltb c (group.callers_of g) below) ∙ needed),
-    )) (group_needed call (group.place_of g c) now)
 
 -- ---- of a once
 

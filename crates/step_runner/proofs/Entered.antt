@@ -1,6 +1,6 @@
 -- How a worker enters its next call, which is then all left to be spelt; and that whatever is left can be spelt.
 use Rattle.std.proofs.Common.{◌≡◌, ◌≢◌, ℕ, ℤ, Bool, true, false, eqb, List, map, Option, Some, None, refl, sym, ap, ◌∙◌, subst}
-use Rattle.std.specs.Prelude.{slice_get, pos}
+use Rattle.std.specs.Prelude.{slice_get, pos, if◌then◌else◌}
 use Rattle.std.specs.Option.{option_map}
 use Rattle.std.proofs.lemmas.Bool.{eqb-true, eqb-false}
 use Rattle.std.proofs.lemmas.Option.{slice_get-map}
@@ -23,6 +23,7 @@ use Rattle.wait_cores.specs.GroupStanding as group_standing
 use Rattle.wait_cores.specs.NotifyStanding.{has_ticket}
 use Rattle.wait_cores.specs.OnceStanding as once_standing
 use Rattle.wait_cores.specs.declared.group.GroupEvent.TheVariants as group_event
+use Rattle.protocols.specs.declared.wait_group.GroupStage.TheVariants as group_stage
 use Rattle.protocols.specs.OnceStages.{once_event, once_meaning}
 use Rattle.protocols.specs.Spelling.{CallAnswer}
 use Rattle.run_record.specs.AtomicKind.{adds}
@@ -82,7 +83,7 @@ new_idle laws x workers room (kinds.Atomic kind) = tt
 new_idle laws x workers room kinds.Mutex = tt
 new_idle laws x workers room kinds.RwMutex = tt
 new_idle laws x workers room (kinds.Cond place) = laws.tickets workers x
-new_idle laws x workers room (kinds.WaitGroup first) = new_group laws.groups x workers first
+new_idle laws x workers room (kinds.WaitGroup first) = ap (λ (b : Bool). if b then Some group_stage.Leave else None) (new_group laws.groups x workers first)
 new_idle laws x workers room (kinds.Once place delta) = laws.adding workers x
 new_idle laws x workers room (kinds.OnceFunc code) = laws.giving workers x
 new_idle laws x workers room (kinds.OnceValue value) = laws.giving workers x

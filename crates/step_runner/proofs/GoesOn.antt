@@ -32,7 +32,6 @@ use Rattle.mutex_core.specs.MutexMachine as mutex
 use Rattle.rw_core.specs.RwMachine as rw
 use Rattle.rw_core.specs.declared.event.RwEvent.{RwEvent}
 use Rattle.rw_core.specs.declared.reply.RwReply.{RwReply}
-use Rattle.wait_cores.specs.GroupStanding as group_standing
 use Rattle.wait_cores.specs.NotifyStanding.{has_ticket}
 use Rattle.wait_cores.specs.OnceStanding as once_standing
 use Rattle.wait_cores.specs.declared.once.OnceEvent.{OnceEvent}
@@ -52,7 +51,7 @@ use Rattle.protocols.specs.declared.pool.PoolStage.TheVariants as pool_stage
 use Rattle.protocols.specs.declared.rw_mutex.RwMutexStage.{RwMutexStage}
 use Rattle.protocols.specs.declared.rw_mutex.RwMutexStage.TheVariants as rw_stage
 use Rattle.protocols.specs.declared.step.Step.{Step}
-use Rattle.protocols.specs.declared.wait_group.GroupStage.TheVariants as group_stage
+use Rattle.protocols.specs.declared.wait_group.GroupStage.{GroupStage}
 use Rattle.run_record.specs.AtomicKind.{adds}
 use Rattle.run_record.specs.MapKind.{cursor_showing}
 use Rattle.run_record.specs.MutexKind.{mutex_stage as mutex_first}
@@ -63,7 +62,7 @@ use Rattle.run_record.specs.PoolKind as record_pool
 use Rattle.run_record.specs.Record.{object_number}
 use Rattle.run_record.specs.RwMutexKind.{rw_part, write_part}
 use Rattle.run_record.specs.StartsKind.{go_call}
-use Rattle.run_record.specs.WaitGroupKind.{wait_group_stage, wait_group_call}
+use Rattle.run_record.specs.WaitGroupKind.{wait_group_part, wait_group_call}
 use Rattle.run_record.specs.declared.entered.ObjectEvent.{ObjectEvent}
 use Rattle.run_record.specs.declared.entered.ObjectEvent.TheVariants as events
 use Rattle.run_record.specs.declared.entered.ObjectReply.{ObjectReply}
@@ -74,6 +73,7 @@ use Rattle.workload.specs.Keys.{keys_in, key_number}
 use Rattle.workload.specs.Plan.{Plan, has_call, reference_of}
 use Rattle.step_runner.specs.declared.turns.object_state.ObjectState.{ObjectState}
 use Rattle.step_runner.specs.declared.turns.object_state.ObjectState.TheVariants as states
+use Rattle.step_runner.specs.Due.{group_behind, group_from}
 use Rattle.step_runner.specs.Objects.{kind_of}
 use Rattle.step_runner.specs.Ready.{IsReady}
 use Rattle.step_runner.specs.Left.{mutex_waits, rw_waits, rw_later, mutex_left, rw_left, group_left, cond_left, once_left, left_on, left_on_both, left_at}
@@ -125,22 +125,13 @@ rw_can : (object : ℕ) (call : RwMutexCall) (waits : Option RwMutexStage) → C
 rw_can object call (Some stage) = read_halts replies.Lock (stages events.RwMutex answered.RwMutex rw_event rw_meaning object (rw_later call stage)) (stage_halts events.RwMutex answered.RwMutex rw_event rw_meaning object (rw_later call stage))
 rw_can object call None = read_halts replies.Lock (rw_part object call) (rw_whole object call)
 
-group_whole : (object : ℕ) (call : WaitGroupCall) → CanHalt (wait_group_call object call)
-group_whole object call =
-    read_halts (λ done. replies.Returned) (stages events.WaitGroup answered.WaitGroup group_stages.group_event group_stages.group_meaning object (wait_group_stage call))
-    (stage_halts events.WaitGroup answered.WaitGroup group_stages.group_event group_stages.group_meaning object (wait_group_stage call))
-
-group_can : (object : ℕ) (call : WaitGroupCall) (waits : Bool) → CanHalt (group_left object call waits)
-group_can object group_calls.Wait true =
-    read_halts (λ done. replies.Returned) (stages events.WaitGroup answered.WaitGroup group_stages.group_event group_stages.group_meaning object group_stage.Leave)
-    (stage_halts events.WaitGroup answered.WaitGroup group_stages.group_event group_stages.group_meaning object group_stage.Leave)
-group_can object group_calls.Wait false = group_whole object group_calls.Wait
-group_can object (group_calls.Add delta) waits = group_whole object (group_calls.Add delta)
-group_can object group_calls.Done waits = group_whole object group_calls.Done
+group_can : (object : ℕ) (call : WaitGroupCall) (behind : Option GroupStage) → CanHalt (group_left object call behind)
+group_can object call behind =
+    read_halts (λ done. replies.Returned) (wait_group_part object (group_from call behind)) (stage_halts events.WaitGroup answered.WaitGroup group_stages.group_event group_stages.group_meaning object (group_from call behind))
 
 -- a `go`, whose `add` is refused
 pub go_can : (group starts worker : ℕ) → CanBe (go_call group starts worker)
-go_can group starts worker = halted (go_call group starts worker) (then_halts (wait_group_call group (group_calls.Add (pos 1))) _ (group_whole group (group_calls.Add (pos 1))))
+go_can group starts worker = halted (go_call group starts worker) (then_halts (wait_group_call group (group_calls.Add (pos 1))) _ (group_can group (group_calls.Add (pos 1)) None))
 
 pub cond_can : (object other : ℕ) (call : CondCall) (has waits : Bool) → CanHalt (cond_left object other call has waits)
 cond_can object other cond_calls.Wait has true = read_halts (λ locked. replies.Returned) (stages events.Mutex answered.Mutex mutex_event mutex_meaning other mutex_stage.Resume) (stage_halts events.Mutex answered.Mutex mutex_event mutex_meaning other mutex_stage.Resume)
@@ -180,7 +171,7 @@ module _ (plan : Plan) (x before place : ℕ) where
       (_, _, (_, (_, (atomic_replies.Done, places plan ((calls.Atomic (atomic_number plan.objects place) Load, shared.Atomic atomic_replies.Done) ∷ []), refl), refl), refl))
   on_can (operations.Mutex call) (states.Mutex m) has alone plain = halted (mutex_left (object_number place) call (mutex_waits (mutex.place_of m x))) (mutex_can (object_number place) call (mutex_waits (mutex.place_of m x)))
   on_can (operations.RwMutex call) (states.RwMutex m) has alone plain = halted (rw_left (object_number place) call (rw_waits (rw.place_of m x))) (rw_can (object_number place) call (rw_waits (rw.place_of m x)))
-  on_can (operations.WaitGroup call) (states.WaitGroup g first) has alone plain = halted (group_left (object_number place) call (group_standing.waits_at g x)) (group_can (object_number place) call (group_standing.waits_at g x))
+  on_can (operations.WaitGroup call) (states.WaitGroup g first) has alone plain = halted (group_left (object_number place) call (group_behind g x)) (group_can (object_number place) call (group_behind g x))
   on_can operations.OnceFunc (states.OnceFunc o code) has alone plain =
       halted (left_on plan x before place operations.OnceFunc (states.OnceFunc o code))
       (once_can events.OnceFunc answered.OnceFunc (object_number place) (returns code) (λ kept. replies.OnceFunc (failure kept)) (λ kept. replies.OnceFunc (failure kept)) code [] (refl, refl) (once_standing.runs_at o x) (once_standing.waits_at o x))

@@ -66,6 +66,7 @@ mod CondSpelled
 mod Entered
 mod GoesOn
 mod SpellingLaws
+mod KindTurns
 mod MutexSpelled
 mod OthersAt
 mod OthersKeep

@@ -18,7 +18,7 @@ use Rattle.wait_cores.specs.declared.notify.NotifyEvent.{NotifyEvent}
 use Rattle.wait_cores.specs.declared.group.GroupEvent.{GroupEvent}
 use Rattle.wait_cores.specs.declared.once.OnceEvent.{OnceEvent}
 use Rattle.pool_core.specs.declared.pool_event.PoolEvent.{PoolEvent}
-use Rattle.step_runner.specs.MachinesStand.{GroupUses, OnceUses}
+use Rattle.step_runner.specs.MachinesStand.{GroupTurns, OnceUses}
 
 -- ---- their states stay valid, and their callers the same
 
@@ -63,6 +63,6 @@ pub record Uses : Type 0 where
   pub mutexes : MutexUses
   pub rw_mutexes : RwUses
   pub conds : NotifyUses
-  pub groups : GroupUses
+  pub groups : GroupTurns
   pub adding : OnceUses ℤ
   pub giving : OnceUses ℕ

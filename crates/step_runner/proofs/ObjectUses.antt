@@ -17,7 +17,6 @@ use Rattle.sync_types.specs.declared.lock_call.MutexCall.{MutexCall}
 use Rattle.sync_types.specs.declared.lock_call.RwMutexCall.{RwMutexCall}
 use Rattle.sync_types.specs.declared.once_call.DoReply.TheVariants as do_replies
 use Rattle.sync_types.specs.declared.wait_call.CondCall.TheVariants as cond_calls
-use Rattle.sync_types.specs.declared.wait_call.WaitGroupCall.{WaitGroupCall}
 use Rattle.mutex_core.specs.EventsLeft as mutex_left
 use Rattle.mutex_core.specs.MutexMachine as mutex
 use Rattle.mutex_core.specs.Standing as mutex_standing
@@ -36,16 +35,13 @@ use Rattle.rw_core.specs.declared.reply.Resumption.TheVariants as rw_resumption
 use Rattle.rw_core.specs.declared.reply.RwReply.{RwReply}
 use Rattle.rw_core.specs.declared.reply.RwReply.TheVariants as rw_reply
 use Rattle.rw_core.specs.declared.reply.Unlocking.TheVariants as rw_unlocking
-use Rattle.wait_cores.specs.GroupEventsLeft.{group_left, group_used, group_given}
+use Rattle.wait_cores.specs.GroupEventsLeft.{group_left}
 use Rattle.wait_cores.specs.GroupMachine as group
-use Rattle.wait_cores.specs.GroupStanding as group_standing
 use Rattle.wait_cores.specs.NotifyEventsLeft.{notify_left, notify_used}
 use Rattle.wait_cores.specs.NotifyMachine as notify
 use Rattle.wait_cores.specs.OnceEventsLeft.{once_left, once_used, once_given}
 use Rattle.wait_cores.specs.OnceMachine as once
 use Rattle.wait_cores.specs.OnceStanding as once_standing
-use Rattle.wait_cores.specs.declared.group.GroupReply.{GroupReply}
-use Rattle.wait_cores.specs.declared.group.GroupReply.TheVariants as group_reply
 use Rattle.wait_cores.specs.declared.notify.NotifyEvent.TheVariants as notify_event
 use Rattle.wait_cores.specs.declared.notify.NotifyPlace.{NotifyPlace}
 use Rattle.wait_cores.specs.declared.notify.NotifyPlace.TheVariants as notify_place
@@ -64,15 +60,13 @@ use Rattle.protocols.specs.declared.once.OnceStage.TheVariants as once_stage
 use Rattle.protocols.specs.declared.rw_mutex.RwMutexStage.{RwMutexStage}
 use Rattle.protocols.specs.declared.rw_mutex.RwMutexStage.TheVariants as rw_stage
 use Rattle.protocols.specs.declared.step.Step.{Step}
-use Rattle.protocols.specs.declared.wait_group.GroupStage.{GroupStage}
-use Rattle.protocols.specs.declared.wait_group.GroupStage.TheVariants as group_stage
 use Rattle.run_record.specs.OnceKind.{failure}
 use Rattle.step_runner.specs.declared.turns.answer.Answer.{Answer}
 use Rattle.step_runner.specs.declared.turns.answer.Answer.TheVariants as answers
 use Rattle.step_runner.specs.declared.turns.object_state.ObjectState.{ObjectState}
 use Rattle.step_runner.specs.declared.turns.object_state.ObjectState.TheVariants as states
 use Rattle.step_runner.specs.Completes.{IsCompleted}
-use Rattle.step_runner.specs.Due.{mutex_due, rw_due, locked, group_due, returned, cond_due, waited, once_due, ran_or}
+use Rattle.step_runner.specs.Due.{mutex_due, rw_due, locked, group_turn, group_behind, GroupFits, group_from, cond_due, waited, once_due, ran_or}
 use Rattle.step_runner.specs.ObjectLeft.{object_left, UsesBy}
 use Rattle.step_runner.specs.Objects.{IsMachineOf}
 use Rattle.step_runner.specs.PoolTurn.{pool_step}
@@ -81,7 +75,8 @@ use Rattle.step_runner.specs.Stages.{outcome_of, make, answer_by}
 use Rattle.step_runner.specs.TurnAtObjects.{once_made, number_after, cond_turn, turn_on, turn_on_both, with_object, with_both, turn_at}
 use Rattle.step_runner.proofs.AtObjects.{at_ready}
 use Rattle.step_runner.proofs.CompletesLemmas.{pool_completes}
-use Rattle.step_runner.proofs.DueLemmas.{OfDue, each_due, OnceAnswer, mutex_answer, mutex_answers, rw_answers, group_answers, once_answers}
+use Rattle.step_runner.proofs.KindTurns.{kind_leaves}
+use Rattle.step_runner.proofs.DueLemmas.{OfDue, each_due, OnceAnswer, mutex_answer, mutex_answers, rw_answers, once_answers}
 use Rattle.step_runner.specs.MachinesStand.{OnceUses}
 use Rattle.step_runner.proofs.MachineLaws.{MutexUses, RwUses, Uses}
 use Rattle.step_runner.proofs.Makes.{make_by}
@@ -177,24 +172,6 @@ rw_leaves rw_stage.Behind now r old new is used = no is
 rw_leaves rw_stage.LeaveReading now rw_reply.Left old new is used = omega (arith, used)
 rw_leaves rw_stage.LeaveReading now r old new is used = no is
 
-group_leaves : (stage : GroupStage) (now : ℕ) (waits : Bool) (r : GroupReply) (old new : ℕ) → group_standing.answers waits (group_event stage now) r ≡ true → r ≢ group_reply.Still → new + group_used r ≤ old + group_given (group_event stage now) r
-    → Left 3 1 old new (outcome_of (group_meaning stage r))
-group_leaves (group_stage.Add delta) now waits group_reply.Done old new is made used = omega (arith, used)
-group_leaves (group_stage.Add delta) now waits (group_reply.Misused misuse) old new is made used = tt
-group_leaves (group_stage.Add delta) now waits r old new is made used = no is
-group_leaves group_stage.Done now waits group_reply.Done old new is made used = omega (arith, used)
-group_leaves group_stage.Done now waits (group_reply.Misused misuse) old new is made used = tt
-group_leaves group_stage.Done now waits r old new is made used = no is
-group_leaves group_stage.Wait now false group_reply.Done old new is made used = omega (arith, used)
-group_leaves group_stage.Wait now false group_reply.Queued old new is made used = omega (arith, used)
-group_leaves group_stage.Wait now false r old new is made used = no is
-group_leaves group_stage.Wait now true group_reply.Still old new is made used = absurd (made refl)
-group_leaves group_stage.Wait now true r old new is made used = no is
-group_leaves group_stage.Leave now waits group_reply.Done old new is made used = omega (arith, used)
-group_leaves group_stage.Leave now waits (group_reply.Misused misuse) old new is made used = tt
-group_leaves group_stage.Leave now waits group_reply.Still old new is made used = absurd (made refl)
-group_leaves group_stage.Leave now waits r old new is made used = no is
-
 -- the caller that is to run the function goes on with it, so that this outcome is less too
 abbrev OnceLeft : {T : Type 0} → ℕ → ℕ → Result (OnceOutcome T) Answer → Type 0
 OnceLeft old new (Ok Run) = new < old
@@ -271,13 +248,6 @@ rw_uses law call worker moment m below valid =
     made_uses rw.next rw_event rw_meaning worker moment rw_left.events_left m locked (λ outcome. tt) (λ n. states.RwMutex n ≡ states.RwMutex m) refl due
     (each_due _ _ due (λ stage is. rw_leaves stage moment (rw.next m worker (rw_event stage moment)).1 _ _ is (law.used m worker (rw_event stage moment) valid)) (rw_answers law.answered call m worker moment below))
 
-group_uses : Uses → (call : WaitGroupCall) (worker moment first : ℕ) (g : group.GroupState) → worker < group.callers_of g → ObjectUses (states.WaitGroup g first) (turn_on (operations.WaitGroup call) worker moment (states.WaitGroup g first))
-group_uses uses call worker moment first g below =
-    let due = group_due call (group.place_of g worker) in
-    made_uses group.next group_event group_meaning worker moment group_left g returned (λ outcome. tt) (λ h. states.WaitGroup h first ≡ states.WaitGroup g first) refl due
-    (each_due _ _ due (λ stage is. group_leaves stage moment (group_standing.waits_at g worker) (group.next g worker (group_event stage moment)).1 _ _ is.0 is.1 (uses.groups.used g worker (group_event stage moment)))
-    (group_answers uses.groups call g worker moment below))
-
 -- with whatever else it leaves, the same where no stage is due
 module _ {T : Type 0} (law : OnceUses T) (ran : Reply (List ℕ)) (had : T → Reply (List ℕ)) (worker moment : ℕ) (value : T) (o : once.OnceState T) (below : worker < once.callers_of o) where
   once_uses : (Same : once.OnceState T × Result (OnceOutcome T) Answer → Type 0) → Same (o, Err answers.Still) → let made = once_made worker moment value o in UsesBy (once_left o) (once_left made.0) (Same made) (answer_by (ran_or ran had) made.1)
@@ -300,7 +270,8 @@ turn_uses uses workers (operations.Composed (IfEqual value passes)) worker momen
 turn_uses uses workers (operations.Var call) worker moment (states.Var held) below is = omega arith
 turn_uses uses workers (operations.Mutex call) worker moment (states.Mutex m) below is = mutex_uses uses.mutexes call worker moment m (omega (arith, below, is.1)) is.0
 turn_uses uses workers (operations.RwMutex call) worker moment (states.RwMutex m) below is = rw_uses uses.rw_mutexes call worker moment m (omega (arith, below, is.1)) is.0
-turn_uses uses workers (operations.WaitGroup call) worker moment (states.WaitGroup g first) below is = group_uses uses call worker moment first g (omega (arith, below, is))
+turn_uses uses workers (operations.WaitGroup call) worker moment (states.WaitGroup g first) below is =
+    (kind_leaves group.next group_event group_meaning group.callers_of group_turn group_behind GroupFits group_from group_left uses.groups (λ done. replies.Returned) call worker moment g (omega (arith, below, is)) (λ h. states.WaitGroup h first ≡ states.WaitGroup g first) refl).0
 turn_uses uses workers operations.OnceFunc worker moment (states.OnceFunc o code) below is =
     once_uses uses.giving (replies.OnceFunc (failure code)) (λ kept. replies.OnceFunc (failure kept)) worker moment code o (omega (arith, below, is)) (λ made. states.OnceFunc made.0 code ≡ states.OnceFunc o code) refl
 turn_uses uses workers operations.OnceValue worker moment (states.OnceValue o value) below is =

@@ -29,7 +29,6 @@ use Rattle.rw_core.specs.declared.place.Place.TheVariants as rw_place
 use Rattle.wait_cores.specs.NotifyMachine as notify
 use Rattle.wait_cores.specs.NotifyStanding.{has_ticket}
 use Rattle.wait_cores.specs.GroupMachine as group
-use Rattle.wait_cores.specs.GroupStanding as group_standing
 use Rattle.wait_cores.specs.OnceMachine as once
 use Rattle.wait_cores.specs.OnceStanding as once_standing
 use Rattle.protocols.specs.CondStages.{cond_event, cond_meaning}
@@ -51,7 +50,7 @@ use Rattle.run_record.specs.declared.entered.ObjectReply.TheVariants as answered
 use Rattle.workload.specs.Plan.{Plan}
 use Rattle.step_runner.specs.declared.turns.object_state.ObjectState.{ObjectState}
 use Rattle.step_runner.specs.declared.turns.object_state.ObjectState.TheVariants as states
-use Rattle.step_runner.specs.Due.{mutex_due, rw_due, group_due, cond_due, once_due}
+use Rattle.step_runner.specs.Due.{mutex_due, rw_due, group_turn, group_behind, cond_due, once_due}
 use Rattle.step_runner.specs.Objects.{IsMachineOf}
 use Rattle.step_runner.specs.Stages.{make}
 use Rattle.step_runner.specs.TurnAtObjects.{once_made, turn_on, turn_on_both}
@@ -133,7 +132,7 @@ Same x (states.Atomic m) (states.Atomic n) = Unit {0}
 Same x (states.Mutex m) (states.Mutex n) = mutex_waits (mutex.place_of n x) ≡ mutex_waits (mutex.place_of m x)
 Same x (states.RwMutex m) (states.RwMutex n) = (rw_waits (rw.place_of n x) ≡ rw_waits (rw.place_of m x)) × ((call : RwMutexCall) → StandsAtRw call x m → StandsAtRw call x n)
 Same x (states.Cond m place) (states.Cond n other) = (has_ticket n x ≡ has_ticket m x) × (other ≡ place)
-Same x (states.WaitGroup m first) (states.WaitGroup n other) = (group_standing.waits_at n x ≡ group_standing.waits_at m x) × (other ≡ first)
+Same x (states.WaitGroup m first) (states.WaitGroup n other) = (group_behind n x ≡ group_behind m x) × (other ≡ first)
 Same x (states.Once m place delta) (states.Once n other amount) = ((once_standing.runs_at n x ≡ once_standing.runs_at m x) × (once_standing.waits_at n x ≡ once_standing.waits_at m x)) × ((other ≡ place) × (amount ≡ delta))
 Same x (states.OnceFunc m code) (states.OnceFunc n other) = ((once_standing.runs_at n x ≡ once_standing.runs_at m x) × (once_standing.waits_at n x ≡ once_standing.waits_at m x)) × (other ≡ code)
 Same x (states.OnceValue m value) (states.OnceValue n other) = ((once_standing.runs_at n x ≡ once_standing.runs_at m x) × (once_standing.waits_at n x ≡ once_standing.waits_at m x)) × (other ≡ value)
@@ -194,7 +193,7 @@ module _ (laws : Laws) (x by moment : ℕ) (apart : x ≢ by) where
       made_kept rw.next rw_stages.rw_event rw_stages.rw_meaning by moment (λ n. (rw_waits (rw.place_of n x) ≡ rw_waits (rw.place_of m x)) × ((call : RwMutexCall) → StandsAtRw call x m → StandsAtRw call x n)) (rw_due call (rw.place_of m by)) m
       (refl, λ call stands. stands) (λ e. (rw_same e (rw.place_of m x) (rw.place_of (rw.next m by e).0 x) (laws.machines.rw_mutexes.others m x by e is.0 apart), sides m e is.0))
   turn_same workers (operations.WaitGroup call) (states.WaitGroup g first) is =
-      (made_kept group.next group_event group_meaning by moment (λ n. group_standing.waits_at n x ≡ group_standing.waits_at g x) (group_due call (group.place_of g by)) g refl (λ e. laws.machines.groups.others g x by e apart), refl)
+      (made_kept group.next group_event group_meaning by moment (λ n. group_behind n x ≡ group_behind g x) (group_turn call g by) g refl (λ e. laws.machines.groups.others g x by e apart), refl)
   turn_same workers operations.OnceFunc (states.OnceFunc o code) is = (once_same laws.machines.giving code o, refl)
   turn_same workers operations.OnceValue (states.OnceValue o value) is = (once_same laws.machines.giving value o, refl)
   turn_same workers (operations.Pool call) (states.Pool p) is = tt

@@ -1,5 +1,5 @@
 -- Each call is spelt by some items.
-use Rattle.std.proofs.Common.{◌≡◌, ◌≢◌, ℕ, ℤ, zero, suc, ◌*◌, ◌<◌, Bool, true, false, List, [], ◌∷◌, ◌++◌, map, Option, Some, None, refl, sym, ◌∙◌, arith}
+use Rattle.std.proofs.Common.{◌≡◌, ◌≢◌, ℕ, ℤ, zero, suc, ◌*◌, ◌<◌, List, [], ◌∷◌, ◌++◌, map, Option, Some, None, refl, sym, ◌∙◌, arith}
 use Rattle.std.specs.Prelude.{slice_get}
 use Rattle.std.specs.List.{range_with_len}
 use Rattle.sync_model.specs.declared.item.SharedCall.{SharedCall}
@@ -19,7 +19,6 @@ use Rattle.sync_types.specs.declared.lock_call.RwMutexCall.TheVariants as rw_cal
 use Rattle.sync_types.specs.declared.pool_call.PoolCall.TheVariants as pool_calls
 use Rattle.sync_types.specs.declared.wait_call.CondCall.TheVariants as cond_calls
 use Rattle.sync_types.specs.declared.wait_call.WaitGroupCall.TheVariants as group_calls
-use Rattle.wait_cores.specs.GroupStanding.{waits_at}
 use Rattle.workload.specs.declared.object.ObjectKind.{ObjectKind}
 use Rattle.workload.specs.declared.object.ObjectKind.TheVariants as kinds
 use Rattle.workload.specs.declared.object.ObjectLine.{ObjectLine}
@@ -32,12 +31,11 @@ use Rattle.run_record.specs.AtomicKind.{atomic_call}
 use Rattle.run_record.specs.Calls.{call_on, call_at, SpellsCall}
 use Rattle.run_record.specs.Parts.{Part, and_then, read_as, stages, Places}
 use Rattle.run_record.specs.PoolKind.{found_by, swept_by}
-use Rattle.run_record.specs.Record.{object_number}
 use Rattle.run_record.specs.RwMutexKind.{write_part, rw_part}
 use Rattle.run_record.specs.Tests.{tests, waits_for}
 use Rattle.step_runner.specs.declared.turns.object_state.ObjectState.{ObjectState}
 use Rattle.step_runner.specs.declared.turns.object_state.ObjectState.TheVariants as states
-use Rattle.step_runner.specs.Left.{group_left, left_on, left_beside, left_by, left_found}
+use Rattle.step_runner.specs.Left.{left_on, left_beside, left_by, left_found}
 use Rattle.step_runner.specs.Objects.{kind_of}
 use Rattle.step_runner.specs.StandsWithin.{left_within}
 use Rattle.step_runner.specs.TurnWithin.{done_on}
@@ -183,16 +181,12 @@ module _ (plan : Plan) (worker before group : ℕ) (objects : List ObjectState) 
   abbrev done : Operation
   done = operations.WaitGroup group_calls.Done
 
-  left_at_group : (waits : Bool) → Makes (group_left (object_number group) group_calls.Done waits)
-  left_at_group true = read_makes _ _ (stages_make _ _ _ _ _ _)
-  left_at_group false = read_makes _ _ (stages_make _ _ _ _ _ _)
-
   left_beside_none : (o : ObjectState) (other : ℕ) (target : Option ObjectState) → Makes (left_beside plan worker before (done_on group) other o target)
   left_beside_none o other None items answer never = absurd never
   left_beside_none o other (Some target) items answer never = absurd never
 
   left_on_some : (o : ObjectState) → Makes (left_on plan worker before group done o)
-  left_on_some (states.WaitGroup g first) = left_at_group (waits_at g worker)
+  left_on_some (states.WaitGroup g first) = read_makes _ _ (stages_make _ _ _ _ _ _)
   left_on_some o = λ items answer never. absurd never
 
   left_by_some : (reference : Option ℕ) (o : ObjectState) → Makes (left_by plan worker before (done_on group) reference objects o)

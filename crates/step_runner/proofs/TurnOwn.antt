@@ -17,15 +17,16 @@ use Rattle.script_calls.specs.declared.call.Reply.TheVariants as replies
 use Rattle.sync_types.specs.declared.once_call.DoReply.TheVariants as do_replies
 use Rattle.sync_types.specs.declared.wait_call.CondCall.{CondCall}
 use Rattle.sync_types.specs.declared.wait_call.CondCall.TheVariants as cond_calls
-use Rattle.sync_types.specs.declared.wait_call.WaitGroupCall.{WaitGroupCall}
 use Rattle.mutex_core.specs.MutexMachine as mutex
 use Rattle.rw_core.specs.RwMachine as rw
 use Rattle.wait_cores.specs.NotifyMachine as notify
+use Rattle.wait_cores.specs.GroupEventsLeft.{group_left}
 use Rattle.wait_cores.specs.GroupMachine as group
 use Rattle.wait_cores.specs.OnceMachine as once
 use Rattle.wait_cores.specs.OnceStanding as once_standing
 use Rattle.wait_cores.specs.declared.once.OnceEvent.{OnceEvent}
 use Rattle.wait_cores.specs.declared.once.OnceReply.{OnceReply}
+use Rattle.protocols.specs.GroupStages.{group_event, group_meaning}
 use Rattle.protocols.specs.OnceStages.{once_event}
 use Rattle.protocols.specs.declared.once.OnceOutcome.{OnceOutcome}
 use Rattle.protocols.specs.declared.once.OnceOutcome.TheVariants.{Run, Already, Ended}
@@ -58,40 +59,26 @@ use Rattle.step_runner.specs.TurnAtObjects.{once_made, turn_on, turn_on_both}
 use Rattle.step_runner.specs.Left.{left_on, left_on_both}
 use Rattle.step_runner.specs.Recorded.{recorded, made_shared, shared_calls, recorded_event, made_on}
 use Rattle.step_runner.specs.Tells.{Tells}
-use Rattle.step_runner.specs.Within.{IsIdle, IsOutOfOnce, StandsAtOnce, StandsOn, StandsOnBoth}
+use Rattle.step_runner.specs.Within.{IsIdle, StandsAtOnce, StandsOn, StandsOnBoth}
 use Rattle.step_runner.proofs.CondSpelled.{CondBehind, CondStandsAt, cond_tells}
 use Rattle.step_runner.proofs.SpellingLaws.{Laws}
+use Rattle.step_runner.proofs.KindTurns.{Behind, kind_tells}
 use Rattle.step_runner.proofs.MutexSpelled.{mutex_tells}
 use Rattle.step_runner.proofs.PlacedSpelled.{places, range_sorted}
 use Rattle.step_runner.proofs.PoolSpelled.{pool_whole, whole_tells}
 use Rattle.step_runner.proofs.RwSpelled.{rw_tells, stands_fit, stands_on}
-use Rattle.step_runner.proofs.WaitSpelled.{GroupBehind, group_tells, OnceBehind, before_end, due_made, once_tells}
+use Rattle.step_runner.proofs.WaitSpelled.{before_end, due_made, once_tells}
 use Rattle.step_runner.proofs.Refuted.{no}
 
 -- where the worker stands behind its turn, at the call's object
 abbrev pub BehindOn : Operation → ℕ → Answer → ObjectState → Type 0
-BehindOn operation x answers.Still o = StandsOn operation x o
-BehindOn operation x answers.Unfinished o = StandsOn operation x o
-BehindOn operation x (answers.Completed reply) o = IsIdle x o
-BehindOn operation x (answers.Misused misuse) o = Unit {0}
+BehindOn operation x a o = Behind (StandsOn operation x o) (IsIdle x o) a
 
 behind : (operation : Operation) (x : ℕ) (a : Answer) (o : ObjectState) → StandsOn operation x o → IsIdle x o → BehindOn operation x a o
 behind operation x answers.Still o stands idle = stands
 behind operation x answers.Unfinished o stands idle = stands
 behind operation x (answers.Completed reply) o stands idle = idle
 behind operation x (answers.Misused misuse) o stands idle = tt
-
-group_behind : (call : WaitGroupCall) (x first : ℕ) (g : group.GroupState) (a : Answer) → GroupBehind call x g a → BehindOn (operations.WaitGroup call) x a (states.WaitGroup g first)
-group_behind call x first g answers.Still is = is
-group_behind call x first g answers.Unfinished is = is
-group_behind call x first g (answers.Completed reply) is = is
-group_behind call x first g (answers.Misused misuse) is = tt
-
-once_behind : {T : Type 0} (operation : Operation) (x : ℕ) (o : once.OnceState T) (a : Answer) (new : ObjectState) → (StandsAtOnce x o → StandsOn operation x new) → (IsOutOfOnce o x → IsIdle x new) → OnceBehind x o a → BehindOn operation x a new
-once_behind operation x o answers.Still new stands idle is = stands is
-once_behind operation x o answers.Unfinished new stands idle is = stands is
-once_behind operation x o (answers.Completed reply) new stands idle is = idle is
-once_behind operation x o (answers.Misused misuse) new stands idle is = tt
 
 -- the items of a once's stage, in a record
 due_recorded : {T : Type 0} (event : OnceEvent T → ObjectEvent) (answer : OnceReply T → ObjectReply) (plan : Plan) (place worker moment before : ℕ) (stage : Option (OnceStage T)) (o : once.OnceState T)
@@ -128,16 +115,7 @@ go_alone o started has = no has
 
 -- where the worker stands behind its turn at two objects
 abbrev pub BehindBoth : Operation → ℕ → Answer → ObjectState → ObjectState → Type 0
-BehindBoth operation x answers.Still o target = StandsOnBoth operation x o target
-BehindBoth operation x answers.Unfinished o target = StandsOnBoth operation x o target
-BehindBoth operation x (answers.Completed reply) o target = IsIdle x o
-BehindBoth operation x (answers.Misused misuse) o target = Unit {0}
-
-once_behind_both : (at : ℕ) (delta : ℤ) (x : ℕ) (o : once.OnceState ℤ) (number : Number) (a : Answer) → OnceBehind x o a → BehindBoth operations.Once x a (states.Once o at delta) (states.Atomic number)
-once_behind_both at delta x o number answers.Still is = is
-once_behind_both at delta x o number answers.Unfinished is = is
-once_behind_both at delta x o number (answers.Completed reply) is = is
-once_behind_both at delta x o number (answers.Misused misuse) is = tt
+BehindBoth operation x a o target = Behind (StandsOnBoth operation x o target) (IsIdle x o) a
 
 cond_stands : (call : CondCall) (x at : ℕ) (c : notify.NotifyState) (m : mutex.State) → StandsOnBoth (operations.Cond call) x (states.Cond c at) (states.Mutex m) → CondStandsAt x call c m
 cond_stands cond_calls.Wait x at c m stands = stands
@@ -145,16 +123,9 @@ cond_stands cond_calls.Signal x at c m stands = stands
 cond_stands cond_calls.Broadcast x at c m stands = stands
 
 cond_behind : (call : CondCall) (x at : ℕ) (c : notify.NotifyState) (m : mutex.State) (a : Answer) → CondBehind call x c m a → BehindBoth (operations.Cond call) x a (states.Cond c at) (states.Mutex m)
-cond_behind cond_calls.Wait x at c m answers.Still is = is
-cond_behind cond_calls.Wait x at c m answers.Unfinished is = is
-cond_behind cond_calls.Wait x at c m (answers.Completed reply) is = is
-cond_behind cond_calls.Signal x at c m answers.Still is = is
-cond_behind cond_calls.Signal x at c m answers.Unfinished is = is
-cond_behind cond_calls.Signal x at c m (answers.Completed reply) is = is
-cond_behind cond_calls.Broadcast x at c m answers.Still is = is
-cond_behind cond_calls.Broadcast x at c m answers.Unfinished is = is
-cond_behind cond_calls.Broadcast x at c m (answers.Completed reply) is = is
-cond_behind call x at c m (answers.Misused misuse) is = tt
+cond_behind cond_calls.Wait x at c m a is = is
+cond_behind cond_calls.Signal x at c m a is = is
+cond_behind cond_calls.Broadcast x at c m a is = is
 
 -- an object that refers to another one, and has the call, is a cond with its mutex, or a once with its int64
 abbrev pub Pair : Operation → ObjectState → ObjectState → Type 0
@@ -189,7 +160,7 @@ module _ (laws : Laws) (plan : Plan) (worker before place moment : ℕ) where
       let step = turn_on operations.OnceFunc worker moment (states.OnceFunc o code) in (
         subst (λ (l : List Made). Tells plan (left_on plan worker before place operations.OnceFunc (states.OnceFunc o code)) (left_on plan worker (before + length (shared_in l)) place operations.OnceFunc step.0) l step.1)
             (nothing_first made.1 (due_made events.OnceFunc answered.OnceFunc place worker moment stage o) ∙ sym (due_recorded events.OnceFunc answered.OnceFunc plan place worker moment before stage o (λ e r. refl))) told.0,
-        once_behind operations.OnceFunc worker made.0 step.1 step.0 (λ stands. stands) (λ idle. idle) told.1,
+        told.1,
       )
 
   value_own : (o : once.OnceState ℕ) (value : ℕ) → StandsAtOnce worker o → worker < once.callers_of o → OwnTurn operations.OnceValue (states.OnceValue o value)
@@ -201,7 +172,7 @@ module _ (laws : Laws) (plan : Plan) (worker before place moment : ℕ) where
       let step = turn_on operations.OnceValue worker moment (states.OnceValue o value) in (
         subst (λ (l : List Made). Tells plan (left_on plan worker before place operations.OnceValue (states.OnceValue o value)) (left_on plan worker (before + length (shared_in l)) place operations.OnceValue step.0) l step.1)
             (nothing_first made.1 (due_made events.OnceValue answered.OnceValue place worker moment stage o) ∙ sym (due_recorded events.OnceValue answered.OnceValue plan place worker moment before stage o (λ e r. refl))) told.0,
-        once_behind operations.OnceValue worker made.0 step.1 step.0 (λ stands. stands) (λ idle. idle) told.1,
+        told.1,
       )
 
   pub turn_own : (operation : Operation) (o : ObjectState) → has_call (kind_of o) operation ≡ true → reference_of (kind_of o) ≡ None → worker < plan.workers → IsMachineOf plan.workers o → HasObjectKeysIn (all_keys plan.scripts) o
@@ -229,9 +200,8 @@ module _ (laws : Laws) (plan : Plan) (worker before place moment : ℕ) where
         behind (operations.RwMutex call) worker step.1 step.0 (stands_on laws.machines.mutexes call worker moment (rw.place_of m worker) m fits is.0 stands) tt,
       )
   turn_own (operations.WaitGroup call) (states.WaitGroup g first) has alone below is keys out stands plain =
-      let step = turn_on (operations.WaitGroup call) worker moment (states.WaitGroup g first) in
-      let told = group_tells laws.machines.groups plan place worker moment before call (group.place_of g worker) g refl stands (omega (arith, below, is)) in
-      (told.0, group_behind call worker first _ step.1 told.1)
+      kind_tells group.next group_event group_meaning group.callers_of due.group_turn due.group_behind due.GroupFits due.group_from group_left laws.machines.groups (λ done. replies.Returned) call worker moment g (omega (arith, below, is))
+      events.WaitGroup answered.WaitGroup plan place (λ done. replies.Returned) (λ done. refl) (λ e r. refl) before stands
   turn_own operations.OnceFunc (states.OnceFunc o code) has alone below is keys out stands plain = func_own o code stands (omega (arith, below, is))
   turn_own operations.OnceValue (states.OnceValue o value) has alone below is keys out stands plain = value_own o value stands (omega (arith, below, is))
   turn_own (operations.Pool call) (states.Pool p) has alone below is keys out stands plain =
@@ -281,7 +251,7 @@ module _ (laws : Laws) (plan : Plan) (worker before place moment : ℕ) where
       let step = turn_on_both operations.Once worker moment (states.Once o at delta) (states.Atomic (Int64 held)) in (
         subst (λ (l : List Made). Tells plan (left_on_both plan worker before place other operations.Once (states.Once o at delta) (states.Atomic (Int64 held))) (left_on_both plan worker (before + length (shared_in l)) place other operations.Once step.0.0 step.0.1) l step.1)
             (sum_recorded other delta held made.1 stage o) told.0,
-        (once_behind_both at delta worker made.0 _ step.1 told.1, tt),
+        (told.1, tt),
       )
 
   pub both_own : (other : ℕ) (operation : Operation) (o target : ObjectState) → has_call (kind_of o) operation ≡ true → is_target (kind_of o) (kind_of target) ≡ true → worker < plan.workers → IsMachineOf plan.workers o

@@ -1,19 +1,10 @@
--- A turn at a wait group, and at a once, spells its stage.
+-- A turn at a once spells its stage.
 use Rattle.std.proofs.Common.{◌≡◌, ◌≢◌, ℕ, ◌<◌, Bool, true, false, List, [], ◌∷◌, ◌++◌, refl, sym, ap, ◌∙◌, subst}
 use Rattle.std.specs.Prelude.{Result, Ok, slice_get, unwrap_or, Option, Some, None}
 use Rattle.sync_model.specs.declared.answer.Answer.TheVariants.{Done}
 use Rattle.script_calls.specs.declared.call.Reply.{Reply}
-use Rattle.script_calls.specs.declared.call.Reply.TheVariants as replies
-use Rattle.sync_types.specs.declared.wait_call.WaitGroupCall.{WaitGroupCall}
-use Rattle.sync_types.specs.declared.wait_call.WaitGroupCall.TheVariants as group_calls
-use Rattle.wait_cores.specs.GroupMachine as group
-use Rattle.wait_cores.specs.GroupStanding as group_standing
 use Rattle.wait_cores.specs.OnceMachine as once
 use Rattle.wait_cores.specs.OnceStanding as once_standing
-use Rattle.wait_cores.specs.declared.group.GroupPlace.{GroupPlace}
-use Rattle.wait_cores.specs.declared.group.GroupPlace.TheVariants as group_place
-use Rattle.wait_cores.specs.declared.group.GroupReply.{GroupReply}
-use Rattle.wait_cores.specs.declared.group.GroupReply.TheVariants as group_reply
 use Rattle.wait_cores.specs.declared.once.OnceEvent.{OnceEvent}
 use Rattle.wait_cores.specs.declared.once.OncePlace.{OncePlace}
 use Rattle.wait_cores.specs.declared.once.OncePlace.TheVariants as once_place
@@ -21,119 +12,31 @@ use Rattle.wait_cores.specs.declared.once.OnceProgress.{OnceProgress}
 use Rattle.wait_cores.specs.declared.once.OnceProgress.TheVariants.{NotRun, Running, Ended as HasEnded}
 use Rattle.wait_cores.specs.declared.once.OnceReply.{OnceReply}
 use Rattle.wait_cores.specs.declared.once.OnceReply.TheVariants as once_reply
-use Rattle.protocols.specs.GroupStages.{group_event, group_meaning}
 use Rattle.protocols.specs.OnceStages.{once_event, once_meaning}
 use Rattle.protocols.specs.Spelling.{CallAnswer}
 use Rattle.protocols.specs.declared.once.OnceOutcome.{OnceOutcome}
 use Rattle.protocols.specs.declared.once.OnceOutcome.TheVariants.{Run, Already, Ended}
 use Rattle.protocols.specs.declared.once.OnceStage.{OnceStage}
 use Rattle.protocols.specs.declared.once.OnceStage.TheVariants as once_stage
-use Rattle.protocols.specs.declared.wait_group.GroupStage.{GroupStage}
-use Rattle.protocols.specs.declared.wait_group.GroupStage.TheVariants as group_stage
-use Rattle.protocols.specs.declared.step.Step.{Step}
 use Rattle.protocols.specs.declared.step.Step.TheVariants.{Finished, Waits}
-use Rattle.run_record.specs.Parts.{Part, read_as, stages}
+use Rattle.run_record.specs.Parts.{Part, stages}
 use Rattle.run_record.specs.Record.{object_number}
 use Rattle.run_record.specs.declared.entered.ObjectEvent.{ObjectEvent}
-use Rattle.run_record.specs.declared.entered.ObjectEvent.TheVariants as events
 use Rattle.run_record.specs.declared.entered.ObjectReply.{ObjectReply}
-use Rattle.run_record.specs.declared.entered.ObjectReply.TheVariants as answered
 use Rattle.run_record.specs.declared.made.Made.{Made}
 use Rattle.workload.specs.Plan.{Plan}
 use Rattle.step_runner.specs.declared.turns.answer.Answer.{Answer}
-use Rattle.step_runner.specs.declared.turns.answer.Answer.TheVariants as answers
-use Rattle.step_runner.specs.Due.{group_due, returned, once_due, ran_or}
-use Rattle.step_runner.specs.Items.{stage_items}
+use Rattle.step_runner.specs.Due.{once_due, ran_or}
 use Rattle.step_runner.specs.Stages.{outcome_of, make, answer_by}
-use Rattle.step_runner.specs.Left.{group_left, once_left}
-use Rattle.step_runner.specs.Recorded.{recorded_reply, recorded}
+use Rattle.step_runner.specs.Left.{once_left}
+use Rattle.step_runner.specs.Recorded.{recorded_reply}
 use Rattle.step_runner.specs.Tells.{Tells}
-use Rattle.step_runner.specs.Within.{IsOutOfOnce, StandsAtGroup, StandsAtOnce}
-use Rattle.step_runner.specs.MachinesStand.{GroupStands, OnceStands}
+use Rattle.step_runner.specs.Within.{IsOutOfOnce, StandsAtOnce}
+use Rattle.step_runner.specs.MachinesStand.{OnceStands}
 use Rattle.step_runner.proofs.SpellingLaws.{may}
+use Rattle.step_runner.proofs.KindTurns.{Behind}
 use Rattle.step_runner.proofs.Refuted.{no}
-use Rattle.step_runner.proofs.Spelled.{event_made, Continues, says, stage_tells}
-
--- ---- a wait group
-
--- what an answer leaves of where the worker stood
-abbrev pub GroupBehind : WaitGroupCall → ℕ → group.GroupState → Answer → Type 0
-GroupBehind call x g answers.Still = StandsAtGroup call x g
-GroupBehind call x g answers.Unfinished = StandsAtGroup call x g
-GroupBehind call x g (answers.Completed reply) = group_standing.waits_at g x ≡ false
-GroupBehind call x g (answers.Misused misuse) = Unit {0}
-
-module _ (law : GroupStands) (plan : Plan) (place worker moment : ℕ) where
-  abbrev GroupGoes : WaitGroupCall → Bool → Step GroupStage (Unit {0}) → Type 0
-  GroupGoes call waits step =
-      Continues events.WaitGroup answered.WaitGroup group_event group_meaning (object_number place) worker plan (λ done. replies.Returned) (λ done. replies.Returned) (λ done. refl) (group_left (object_number place) call waits) step
-
-  abbrev GroupTells : WaitGroupCall → GroupStage → Bool → group.GroupState → GroupReply → Type 0
-  GroupTells call stage w n r =
-      Tells plan (read_as (λ done. replies.Returned) (stages events.WaitGroup answered.WaitGroup group_event group_meaning (object_number place) stage)) (group_left (object_number place) call (group_standing.waits_at n worker))
-      (event_made events.WaitGroup answered.WaitGroup group_event group_meaning (object_number place) worker (group_event stage moment) r ∷ []) (answer_by returned (outcome_of (group_meaning stage r)))
-      × GroupBehind call worker n (answer_by returned (outcome_of (group_meaning stage r)))
-
-  abbrev Fits : WaitGroupCall → GroupStage → Bool → Type 0
-  Fits call (group_stage.Add delta) w = w ≡ false
-  Fits call group_stage.Done w = w ≡ false
-  Fits call group_stage.Wait w = (call ≡ group_calls.Wait) × (w ≡ false)
-  Fits call group_stage.Leave w = call ≡ group_calls.Wait
-
-  group_stage_tells : (call : WaitGroupCall) (stage : GroupStage) (n : group.GroupState) (r : GroupReply) → GroupGoes call (group_standing.waits_at n worker) (group_meaning stage r)
-      → Tells plan (read_as (λ done. replies.Returned) (stages events.WaitGroup answered.WaitGroup group_event group_meaning (object_number place) stage)) (group_left (object_number place) call (group_standing.waits_at n worker))
-      (event_made events.WaitGroup answered.WaitGroup group_event group_meaning (object_number place) worker (group_event stage moment) r ∷ []) (answer_by returned (outcome_of (group_meaning stage r)))
-  group_stage_tells call stage n r goes =
-      stage_tells events.WaitGroup answered.WaitGroup group_event group_meaning (object_number place) worker plan (λ done. replies.Returned) (λ done. replies.Returned) (λ done. refl) stage moment r (group_left (object_number place) call (group_standing.waits_at n worker)) goes
-
-  -- a wait that was queued leaves later
-  waits_on : (n : group.GroupState) → group_standing.waits_at n worker ≡ true → (rest : List Made) (given : CallAnswer (Reply ℕ)) → group_left (object_number place) group_calls.Wait (group_standing.waits_at n worker) rest given
-      → read_as (λ done. replies.Returned) (stages events.WaitGroup answered.WaitGroup group_event group_meaning (object_number place) group_stage.Leave) rest given
-  waits_on n waits rest given l = subst (λ (b : Bool). group_left (object_number place) group_calls.Wait b rest given) waits l
-
-  group_by : (call : WaitGroupCall) (stage : GroupStage) (w : Bool) (n : group.GroupState) (r : GroupReply) → Fits call stage w → group_standing.answers w (group_event stage moment) r ≡ true → r ≢ group_reply.Still
-      → group_standing.waits_at n worker ≡ group_standing.waits_after w (group_event stage moment) r → GroupTells call stage w n r
-  group_by call (group_stage.Add delta) w n group_reply.Done fits is made at = (group_stage_tells call (group_stage.Add delta) n group_reply.Done tt, at ∙ fits)
-  group_by call (group_stage.Add delta) w n (group_reply.Misused misuse) fits is made at = (group_stage_tells call (group_stage.Add delta) n (group_reply.Misused misuse) tt, tt)
-  group_by call (group_stage.Add delta) w n r fits is made at = no is
-  group_by call group_stage.Done w n group_reply.Done fits is made at = (group_stage_tells call group_stage.Done n group_reply.Done tt, at ∙ fits)
-  group_by call group_stage.Done w n (group_reply.Misused misuse) fits is made at = (group_stage_tells call group_stage.Done n (group_reply.Misused misuse) tt, tt)
-  group_by call group_stage.Done w n r fits is made at = no is
-  group_by call group_stage.Wait true n r fits is made at = no (sym fits.1)
-  group_by call group_stage.Wait false n group_reply.Done fits is made at = (group_stage_tells call group_stage.Wait n group_reply.Done tt, at)
-  group_by group_calls.Wait group_stage.Wait false n group_reply.Queued fits is made at = (group_stage_tells group_calls.Wait group_stage.Wait n group_reply.Queued (waits_on n at), tt)
-  group_by (group_calls.Add delta) group_stage.Wait false n group_reply.Queued fits is made at = let e = fits.0 in absurd cc
-  group_by group_calls.Done group_stage.Wait false n group_reply.Queued fits is made at = let e = fits.0 in absurd cc
-  group_by call group_stage.Wait false n r fits is made at = no is
-  group_by call group_stage.Leave w n group_reply.Done fits is made at = (group_stage_tells call group_stage.Leave n group_reply.Done tt, at)
-  group_by call group_stage.Leave w n (group_reply.Misused misuse) fits is made at = (group_stage_tells call group_stage.Leave n (group_reply.Misused misuse) tt, tt)
-  group_by call group_stage.Leave w n group_reply.Still fits is made at = absurd (made refl)
-  group_by call group_stage.Leave w n r fits is made at = no is
-
-  group_made : (call : WaitGroupCall) (stage : GroupStage) (g : group.GroupState) → Fits call stage (group_standing.waits_at g worker) → worker < group.callers_of g
-      → group_standing.is_needed (group_event stage moment) (group.place_of g worker) ≡ true
-      → let n = group.next g worker (group_event stage moment) in GroupTells call stage (group_standing.waits_at g worker) n.0 n.1
-  group_made call stage g fits below needed =
-      let e = group_event stage moment in
-      let n = group.next g worker e in
-      group_by call stage (group_standing.waits_at g worker) n.0 n.1 fits (law.uses.answers g worker e below)
-      (law.uses.made g worker e (may worker (group.callers_of g) (group_standing.is_needed e (group.place_of g worker)) below needed)) (law.own g worker e)
-
-  abbrev GroupTurn : ℕ → WaitGroupCall → GroupPlace → group.GroupState → Type 0
-  GroupTurn before call p g =
-      let made = make group.next group_event group_meaning worker moment (group_due call p) g in
-      Tells plan (group_left (object_number place) call (group_standing.is_in p)) (group_left (object_number place) call (group_standing.waits_at made.0 worker))
-      (recorded plan before (stage_items events.WaitGroup answered.WaitGroup group.next group_event worker moment place (group_due call p) g)) (answer_by returned made.1)
-      × GroupBehind call worker made.0 (answer_by returned made.1)
-
-  pub group_tells : (before : ℕ) (call : WaitGroupCall) (p : GroupPlace) (g : group.GroupState) → group.place_of g worker ≡ p → StandsAtGroup call worker g → worker < group.callers_of g → GroupTurn before call p g
-  group_tells before (group_calls.Add delta) p g at stands below = group_made (group_calls.Add delta) (group_stage.Add delta) g stands below refl
-  group_tells before group_calls.Done p g at stands below = group_made group_calls.Done group_stage.Done g stands below refl
-  group_tells before group_calls.Wait group_place.Out g at stands below =
-      group_made group_calls.Wait group_stage.Wait g (refl, ap group_standing.is_in at) below (ap (group_standing.is_needed (group_event group_stage.Wait moment)) at)
-  group_tells before group_calls.Wait group_place.Waiting g at stands below = (refl, stands)
-  group_tells before group_calls.Wait group_place.Released g at stands below =
-      group_made group_calls.Wait group_stage.Leave g refl below (ap (group_standing.is_needed (group_event group_stage.Leave moment)) at)
+use Rattle.step_runner.proofs.Spelled.{event_made, says}
 
 -- ---- a once
 
@@ -144,10 +47,7 @@ once_waits once_place.Released = true
 
 module _ {T : Type 0} where
   abbrev pub OnceBehind : ℕ → once.OnceState T → Answer → Type 0
-  OnceBehind x o answers.Still = StandsAtOnce x o
-  OnceBehind x o answers.Unfinished = StandsAtOnce x o
-  OnceBehind x o (answers.Completed reply) = IsOutOfOnce o x
-  OnceBehind x o (answers.Misused misuse) = Unit {0}
+  OnceBehind x o a = Behind (StandsAtOnce x o) (IsOutOfOnce o x) a
 
   waits_in : (progress : OnceProgress T) (w : Option Bool) → unwrap_or w false ≡ once_waits (once.place_in progress w)
   waits_in progress None = refl

@@ -1,5 +1,5 @@
 -- The stage that a worker's call is at, by where the worker stands at the object: none, where it waits and isn't told to go on. With it, what an outcome makes of the call.
-use Rattle.std.specs.Prelude.{ℕ, Bool, true, false, List, map, Option, Some, None, Result}
+use Rattle.std.specs.Prelude.{◌≡◌, ℕ, Bool, true, false, if◌then◌else◌, List, map, Option, Some, None, unwrap_or, Result}
 use Rattle.std.specs.List.{range_with_len}
 use Rattle.script_calls.specs.declared.call.Reply.{Reply}
 use Rattle.script_calls.specs.declared.call.Reply.TheVariants as replies
@@ -14,6 +14,8 @@ use Rattle.mutex_core.specs.declared.place.Place.{Place as MutexPlace}
 use Rattle.mutex_core.specs.declared.place.Place.TheVariants as mutex_place
 use Rattle.rw_core.specs.declared.place.Place.{Place as RwPlace}
 use Rattle.rw_core.specs.declared.place.Place.TheVariants as rw_place
+use Rattle.wait_cores.specs.GroupMachine.{GroupState, place_of}
+use Rattle.wait_cores.specs.GroupStanding.{waits_at}
 use Rattle.wait_cores.specs.declared.group.GroupPlace.{GroupPlace}
 use Rattle.wait_cores.specs.declared.group.GroupPlace.TheVariants as group_place
 use Rattle.wait_cores.specs.declared.notify.NotifyPlace.{NotifyPlace}
@@ -37,6 +39,7 @@ use Rattle.protocols.specs.declared.wait_group.GroupStage.TheVariants as group_s
 use Rattle.run_record.specs.MutexKind.{mutex_stage}
 use Rattle.run_record.specs.PoolKind.{stage_of}
 use Rattle.run_record.specs.RwMutexKind.{rw_mutex_stage}
+use Rattle.run_record.specs.WaitGroupKind.{wait_group_stage}
 use Rattle.step_runner.specs.declared.turns.answer.Answer.{Answer}
 use Rattle.step_runner.specs.declared.turns.answer.Answer.TheVariants as answers
 use Rattle.step_runner.specs.Stages.{answer_by}
@@ -71,6 +74,23 @@ group_due group_calls.Done at = Some group_stage.Done
 group_due group_calls.Wait group_place.Out = Some group_stage.Wait
 group_due group_calls.Wait group_place.Waiting = None
 group_due group_calls.Wait group_place.Released = Some group_stage.Leave
+
+abbrev pub group_turn : WaitGroupCall → GroupState → ℕ → Option GroupStage
+group_turn call g worker = group_due call (place_of g worker)
+
+-- one that waits, released or not, is to leave
+abbrev pub group_behind : GroupState → ℕ → Option GroupStage
+group_behind g worker = if waits_at g worker then Some group_stage.Leave else None
+
+-- only a wait waits
+abbrev pub GroupFits : WaitGroupCall → Option GroupStage → Type 0
+GroupFits group_calls.Wait behind = Unit {0}
+GroupFits call behind = behind ≡ None
+
+-- from the stage for which a wait waits, and else from the call's first one
+abbrev pub group_from : WaitGroupCall → Option GroupStage → GroupStage
+group_from group_calls.Wait behind = unwrap_or behind group_stage.Wait
+group_from call behind = wait_group_stage call
 
 abbrev pub returned : Unit {0} → Answer
 returned outcome = answers.Completed replies.Returned

@@ -12,17 +12,14 @@ use Rattle.sync_types.specs.declared.once_call.DoReply.TheVariants as do_replies
 use Rattle.sync_types.specs.declared.wait_call.CondCall.{CondCall}
 use Rattle.sync_types.specs.declared.wait_call.CondCall.TheVariants as cond_calls
 use Rattle.sync_types.specs.declared.wait_call.WaitGroupCall.{WaitGroupCall}
-use Rattle.sync_types.specs.declared.wait_call.WaitGroupCall.TheVariants as group_calls
 use Rattle.mutex_core.specs.MutexMachine as mutex
 use Rattle.mutex_core.specs.declared.place.Place.{Place as MutexPlace}
 use Rattle.mutex_core.specs.declared.place.Place.TheVariants as mutex_place
 use Rattle.rw_core.specs.RwMachine as rw
 use Rattle.rw_core.specs.declared.place.Place.{Place as RwPlace}
 use Rattle.rw_core.specs.declared.place.Place.TheVariants as rw_place
-use Rattle.wait_cores.specs.GroupStanding as group
 use Rattle.wait_cores.specs.NotifyStanding.{has_ticket}
 use Rattle.wait_cores.specs.OnceStanding as once
-use Rattle.protocols.specs.GroupStages.{group_event, group_meaning}
 use Rattle.protocols.specs.OnceStages.{once_event, once_meaning}
 use Rattle.protocols.specs.RwMutexStages.{rw_event, rw_meaning}
 use Rattle.protocols.specs.declared.cond.CondStage.TheVariants as cond_stage
@@ -33,7 +30,7 @@ use Rattle.protocols.specs.declared.once.OnceStage.{OnceStage}
 use Rattle.protocols.specs.declared.once.OnceStage.TheVariants as once_stage
 use Rattle.protocols.specs.declared.rw_mutex.RwMutexStage.{RwMutexStage}
 use Rattle.protocols.specs.declared.rw_mutex.RwMutexStage.TheVariants as rw_stage
-use Rattle.protocols.specs.declared.wait_group.GroupStage.TheVariants as group_stage
+use Rattle.protocols.specs.declared.wait_group.GroupStage.{GroupStage}
 use Rattle.run_record.specs.AtomicKind.{adds}
 use Rattle.run_record.specs.Calls.{call_on}
 use Rattle.run_record.specs.CondKind.{cond_part, wait_part, cond_call}
@@ -43,12 +40,13 @@ use Rattle.run_record.specs.OnceKind.{goes_on_once, once_part, failure}
 use Rattle.run_record.specs.Parts.{Part, and_then, never, read_as, returns, stages}
 use Rattle.run_record.specs.Record.{object_number}
 use Rattle.run_record.specs.RwMutexKind.{rw_mutex_call}
-use Rattle.run_record.specs.WaitGroupKind.{wait_group_call}
+use Rattle.run_record.specs.WaitGroupKind.{wait_group_part}
 use Rattle.run_record.specs.declared.entered.ObjectEvent.TheVariants as events
 use Rattle.run_record.specs.declared.entered.ObjectReply.TheVariants as answered
 use Rattle.workload.specs.Plan.{Plan, reference_of}
 use Rattle.step_runner.specs.declared.turns.object_state.ObjectState.{ObjectState}
 use Rattle.step_runner.specs.declared.turns.object_state.ObjectState.TheVariants as states
+use Rattle.step_runner.specs.Due.{group_behind, group_from}
 use Rattle.step_runner.specs.Objects.{kind_of}
 
 -- ---- whether a worker is within a lock
@@ -85,10 +83,9 @@ abbrev pub rw_left : ℕ → RwMutexCall → Option RwMutexStage → Part (Reply
 rw_left object call None = rw_mutex_call object call
 rw_left object call (Some stage) = read_as replies.Lock (stages events.RwMutex answered.RwMutex rw_event rw_meaning object (rw_later call stage))
 
--- a wait leaves
-abbrev pub group_left : ℕ → WaitGroupCall → Bool → Part (Reply ℕ)
-group_left object group_calls.Wait true = read_as (λ done. replies.Returned) (stages events.WaitGroup answered.WaitGroup group_event group_meaning object group_stage.Leave)
-group_left object call waits = wait_group_call object call
+-- the stage for which it waits, or the call
+abbrev pub group_left : ℕ → WaitGroupCall → Option GroupStage → Part (Reply ℕ)
+group_left object call behind = read_as (λ done. replies.Returned) (wait_group_part object (group_from call behind))
 
 -- by whether the worker has a ticket, and whether it waits at the mutex: one with a ticket leaves and locks the mutex, and one that waits there goes on
 abbrev pub cond_left : ℕ → ℕ → CondCall → Bool → Bool → Part (Reply ℕ)
@@ -111,7 +108,7 @@ module _ (plan : Plan) (worker before place : ℕ) where
   abbrev pub left_on : Operation → ObjectState → Part (Reply ℕ)
   left_on (operations.Mutex call) (states.Mutex m) = mutex_left (object_number place) call (mutex_waits (mutex.place_of m worker))
   left_on (operations.RwMutex call) (states.RwMutex m) = rw_left (object_number place) call (rw_waits (rw.place_of m worker))
-  left_on (operations.WaitGroup call) (states.WaitGroup g first) = group_left (object_number place) call (group.waits_at g worker)
+  left_on (operations.WaitGroup call) (states.WaitGroup g first) = group_left (object_number place) call (group_behind g worker)
   left_on operations.OnceFunc (states.OnceFunc o code) =
       once_left (stages events.OnceFunc answered.OnceFunc once_event once_meaning (object_number place)) (returns code) (λ kept. replies.OnceFunc (failure kept)) (λ kept. replies.OnceFunc (failure kept))
       (once.runs_at o worker) (once.waits_at o worker)

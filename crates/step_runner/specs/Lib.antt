@@ -34,6 +34,7 @@ pub mod ReplyForm
 pub mod Stages
 pub mod Stands
 pub mod TurnAtObjects
+pub mod TurnKinds
 pub mod Left
 pub mod Recorded
 pub mod Tells

@@ -14,18 +14,18 @@ use Rattle.rw_core.specs.declared.reply.RwReply.TheVariants as rw_reply
 use Rattle.wait_cores.specs.NotifyMachine as notify
 use Rattle.wait_cores.specs.NotifyLaws as notify_laws
 use Rattle.wait_cores.specs.NotifyStanding as notify_standing
-use Rattle.wait_cores.specs.GroupEventsLeft.{group_left, group_used, group_given}
+use Rattle.wait_cores.specs.GroupEventsLeft.{group_left}
 use Rattle.wait_cores.specs.GroupMachine as group
-use Rattle.wait_cores.specs.GroupStanding as group_standing
 use Rattle.wait_cores.specs.OnceEventsLeft.{once_left, once_used, once_given}
 use Rattle.wait_cores.specs.OnceMachine as once
 use Rattle.wait_cores.specs.OnceStanding as once_standing
 use Rattle.wait_cores.specs.declared.notify.NotifyEvent.{NotifyEvent}
 use Rattle.wait_cores.specs.declared.notify.NotifyReply.TheVariants as notify_reply
-use Rattle.wait_cores.specs.declared.group.GroupEvent.{GroupEvent}
-use Rattle.wait_cores.specs.declared.group.GroupReply.TheVariants as group_reply
 use Rattle.wait_cores.specs.declared.once.OnceEvent.{OnceEvent}
 use Rattle.wait_cores.specs.declared.once.OnceReply.TheVariants as once_reply
+use Rattle.protocols.specs.GroupStages.{group_event, group_meaning}
+use Rattle.step_runner.specs.Due.{group_turn, group_behind, GroupFits, group_from}
+use Rattle.step_runner.specs.TurnKinds.{TurnsStand}
 
 pub record MutexStands : Type 0 where
   pub moved : (m : mutex.State) (x by : ℕ) (e : MutexEvent) → mutex.IsValid m → mutex.place_of (mutex.next m by e).0 x ≡ mutex_moves.place_after x by (mutex.place_of m x) (mutex.next m by e).1
@@ -45,20 +45,13 @@ pub record CondStands : Type 0 where
   pub answers : (c : notify.NotifyState) (x : ℕ) (e : NotifyEvent) → x < notify.callers_of c → IsTrue (notify_laws.answers e (notify.next c x e).1)
   pub made : (c : notify.NotifyState) (x : ℕ) (e : NotifyEvent) → IsTrue (notify_standing.may_make c x e) → (notify.next c x e).1 ≢ notify_reply.Still
 
-pub record GroupUses : Type 0 where
-  pub answers : (g : group.GroupState) (c : ℕ) (e : GroupEvent) → c < group.callers_of g → IsTrue (group_standing.answers (group_standing.waits_at g c) e (group.next g c e).1)
-  pub made : (g : group.GroupState) (c : ℕ) (e : GroupEvent) → IsTrue (group_standing.may_make g c e) → (group.next g c e).1 ≢ group_reply.Still
-  pub used : (g : group.GroupState) (c : ℕ) (e : GroupEvent) → group_left (group.next g c e).0 + group_used (group.next g c e).1 ≤ group_left g + group_given e (group.next g c e).1
+abbrev pub GroupTurns : Type 0
+GroupTurns = TurnsStand group.next group_event group_meaning group.callers_of group_turn group_behind GroupFits group_from group_left
 
 pub record OnceUses (T : Type 0) : Type 0 where
   pub answers : (o : once.OnceState T) (c : ℕ) (e : OnceEvent T) → c < once.callers_of o → IsTrue (once_standing.answers (once_standing.waits_at o c) (once_standing.runs_at o c) e (once.next o c e).1)
   pub made : (o : once.OnceState T) (c : ℕ) (e : OnceEvent T) → IsTrue (once_standing.may_make o c e) → (once.next o c e).1 ≢ once_reply.Still
   pub used : (o : once.OnceState T) (c : ℕ) (e : OnceEvent T) → once_left (once.next o c e).0 + once_used (once.next o c e).1 ≤ once_left o + once_given (once.next o c e).1
-
-pub record GroupStands : Type 0 where
-  pub own : (g : group.GroupState) (x : ℕ) (e : GroupEvent) → group_standing.waits_at (group.next g x e).0 x ≡ group_standing.waits_after (group_standing.waits_at g x) e (group.next g x e).1
-  pub others : (g : group.GroupState) (x by : ℕ) (e : GroupEvent) → x ≢ by → group_standing.waits_at (group.next g by e).0 x ≡ group_standing.waits_at g x
-  pub uses : GroupUses
 
 pub record OnceStands (T : Type 0) : Type 0 where
   pub own_wait : (o : once.OnceState T) (x : ℕ) (e : OnceEvent T) → once_standing.waits_at (once.next o x e).0 x ≡ once_standing.waits_after (once_standing.waits_at o x) (once.next o x e).1
@@ -72,6 +65,6 @@ pub record MachinesStand : Type 0 where
   pub mutexes : MutexStands
   pub rw_mutexes : RwStands
   pub conds : CondStands
-  pub groups : GroupStands
+  pub groups : GroupTurns
   pub adding : OnceStands ℤ
   pub giving : OnceStands ℕ

@@ -1,5 +1,5 @@
 -- How many turns a worker's call can still take that make an event, and whether the worker was told to go on.
-use Rattle.std.specs.Prelude.{◌≡◌, ℕ, ◌+◌, ◌<◌, ◌≤◌, Bool, true, false, ◌||◌, if◌then◌else◌, List, slice_get, unwrap_or, Option, Some, None}
+use Rattle.std.specs.Prelude.{◌≡◌, ℕ, ◌+◌, ◌<◌, ◌≤◌, Bool, true, false, ◌||◌, if◌then◌else◌, List, slice_get, unwrap_or, is_some, Option, Some, None}
 use Rattle.std.specs.Option.{option_map_or}
 use Rattle.script_calls.specs.declared.call.Call.{Call}
 use Rattle.mutex_core.specs.MutexMachine as mutex
@@ -9,7 +9,6 @@ use Rattle.rw_core.specs.RwMachine as rw
 use Rattle.rw_core.specs.declared.place.Place.{Place as RwPlace}
 use Rattle.rw_core.specs.declared.place.Place.TheVariants as rw_place
 use Rattle.wait_cores.specs.NotifyStanding.{has_ticket}
-use Rattle.wait_cores.specs.GroupStanding as group
 use Rattle.wait_cores.specs.OnceMachine.{OnceState}
 use Rattle.wait_cores.specs.OnceStanding as once
 use Rattle.workload.specs.declared.object.ObjectKind.{ObjectKind}
@@ -18,6 +17,7 @@ use Rattle.step_runner.specs.declared.turns.answer.Answer.{Answer}
 use Rattle.step_runner.specs.declared.turns.answer.Answer.TheVariants as answers
 use Rattle.step_runner.specs.declared.turns.object_state.ObjectState.{ObjectState}
 use Rattle.step_runner.specs.declared.turns.object_state.ObjectState.TheVariants as states
+use Rattle.step_runner.specs.Due.{group_behind}
 
 -- the place of the object to which the call's object refers, among objects of these kinds
 abbrev pub refers_to : List ObjectKind → Call → Option ℕ
@@ -53,7 +53,7 @@ left_at worker (states.Atomic number) = 0
 left_at worker (states.Mutex m) = mutex_left (mutex.place_of m worker)
 left_at worker (states.RwMutex m) = rw_left (rw.place_of m worker)
 left_at worker (states.Cond c place) = if has_ticket c worker then 0 else 1
-left_at worker (states.WaitGroup g first) = if group.waits_at g worker then 0 else 1
+left_at worker (states.WaitGroup g first) = if is_some (group_behind g worker) then 0 else 1
 left_at worker (states.Once o place delta) = once_left o worker
 left_at worker (states.OnceFunc o code) = once_left o worker
 left_at worker (states.OnceValue o value) = once_left o worker

@@ -6,13 +6,9 @@ use Rattle.script_calls.specs.declared.call.Operation.TheVariants as operations
 use Rattle.sync_types.specs.declared.lock_call.RwMutexCall.{RwMutexCall}
 use Rattle.sync_types.specs.declared.lock_call.RwMutexCall.TheVariants as rw_calls
 use Rattle.sync_types.specs.declared.wait_call.CondCall.TheVariants as cond_calls
-use Rattle.sync_types.specs.declared.wait_call.WaitGroupCall.{WaitGroupCall}
-use Rattle.sync_types.specs.declared.wait_call.WaitGroupCall.TheVariants as group_calls
 use Rattle.mutex_core.specs.MutexMachine as mutex
 use Rattle.mutex_core.specs.declared.place.Place.TheVariants as mutex_place
 use Rattle.rw_core.specs.RwMachine as rw
-use Rattle.wait_cores.specs.GroupMachine.{GroupState}
-use Rattle.wait_cores.specs.GroupStanding as group
 use Rattle.wait_cores.specs.NotifyStanding.{has_ticket}
 use Rattle.wait_cores.specs.OnceMachine.{OnceState}
 use Rattle.wait_cores.specs.OnceStanding as once
@@ -21,6 +17,7 @@ use Rattle.step_runner.specs.declared.turns.answer.Answer.{Answer}
 use Rattle.step_runner.specs.declared.turns.answer.Answer.TheVariants as answers
 use Rattle.step_runner.specs.declared.turns.object_state.ObjectState.{ObjectState}
 use Rattle.step_runner.specs.declared.turns.object_state.ObjectState.TheVariants as states
+use Rattle.step_runner.specs.Due.{group_behind, GroupFits}
 use Rattle.step_runner.specs.Objects.{kind_of, EachAt}
 
 -- ---- between two calls
@@ -32,7 +29,7 @@ IsOutOfOnce o worker = (once.waits_at o worker ≡ false) × (once.runs_at o wor
 -- it has no ticket of a cond, waits at no wait group and no once, and runs no function. Of locks `IsOutAt` speaks
 abbrev pub IsIdle : ℕ → ObjectState → Type 0
 IsIdle worker (states.Cond c place) = has_ticket c worker ≡ false
-IsIdle worker (states.WaitGroup g first) = group.waits_at g worker ≡ false
+IsIdle worker (states.WaitGroup g first) = group_behind g worker ≡ None
 IsIdle worker (states.Once o place delta) = IsOutOfOnce o worker
 IsIdle worker (states.OnceFunc o code) = IsOutOfOnce o worker
 IsIdle worker (states.OnceValue o value) = IsOutOfOnce o worker
@@ -54,11 +51,6 @@ StandsAtRw rw_calls.Lock worker m = IsNoReader worker m
 StandsAtRw rw_calls.RLock worker m = IsNoWriter worker m
 StandsAtRw call worker m = Unit {0}
 
--- only a wait waits
-abbrev pub StandsAtGroup : WaitGroupCall → ℕ → GroupState → Type 0
-StandsAtGroup group_calls.Wait worker g = Unit {0}
-StandsAtGroup call worker g = group.waits_at g worker ≡ false
-
 -- whoever runs the function doesn't wait
 abbrev pub StandsAtOnce : {T : Type 0} → ℕ → OnceState T → Type 0
 StandsAtOnce worker o = once.runs_at o worker ≡ true → once.waits_at o worker ≡ false
@@ -66,7 +58,7 @@ StandsAtOnce worker o = once.runs_at o worker ≡ true → once.waits_at o worke
 -- at the call's object, where that refers to no other
 abbrev pub StandsOn : Operation → ℕ → ObjectState → Type 0
 StandsOn (operations.RwMutex call) worker (states.RwMutex m) = StandsAtRw call worker m
-StandsOn (operations.WaitGroup call) worker (states.WaitGroup g first) = StandsAtGroup call worker g
+StandsOn (operations.WaitGroup call) worker (states.WaitGroup g first) = GroupFits call (group_behind g worker)
 StandsOn operations.OnceFunc worker (states.OnceFunc o code) = StandsAtOnce worker o
 StandsOn operations.OnceValue worker (states.OnceValue o value) = StandsAtOnce worker o
 StandsOn operation worker o = IsIdle worker o

@@ -13,6 +13,7 @@ pub mod plain_turn;
 pub mod pool_turn;
 pub mod stages;
 pub mod turn;
+mod turn_kind;
 pub mod wait_turn;
 pub mod within;
 

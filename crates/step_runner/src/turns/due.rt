@@ -4,18 +4,16 @@ ghost use Rattle.std.specs.Prelude.{◌≡◌, ◌*◌, ◌<◌, ◌≤◌};
 ghost use Rattle.pool_core.specs.Looks.{look};
 ghost use Rattle.run_record.specs.OnceKind.{failure};
 ghost use Rattle.run_record.specs.PoolKind.{stage_of};
-ghost use Rattle.step_runner.specs.Due.{mutex_due, rw_due, locked, group_due, returned, cond_due, cond_answer, once_due, ran_or};
+ghost use Rattle.step_runner.specs.Due.{mutex_due, rw_due, locked, returned, cond_due, cond_answer, once_due, ran_or};
 ghost use Rattle.step_runner.specs.Stages.{answer_by};
 
 use crate::turns::answer::Answer;
 use mutex_core::Place as MutexPlace;
-use protocols::{
-    CondStage, GroupStage, MutexStage, OnceOutcome, OnceStage, PoolStage, RwMutexStage,
-};
+use protocols::{CondStage, MutexStage, OnceOutcome, OnceStage, PoolStage, RwMutexStage};
 use rw_core::Place as RwPlace;
 use script_calls::Reply;
-use sync_types::{CondCall, DoReply, LockReply, MutexCall, RwMutexCall, WaitGroupCall};
-use wait_cores::{GroupPlace, NotifyPlace, OncePlace};
+use sync_types::{CondCall, DoReply, LockReply, MutexCall, RwMutexCall};
+use wait_cores::{NotifyPlace, OncePlace};
 
 /// Of a call of a mutex: its first stage where the worker is out, and the going on where it was woken or
 /// handed the mutex.
@@ -61,21 +59,6 @@ pub(crate) fn locked(made: Result<LockReply, Answer>) -> Answer
     match made {
         Ok(outcome) => Answer::Completed(Reply::Lock(outcome)),
         Err(answer) => answer,
-    }
-}
-
-/// Of a call of a wait group. A worker whose wait was released leaves.
-pub(crate) fn group_due(call: WaitGroupCall, place: GroupPlace) -> Option<GroupStage>
-    ensures { result ≡ group_due call place }
-{
-    match call {
-        WaitGroupCall::Add(delta) => Some(GroupStage::Add(delta)),
-        WaitGroupCall::Done => Some(GroupStage::Done),
-        WaitGroupCall::Wait => match place {
-            GroupPlace::Out => Some(GroupStage::Wait),
-            GroupPlace::Waiting => None,
-            GroupPlace::Released => Some(GroupStage::Leave),
-        },
     }
 }
 

@@ -33,9 +33,11 @@ pub mod spelling;
 pub mod spelling_within;
 pub mod within;
 
+use crate::turns::turn_kind::TurnKind;
 use script_calls::laws::replies_have_their_form;
 use sync_types::Name;
 use sync_types::laws::atomics::calls_keep_the_type;
+use wait_cores::GroupCore;
 
 /// An object begins as one of its kind, with a machine that is ready for the workers' turns. A turn keeps
 /// the kind of each object, and leaves each machine ready; so whoever is ready for a call is ready behind it.
@@ -69,9 +71,7 @@ pub fn machines_tell_where_callers_stand()
     wait_cores::laws::notify::answers_its_callers();
     wait_cores::laws::notify::knows_where_it_stands();
     wait_cores::laws::notify::still();
-    wait_cores::laws::group::knows_where_it_stands();
-    wait_cores::laws::group::still();
-    wait_cores::laws::group::events_are_used_up();
+    GroupCore::turn_laws();
     wait_cores::laws::once::knows_where_it_stands::<i64>();
     wait_cores::laws::once::still::<i64>();
     wait_cores::laws::once::events_are_used_up::<i64>();

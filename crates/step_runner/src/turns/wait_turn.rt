@@ -11,10 +11,11 @@ ghost use Rattle.step_runner.specs.TurnAtObjects.{turn_on, turn_on_both};
 
 use crate::notes::Notes;
 use crate::turns::answer::Answer;
-use crate::turns::due::{cond_answer, cond_due, group_due, returned};
+use crate::turns::due::{cond_answer, cond_due, returned};
 use crate::turns::item::Item;
 use crate::turns::object_state::ObjectState;
 use crate::turns::stages::{Places, Taker, make};
+use crate::turns::turn_kind::TurnKind;
 use mutex_core::MutexCore;
 use script_calls::Reply;
 use std::alloc::AllocError;
@@ -35,7 +36,7 @@ pub(crate) fn take_wait_group_turn(
 {
     match object {
         ObjectState::WaitGroup { group, .. } => {
-            let due = group_due(call, group.place(taker.worker));
+            let due = GroupCore::due(call, group, taker.worker);
             Ok(returned(make::<GroupCore>(due, group, place, taker, notes)?))
         }
         _ => Ok(Answer::Still),

@@ -20,23 +20,19 @@ returns c = record {
     answers = c.answers_its_callers.ensures.answers;
     made = c.still-2.ensures.made;
   };
-  groups = record {
-    own = c.knows_where_it_stands-2.ensures.own;
-    others = λ g x by e apart. c.knows_where_it_stands-2.ensures.others g x by e apart;
+  groups = c.turn_laws.ensures;
+  adding = record {
+    own_wait = c.knows_where_it_stands-2.ensures.own_wait;
+    own_run = c.knows_where_it_stands-2.ensures.own_run;
+    others_wait = λ o x by e apart. c.knows_where_it_stands-2.ensures.others_wait o x by e apart;
+    others_run = λ o x by e apart. c.knows_where_it_stands-2.ensures.others_run o x by e apart;
     uses = record { answers = c.knows_where_it_stands-2.ensures.answers; made = c.still-3.ensures.made; used = c.events_are_used_up.ensures };
   };
-  adding = record {
+  giving = record {
     own_wait = c.knows_where_it_stands-3.ensures.own_wait;
     own_run = c.knows_where_it_stands-3.ensures.own_run;
     others_wait = λ o x by e apart. c.knows_where_it_stands-3.ensures.others_wait o x by e apart;
     others_run = λ o x by e apart. c.knows_where_it_stands-3.ensures.others_run o x by e apart;
     uses = record { answers = c.knows_where_it_stands-3.ensures.answers; made = c.still-4.ensures.made; used = c.events_are_used_up-2.ensures };
-  };
-  giving = record {
-    own_wait = c.knows_where_it_stands-4.ensures.own_wait;
-    own_run = c.knows_where_it_stands-4.ensures.own_run;
-    others_wait = λ o x by e apart. c.knows_where_it_stands-4.ensures.others_wait o x by e apart;
-    others_run = λ o x by e apart. c.knows_where_it_stands-4.ensures.others_run o x by e apart;
-    uses = record { answers = c.knows_where_it_stands-4.ensures.answers; made = c.still-5.ensures.made; used = c.events_are_used_up-3.ensures };
   };
 }

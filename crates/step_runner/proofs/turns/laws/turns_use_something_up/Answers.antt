@@ -7,7 +7,7 @@ uses c = record {
   mutexes = record { answered = c.machines_tell_where_callers_stand.ensures.mutexes.answered; used = c.events_are_used_up.ensures };
   rw_mutexes = record { answered = c.machines_tell_where_callers_stand.ensures.rw_mutexes.answered; used = c.events_are_used_up-2.ensures };
   conds = c.events_are_used_up-3.ensures;
-  groups = c.machines_tell_where_callers_stand.ensures.groups.uses;
+  groups = c.machines_tell_where_callers_stand.ensures.groups;
   adding = c.machines_tell_where_callers_stand.ensures.adding.uses;
   giving = c.machines_tell_where_callers_stand.ensures.giving.uses;
 }
