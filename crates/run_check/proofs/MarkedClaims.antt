@@ -3,7 +3,7 @@ use Rattle.std.proofs.Common.{◌≡◌, ℕ, suc, List, [], ◌∷◌, map, len
 use Rattle.std.proofs.lemmas.Option.{same_Some}
 use Rattle.sync_types.specs.declared.misuse.Misuse.{Misuse}
 use Rattle.sync_model.specs.declared.item.Item.{Item}
-use Rattle.entry_marks.specs.Marks.{unmarked}
+use Rattle.shared_checks.specs.Marks.{unmarked}
 use Rattle.workload.specs.Plan.{Plan}
 use Rattle.run_record.specs.Record.{shared_in}
 use Rattle.run_record.specs.declared.made.Made.{Made}

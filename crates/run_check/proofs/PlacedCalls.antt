@@ -13,7 +13,7 @@ use Rattle.shared_checks.specs.Calls.{calls_in}
 use Rattle.shared_checks.specs.Fronts.{LawfulFronts}
 use Rattle.shared_checks.specs.Parts.{LawfulBegins, LawfulHistory, LawfulRanges}
 use Rattle.shared_checks.specs.Placing.{AreOn, IsOn}
-use Rattle.entry_marks.specs.Marks.{AreMarked, HaveNoHistory, unmarked}
+use Rattle.shared_checks.specs.Marks.{AreMarked, HaveNoHistory, unmarked}
 use Rattle.record_text.specs.Told.{Told}
 use Rattle.record_clauses.specs.declared.clause.Clause.{Clause}
 use Rattle.record_clauses.specs.declared.clause.Clause.TheVariants.{Spell, Legal, Front, Range}

@@ -14,7 +14,7 @@ use Rattle.run_record.specs.Objects.{contents_of}
 use Rattle.run_record.specs.Record.{calls_of, shared_in}
 use Rattle.shared_checks.specs.Calls.{calls_in}
 use Rattle.shared_checks.specs.Parts.{LawfulHistory}
-use Rattle.entry_marks.specs.Marks.{AreMarked, unmarked}
+use Rattle.shared_checks.specs.Marks.{AreMarked, unmarked}
 use Rattle.list_checks.specs.declared.spell.line.SpeltLine.{SpeltLine}
 use Rattle.record_text.specs.Told.{Told, joined}
 use Rattle.told_items.specs.Items.{Sketched, worker_told}

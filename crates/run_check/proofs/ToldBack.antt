@@ -31,7 +31,7 @@ use Rattle.told_items.specs.declared.sketch.Sketch.TheVariants as sketches
 use Rattle.told_items.specs.Deeds.{event_told}
 use Rattle.told_items.specs.Items.{Kept, Sketched, along_behind, asked_by, begun, entered, list_told, may_be_of, ranged_by, replied, script_call, sketch_told, sketched_before, speaker_of}
 use Rattle.told_items.specs.Replies.{reply_told}
-use Rattle.entry_marks.specs.Marks.{unmarked}
+use Rattle.shared_checks.specs.Marks.{unmarked}
 use Rattle.record_clauses.specs.Account.{ToldItem}
 use Rattle.run_check.specs.Items.{line_of, told_item, unmarked_item}
 use Rattle.run_check.proofs.ToldEntries.{DeedIs, deed_back, event_back, no_halt}

@@ -5,7 +5,7 @@ use Rattle.std.proofs.lemmas.List.{get_or_past, length-map}
 use Rattle.std.proofs.lemmas.Option.{get_or_from_slice_get, same_Some, slice_get_cases, slice_get-map}
 use Rattle.std.specs.Option.{option_map}
 use Rattle.sync_model.specs.declared.item.Item.{Item}
-use Rattle.entry_marks.specs.Marks.{AreSameCalls, HaveNoHistory, unmarked}
+use Rattle.shared_checks.specs.Marks.{AreSameCalls, HaveNoHistory, unmarked}
 use Rattle.workload.specs.Plan.{Plan}
 use Rattle.run_record.specs.declared.made.Made.{Made}
 use Rattle.run_record.specs.declared.made.Made.TheVariants.{Shared, Entered}

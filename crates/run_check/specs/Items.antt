@@ -1,7 +1,7 @@
 -- The items of a worker's list, as the lines of a text say them.
 use Rattle.std.specs.Prelude.{ℕ, List, map, Option}
 use Rattle.std.specs.Option.{option_map}
-use Rattle.entry_marks.specs.Marks.{unmarked}
+use Rattle.shared_checks.specs.Marks.{unmarked}
 use Rattle.run_record.specs.declared.made.Made.{Made}
 use Rattle.run_record.specs.declared.made.Made.TheVariants.{Shared, Entered}
 use Rattle.record_text.specs.declared.item_line.ItemLine.{ItemLine}

@@ -12,7 +12,7 @@ ghost use Rattle.shared_checks.specs.Calls.{calls_in};
 ghost use Rattle.shared_checks.specs.Fronts.{LawfulFronts};
 ghost use Rattle.shared_checks.specs.Parts.{LawfulBegins, LawfulHistory, LawfulRanges};
 ghost use Rattle.shared_checks.specs.Placing.{AreOn, IsOn};
-ghost use Rattle.entry_marks.specs.Marks.{AreMarked, HaveNoHistory};
+ghost use Rattle.shared_checks.specs.Marks.{AreMarked, HaveNoHistory};
 ghost use Rattle.record_text.specs.Told.{IsTold, Told, items_of, joined};
 ghost use Rattle.record_clauses.specs.Account.{Account, Claim, ToldItem, made_in, outcome_by, record_of};
 ghost use Rattle.record_clauses.specs.Clauses.{IsSpelt};

@@ -15,3 +15,5 @@ pub mod RangeLemmas
 pub mod Released
 pub mod ShowingLemmas
 pub mod StoodLemmas
+pub mod FoundMarks
+pub mod MarkLemmas

@@ -5,3 +5,4 @@ pub mod Fronts
 pub mod Parts
 pub mod Placing
 pub mod Showing
+pub mod Marks

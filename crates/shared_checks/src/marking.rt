@@ -2,10 +2,11 @@
 ghost use Rattle.std.specs.Prelude.{◌≡◌, ◌^◌, ◌≤◌, length, IfOk, MatchOption};
 ghost use Rattle.shared_checks.specs.Calls.{calls_in};
 ghost use Rattle.shared_checks.specs.Placing.{contents_of, AreOn};
-ghost use Rattle.entry_marks.specs.Marks.{HaveNoHistory, AreMarked, all_marked_from, mark, marked_from, owns};
+ghost use Rattle.shared_checks.specs.Marks.{HaveNoHistory, AreMarked, all_marked_from, mark, marked_from, owns};
 
 use crate::finding::entries_among;
-use shared_checks::{Objects, Placed, by_place};
+use crate::objects::Objects;
+use crate::placed::{Placed, by_place};
 use std::alloc::{AllocError, Global};
 use sync_model::Item;
 use sync_types::Seq;

@@ -17,7 +17,7 @@ use Rattle.shared_checks.specs.Parts.{LawfulHistory}
 use Rattle.shared_checks.specs.Placing.{AreAllOf, AreOn, IsCallOf, IsOn}
 use Rattle.shared_checks.proofs.PlayLemmas.{on_at}
 use Rattle.shared_checks.proofs.PlayedLemmas.{one_entry_more}
-use Rattle.entry_marks.specs.Marks.{AreOwnedBy, AreSameCalls, Collides, Found, HaveNoHistory, LooksAt, unmarked}
+use Rattle.shared_checks.specs.Marks.{AreOwnedBy, AreSameCalls, Collides, Found, HaveNoHistory, LooksAt, unmarked}
 
 -- the call at the same number among the same calls, but for its mark
 pub twin : (xs ys : List Item) → map unmarked xs ≡ map unmarked ys → (j : ℕ) (x : Item) → slice_get xs j ≡ Some x → (y : Item) × (slice_get ys j ≡ Some y) × (unmarked x ≡ unmarked y)

@@ -2,9 +2,9 @@ use Rattle.std.proofs.Common.{List, ap, sym, subst, ◌∙◌}
 use Rattle.sync_model.specs.declared.item.Item.{Item}
 use Rattle.shared_checks.specs.declared.placed.Placed.{Placed}
 use Rattle.shared_checks.specs.Placing.{contents_of}
-use Rattle.entry_marks.specs.Marks.{AreMarked, all_marked_from}
-use Rattle.entry_marks.proofs.MarkLemmas.{are_all_marked}
-use Rattle.entry_marks.proofs.marking.marked.Goals as goal
+use Rattle.shared_checks.specs.Marks.{AreMarked, all_marked_from}
+use Rattle.shared_checks.proofs.MarkLemmas.{are_all_marked}
+use Rattle.shared_checks.proofs.marking.marked.Goals as goal
 
 pub returns : goal.returns
 returns c =

@@ -1,8 +1,8 @@
 use Rattle.std.proofs.Common.{List, [], ◌∷◌, ◌++◌, length, sym, ap, ◌∙◌, arith}
 use Rattle.sync_model.specs.declared.item.Item.{Item}
-use Rattle.entry_marks.specs.Marks.{all_marked_from}
-use Rattle.entry_marks.proofs.MarkLemmas.{all_more, count_all}
-use Rattle.entry_marks.proofs.marking.mark_all.Goals as goal
+use Rattle.shared_checks.specs.Marks.{all_marked_from}
+use Rattle.shared_checks.proofs.MarkLemmas.{all_more, count_all}
+use Rattle.shared_checks.proofs.marking.mark_all.Goals as goal
 
 pub loop-items-preserved : goal.loop-items-preserved
 loop-items-preserved c =

@@ -9,7 +9,7 @@ use Rattle.sync_model.specs.SharedHistory.{Contents}
 use Rattle.shared_checks.specs.declared.placed.Placed.{Placed}
 use Rattle.shared_checks.specs.Calls.{calls_in}
 use Rattle.shared_checks.specs.Parts.{LawfulHistory}
-use Rattle.entry_marks.specs.Marks.{AreMarked, AreOwnedBy, AreSameCalls, all_marked_from, mark, marked_from, owns, unmarked}
+use Rattle.shared_checks.specs.Marks.{AreMarked, AreOwnedBy, AreSameCalls, all_marked_from, mark, marked_from, owns, unmarked}
 
 module _ (owners : List Placed) where
   pub mark_more : (c k : ℕ) (xs : List Item) (x : Item) (i : ℕ) → i ≡ k + length xs → marked_from owners c k (xs ++ x ∷ []) ≡ marked_from owners c k xs ++ mark owners c i x ∷ []

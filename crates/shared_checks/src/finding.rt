@@ -7,9 +7,10 @@ ghost use Rattle.sync_model.specs.SharedHistory.{is_entry, shared_after, entry_o
 ghost use Rattle.shared_checks.specs.Calls.{calls_in};
 ghost use Rattle.shared_checks.specs.Parts.{LawfulHistory};
 ghost use Rattle.shared_checks.specs.Placing.{contents_of, IsOn, AreOn, IsCallOf, AreAllOf};
-ghost use Rattle.entry_marks.specs.Marks.{AreSameCalls, AreOwnedBy, HaveNoHistory, Takes, LooksAt, Collides};
+ghost use Rattle.shared_checks.specs.Marks.{AreSameCalls, AreOwnedBy, HaveNoHistory, Takes, LooksAt, Collides};
 
-use shared_checks::{Objects, Placed};
+use crate::objects::Objects;
+use crate::placed::Placed;
 use std::alloc::{AllocError, Global};
 use sync_model::{Item, SharedEntry};
 use sync_types::Seq;

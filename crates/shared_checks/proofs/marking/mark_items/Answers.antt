@@ -1,8 +1,8 @@
 use Rattle.std.proofs.Common.{List, [], ◌∷◌, ◌++◌, length, sym, ap, ◌∙◌, arith}
 use Rattle.sync_model.specs.declared.item.Item.{Item}
-use Rattle.entry_marks.specs.Marks.{marked_from}
-use Rattle.entry_marks.proofs.MarkLemmas.{count_marked, mark_more}
-use Rattle.entry_marks.proofs.marking.mark_items.Goals as goal
+use Rattle.shared_checks.specs.Marks.{marked_from}
+use Rattle.shared_checks.proofs.MarkLemmas.{count_marked, mark_more}
+use Rattle.shared_checks.proofs.marking.mark_items.Goals as goal
 
 pub loop-item-preserved : goal.loop-item-preserved
 loop-item-preserved c =

@@ -3,7 +3,7 @@ use Rattle.std.proofs.lemmas.Option.{slice_get_read, slice_get_within, get_or_fr
 use Rattle.sync_model.specs.declared.item.Item.{Item}
 use Rattle.shared_checks.specs.Calls.{calls_in}
 use Rattle.shared_checks.proofs.PlayedLemmas.{caller_inside}
-use Rattle.entry_marks.proofs.finding.item_of.Goals as goal
+use Rattle.shared_checks.proofs.finding.item_of.Goals as goal
 
 pub bounds-items-one : goal.bounds-items-one
 bounds-items-one c =

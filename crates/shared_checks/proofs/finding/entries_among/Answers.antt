@@ -1,8 +1,8 @@
 use Rattle.std.proofs.Common.{◌<◌, ◌≤◌, get_or, ◌∙◌, subst}
 use Rattle.std.proofs.lemmas.Option.{slice_get-get_or}
 use Rattle.shared_checks.proofs.OwnerLemmas.{rise_at}
-use Rattle.entry_marks.proofs.FoundMarks.{all_owned, call_on, contains_there, forward, is_call, looked, next_on, none_collide, none_open}
-use Rattle.entry_marks.proofs.finding.entries_among.Goals as goal
+use Rattle.shared_checks.proofs.FoundMarks.{all_owned, call_on, contains_there, forward, is_call, looked, next_on, none_collide, none_open}
+use Rattle.shared_checks.proofs.finding.entries_among.Goals as goal
 
 pub returns-then-one-len : goal.returns-then-one-len
 returns-then-one-len c = none_open _ _ _ c.requires.all (rise_at _ c.requires.rise) _ _ (slice_get-get_or _ _ _ c.loop-one-test.true) _ _ _ _ c.loop-one.invariant (subst (λ n. n < (get_or c.args.placed.now c.loop-one.one-index (record { caller = 0; index = 0; place = 0 })).place) (c.len.ensures ∙ c.loop-one.owners.ok.0) c.if-one-len.true)

@@ -1,2 +1,0 @@
-pub mod FoundMarks
-pub mod MarkLemmas
