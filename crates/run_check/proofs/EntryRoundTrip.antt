@@ -32,10 +32,10 @@ use Rattle.record_text.specs.declared.event.EventWord.{EventWord}
 use Rattle.record_text.specs.declared.event.EventWord.TheVariants as events
 use Rattle.record_text.specs.declared.item_line.Said.TheVariants as said
 use Rattle.record_text.specs.Written.{answer_of, cond_answer, cond_event, entry_said, event_of, group_answer, group_event, mutex_answer, mutex_event, once_answer, once_event, pool_answer, pool_event, rw_answer, rw_event, start_answer, start_event}
-use Rattle.told_items.specs.declared.deeds.Speaker.{Speaker}
-use Rattle.told_items.specs.declared.deeds.Speaker.TheVariants as speakers
-use Rattle.told_items.specs.Deeds.{answer_told, answered, halted_in, cond_event_told, cond_reply_told, deed_told, entry_told, event_told, group_event_told, group_reply_told, look_reply_told, mutex_event_told, mutex_reply_told, once_event_told, once_reply_told, pool_event_told, pool_reply_told, put_reply_told, rw_arrival_told, rw_event_told, rw_leaving_told, rw_reply_told, rw_resumption_told, rw_trial_told, rw_unlocking_told, start_event_told, start_reply_told, sweep_reply_told}
-use Rattle.told_items.specs.Replies.{int32_told}
+use Rattle.run_check.specs.declared.told.deeds.Speaker.{Speaker}
+use Rattle.run_check.specs.declared.told.deeds.Speaker.TheVariants as speakers
+use Rattle.run_check.specs.Deeds.{answer_told, answered, halted_in, cond_event_told, cond_reply_told, deed_told, entry_told, event_told, group_event_told, group_reply_told, look_reply_told, mutex_event_told, mutex_reply_told, once_event_told, once_reply_told, pool_event_told, pool_reply_told, put_reply_told, rw_arrival_told, rw_event_told, rw_leaving_told, rw_reply_told, rw_resumption_told, rw_trial_told, rw_unlocking_told, start_event_told, start_reply_told, sweep_reply_told}
+use Rattle.run_check.specs.Replies.{int32_told}
 use Rattle.sync_types.specs.declared.misuse.Misuse.{Misuse}
 use Rattle.mutex_core.specs.declared.reply.MutexReply.TheVariants as mutex_replies
 use Rattle.mutex_core.specs.declared.reply.Arrival.TheVariants as mutex_arrivals

@@ -14,8 +14,8 @@ use Rattle.run_cuts.specs.OneLine.{SettlesEach, settles_by}
 use Rattle.list_checks.specs.declared.spell.line.SpeltLine.{SpeltLine}
 use Rattle.list_checks.specs.SpellLines.{IsLineHere, line_end}
 use Rattle.record_text.specs.Told.{Told}
-use Rattle.told_items.specs.Items.{Sketched}
-use Rattle.told_items.specs.Lists.{spelt_in}
+use Rattle.run_check.specs.ToldItems.{Sketched}
+use Rattle.run_check.specs.ToldLists.{spelt_in}
 use Rattle.record_clauses.specs.Account.{Account, Claim}
 use Rattle.record_clauses.specs.Clauses.{IsSpelt}
 use Rattle.record_clauses.specs.Lists.{before_halts}

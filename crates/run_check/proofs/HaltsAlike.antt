@@ -11,8 +11,8 @@ use Rattle.run_record.specs.Lines.{AreHalts, IsHalt, LineEnd, halted, misused, s
 use Rattle.run_cuts.specs.Blind.{AreAlike, bare}
 use Rattle.list_checks.specs.SpellLines.{line_end}
 use Rattle.record_text.specs.Told.{Told}
-use Rattle.told_items.specs.Items.{Sketched, worker_told}
-use Rattle.told_items.specs.Lists as told_lists
+use Rattle.run_check.specs.ToldItems.{Sketched, worker_told}
+use Rattle.run_check.specs.ToldLists as told_lists
 use Rattle.record_clauses.specs.Account.{Claim, ToldItem, made_in}
 use Rattle.record_clauses.specs.Lists.{is_halt, without_halts}
 use Rattle.run_check.specs.declared.spelling.SpeltList.{SpeltList}

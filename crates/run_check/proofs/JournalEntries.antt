@@ -17,11 +17,11 @@ use Rattle.record_text.specs.ItemLines.{is_item, is_place, is_said}
 use Rattle.record_text.specs.Numbers.{has_64_bits, is_front}
 use Rattle.record_text.specs.Told.{AreItemLines, IsTold, Told}
 use Rattle.record_text.specs.Told.{items_of as told_of}
-use Rattle.told_items.specs.declared.sketch.Sketch.{Sketch}
-use Rattle.told_items.specs.declared.sketch.Sketch.TheVariants as sketches
-use Rattle.told_items.specs.declared.along.Along.{Along}
-use Rattle.told_items.specs.Items.{Kept, Sketched, along_behind, along_start, list_told, made_of, number_of, sketch_told, sketched_before, worker_told}
-use Rattle.told_items.specs.Lists.{entry_at}
+use Rattle.run_check.specs.declared.told.sketch.Sketch.{Sketch}
+use Rattle.run_check.specs.declared.told.sketch.Sketch.TheVariants as sketches
+use Rattle.run_check.specs.declared.told.along.Along.{Along}
+use Rattle.run_check.specs.ToldItems.{Kept, Sketched, along_behind, along_start, list_told, made_of, number_of, sketch_told, sketched_before, worker_told}
+use Rattle.run_check.specs.ToldLists.{entry_at}
 use Rattle.record_clauses.specs.Account.{Claim, ToldItem}
 use Rattle.record_clauses.specs.Lists.{numbered, numbered_in}
 use Rattle.run_check.specs.declared.spelling.SpeltList.{SpeltList}

@@ -60,3 +60,4 @@ pub mod ShownKeys
 pub mod ReportStage
 pub mod EndedText
 pub mod FoundVerdicts
+pub mod ListLemmas

@@ -26,13 +26,13 @@ use Rattle.record_text.specs.Journals.{named_in}
 use Rattle.record_text.specs.Numbers.{has_64_bits, is_front}
 use Rattle.record_text.specs.Told.{AreItemLines, items_of}
 use Rattle.record_text.specs.Written.{front_in, item_line, made_said}
-use Rattle.told_items.specs.declared.along.Along.{Along}
-use Rattle.told_items.specs.declared.placing.Asked.{Asked}
-use Rattle.told_items.specs.declared.sketch.Sketch.{Sketch}
-use Rattle.told_items.specs.declared.sketch.Sketch.TheVariants as sketches
-use Rattle.told_items.specs.Deeds.{deed_told}
-use Rattle.told_items.specs.Items.{Kept, Sketched, along_behind, asked_by, entered, list_told, made_of, may_be_of, number_of, ranged_by, replied, script_call, sketch_told, sketched_before, speaker_of}
-use Rattle.told_items.specs.Replies.{reply_told}
+use Rattle.run_check.specs.declared.told.along.Along.{Along}
+use Rattle.run_check.specs.declared.told.placing.Asked.{Asked}
+use Rattle.run_check.specs.declared.told.sketch.Sketch.{Sketch}
+use Rattle.run_check.specs.declared.told.sketch.Sketch.TheVariants as sketches
+use Rattle.run_check.specs.Deeds.{deed_told}
+use Rattle.run_check.specs.ToldItems.{Kept, Sketched, along_behind, asked_by, entered, list_told, made_of, may_be_of, number_of, ranged_by, replied, script_call, sketch_told, sketched_before, speaker_of}
+use Rattle.run_check.specs.Replies.{reply_told}
 use Rattle.run_check.proofs.ReplyRoundTrip.{reply_again}
 use Rattle.run_check.proofs.ToldLists.{mapped}
 use Rattle.run_check.proofs.EntryRoundTrip.{IsAnswered, deed_again}

@@ -17,7 +17,7 @@ use Rattle.shared_checks.specs.Parts.{LawfulHistory}
 use Rattle.shared_checks.specs.Marks.{AreMarked, unmarked}
 use Rattle.list_checks.specs.declared.spell.line.SpeltLine.{SpeltLine}
 use Rattle.record_text.specs.Told.{Told, joined}
-use Rattle.told_items.specs.Items.{Sketched, worker_told}
+use Rattle.run_check.specs.ToldItems.{Sketched, worker_told}
 use Rattle.record_clauses.specs.declared.clause.Clause.{Clause}
 use Rattle.record_clauses.specs.declared.clause.Clause.TheVariants.{Spell, Legal}
 use Rattle.record_clauses.specs.Account.{Account, Claim, ToldItem, made_in, record_of}

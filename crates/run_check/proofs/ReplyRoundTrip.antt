@@ -23,7 +23,7 @@ use Rattle.record_text.specs.declared.item_line.Said.TheVariants as said
 use Rattle.record_text.specs.declared.item_line.Whole.{Whole}
 use Rattle.record_text.specs.declared.item_line.Whole.TheVariants.{Natural, Below}
 use Rattle.record_text.specs.Written.{atomic_reply, map_reply, number_reply, shared_said, whole_of}
-use Rattle.told_items.specs.Replies.{any_number_told, atomic_reply_told, below_told, compares, int32_told, int64_told, map_reply_told, natural_told, number_told, or_else, reply_told, settles}
+use Rattle.run_check.specs.Replies.{any_number_told, atomic_reply_told, below_told, compares, int32_told, int64_told, map_reply_told, natural_told, number_told, or_else, reply_told, settles}
 use Rattle.run_check.proofs.ToldLists.{mapped}
 
 chosen : {X : Type 0} (b : Bool) (x y : X) → cond b (Some x) None ≡ Some y → (b ≡ true) × (x ≡ y)

@@ -24,15 +24,15 @@ use Rattle.record_text.specs.declared.item_line.PlacedReply.{PlacedReply}
 use Rattle.record_text.specs.declared.item_line.Said.{Said}
 use Rattle.record_text.specs.declared.item_line.Said.TheVariants as said
 use Rattle.record_text.specs.Told.{Told, items_of, joined}
-use Rattle.told_items.specs.declared.along.Along.{Along}
-use Rattle.told_items.specs.declared.deeds.Speaker.{Speaker}
-use Rattle.told_items.specs.declared.placing.Asked.{Asked}
-use Rattle.told_items.specs.declared.sketch.Sketch.{Sketch}
-use Rattle.told_items.specs.declared.sketch.Sketch.TheVariants as sketches
-use Rattle.told_items.specs.Deeds.{answer_told, answered, deed_told, entry_told, event_told, halted_in}
-use Rattle.told_items.specs.Items.{Kept, Sketched, along_behind, along_start, asked_by, entered, kept_by, list_told, made_of, may_be_of, number_of, ranged_by, replied, script_call, sketch_told, sketched_before, speaker_of, worker_told}
-use Rattle.told_items.specs.Lists as told_lists
-use Rattle.told_items.specs.Replies.{reply_told}
+use Rattle.run_check.specs.declared.told.along.Along.{Along}
+use Rattle.run_check.specs.declared.told.deeds.Speaker.{Speaker}
+use Rattle.run_check.specs.declared.told.placing.Asked.{Asked}
+use Rattle.run_check.specs.declared.told.sketch.Sketch.{Sketch}
+use Rattle.run_check.specs.declared.told.sketch.Sketch.TheVariants as sketches
+use Rattle.run_check.specs.Deeds.{answer_told, answered, deed_told, entry_told, event_told, halted_in}
+use Rattle.run_check.specs.ToldItems.{Kept, Sketched, along_behind, along_start, asked_by, entered, kept_by, list_told, made_of, may_be_of, number_of, ranged_by, replied, script_call, sketch_told, sketched_before, speaker_of, worker_told}
+use Rattle.run_check.specs.ToldLists as told_lists
+use Rattle.run_check.specs.Replies.{reply_told}
 use Rattle.record_clauses.specs.declared.clause.Clause.{Clause}
 use Rattle.record_clauses.specs.declared.clause.Clause.TheVariants.{Spell}
 use Rattle.record_clauses.specs.Account.{Account, Claim, ToldItem}

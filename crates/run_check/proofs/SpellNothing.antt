@@ -13,8 +13,8 @@ use Rattle.run_cuts.specs.Blind.{AreAlike, HasLineLike}
 use Rattle.run_cuts.specs.CallsAlong.{calls_along}
 use Rattle.list_checks.specs.SpellLines.{IsLineHere}
 use Rattle.record_text.specs.Told.{Told}
-use Rattle.told_items.specs.Items.{Sketched, worker_told}
-use Rattle.told_items.specs.Lists.{call_in, spelt_in}
+use Rattle.run_check.specs.ToldItems.{Sketched, worker_told}
+use Rattle.run_check.specs.ToldLists.{call_in, spelt_in}
 use Rattle.record_clauses.specs.Account.{Account, Claim, ToldItem, made_in}
 use Rattle.record_clauses.specs.Clauses.{IsSpelt}
 use Rattle.record_clauses.specs.declared.clause.Clause.TheVariants.{Spell}

@@ -24,10 +24,10 @@ use Rattle.run_cuts.specs.CallsAlong.{calls_along}
 use Rattle.list_checks.specs.SpellLines.{line_end}
 use Rattle.list_checks.specs.declared.spell.line.SpeltLine.{SpeltLine}
 use Rattle.record_text.specs.Told.{Told}
-use Rattle.told_items.specs.declared.sketch.Sketch.{Sketch}
-use Rattle.told_items.specs.declared.sketch.Sketch.TheVariants as sketches
-use Rattle.told_items.specs.Items.{Sketched, worker_told}
-use Rattle.told_items.specs.Lists as told_lists
+use Rattle.run_check.specs.declared.told.sketch.Sketch.{Sketch}
+use Rattle.run_check.specs.declared.told.sketch.Sketch.TheVariants as sketches
+use Rattle.run_check.specs.ToldItems.{Sketched, worker_told}
+use Rattle.run_check.specs.ToldLists as told_lists
 use Rattle.record_clauses.specs.Account.{Claim, ToldItem, made_in, outcome_by}
 use Rattle.record_clauses.specs.Clauses.{IsSpelt}
 use Rattle.record_clauses.specs.Lists.{before_halts, calls_told, halts, is_halt, without_halts}

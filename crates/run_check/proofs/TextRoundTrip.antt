@@ -5,7 +5,7 @@ use Rattle.run_record.specs.declared.made.Made.TheVariants.{Shared, Entered}
 use Rattle.record_text.specs.declared.item_line.ItemLine.{ItemLine}
 use Rattle.record_text.specs.Told.{IsTold, Told, items_of}
 use Rattle.record_text.specs.Written.{item_line}
-use Rattle.told_items.specs.Items.{Sketched, along_start, kept_by, worker_told}
+use Rattle.run_check.specs.ToldItems.{Sketched, along_start, kept_by, worker_told}
 use Rattle.record_clauses.specs.Account.{Claim, ToldItem}
 use Rattle.run_check.specs.Items.{line_of, told_item, unmarked_item, unmarked_made}
 use Rattle.run_check.specs.Tells.{Tells}

@@ -20,8 +20,8 @@ use Rattle.record_text.specs.declared.item_line.ItemLine.{ItemLine}
 use Rattle.record_text.specs.declared.item_line.Said.{Said}
 use Rattle.record_text.specs.declared.item_line.Said.TheVariants as said
 use Rattle.record_text.specs.Written as written
-use Rattle.told_items.specs.declared.along.Along.{Along}
-use Rattle.told_items.specs.Items.{Kept, along_behind, script_call, speaker_of}
+use Rattle.run_check.specs.declared.told.along.Along.{Along}
+use Rattle.run_check.specs.ToldItems.{Kept, along_behind, script_call, speaker_of}
 use Rattle.record_clauses.specs.Account.{ToldItem, made_in}
 use Rattle.run_check.specs.Items.{line_of}
 use Rattle.run_check.proofs.ToldBack.{AllAre, CallIs, HaltIs, ItemIs}

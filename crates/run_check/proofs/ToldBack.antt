@@ -23,14 +23,14 @@ use Rattle.record_text.specs.declared.item_line.PlacedReply.{PlacedReply}
 use Rattle.record_text.specs.declared.item_line.Said.{Said}
 use Rattle.record_text.specs.declared.item_line.Said.TheVariants as said
 use Rattle.record_text.specs.Written as written
-use Rattle.told_items.specs.declared.along.Along.{Along}
-use Rattle.told_items.specs.declared.placing.Asked.{Asked}
-use Rattle.told_items.specs.declared.deeds.Speaker.{Speaker}
-use Rattle.told_items.specs.declared.sketch.Sketch.{Sketch}
-use Rattle.told_items.specs.declared.sketch.Sketch.TheVariants as sketches
-use Rattle.told_items.specs.Deeds.{event_told}
-use Rattle.told_items.specs.Items.{Kept, Sketched, along_behind, asked_by, begun, entered, list_told, may_be_of, ranged_by, replied, script_call, sketch_told, sketched_before, speaker_of}
-use Rattle.told_items.specs.Replies.{reply_told}
+use Rattle.run_check.specs.declared.told.along.Along.{Along}
+use Rattle.run_check.specs.declared.told.placing.Asked.{Asked}
+use Rattle.run_check.specs.declared.told.deeds.Speaker.{Speaker}
+use Rattle.run_check.specs.declared.told.sketch.Sketch.{Sketch}
+use Rattle.run_check.specs.declared.told.sketch.Sketch.TheVariants as sketches
+use Rattle.run_check.specs.Deeds.{event_told}
+use Rattle.run_check.specs.ToldItems.{Kept, Sketched, along_behind, asked_by, begun, entered, list_told, may_be_of, ranged_by, replied, script_call, sketch_told, sketched_before, speaker_of}
+use Rattle.run_check.specs.Replies.{reply_told}
 use Rattle.shared_checks.specs.Marks.{unmarked}
 use Rattle.record_clauses.specs.Account.{ToldItem}
 use Rattle.run_check.specs.Items.{line_of, told_item, unmarked_item}

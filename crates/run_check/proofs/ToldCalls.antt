@@ -60,8 +60,8 @@ use Rattle.run_record.specs.StartsKind.{closing, done_part, done_under, end_part
 use Rattle.run_record.specs.Tests.{compared, holds, tests, unless_met, waits_for}
 use Rattle.record_text.proofs.EachDeed.{EachOf, by_never, by_read, by_returns, by_then, of_entries, of_places}
 use Rattle.record_text.proofs.OwnWords.{each_both}
-use Rattle.told_items.specs.declared.placing.Asked.{Asked}
-use Rattle.told_items.specs.Items.{asked_at, asked_by, asked_on, ranged_at, ranged_by, ranged_on}
+use Rattle.run_check.specs.declared.told.placing.Asked.{Asked}
+use Rattle.run_check.specs.ToldItems.{asked_at, asked_by, asked_on, ranged_at, ranged_by, ranged_on}
 
 -- the call is the one that is asked, or the beginning of a cursor over the map that is ranged over
 abbrev pub FitsCall : Option Asked → Option ℕ → SharedCall → Type 0

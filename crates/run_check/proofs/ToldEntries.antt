@@ -63,10 +63,10 @@ use Rattle.record_text.specs.declared.item_line.Said.TheVariants as said
 use Rattle.record_text.specs.Written as written
 use Rattle.record_text.proofs.EachDeed.{IsMeantBy, IsStep}
 use Rattle.record_text.proofs.MeantItems.{IsMeant}
-use Rattle.told_items.specs.declared.deeds.Speaker.{Speaker}
-use Rattle.told_items.specs.declared.deeds.Speaker.TheVariants as speakers
-use Rattle.told_items.specs.Deeds.{answer_told, answered, cond_event_told, cond_reply_told, deed_told, entry_told, event_told, group_event_told, group_reply_told, halted_in, mutex_event_told, mutex_reply_told, once_event_told, once_reply_told, pool_event_told, pool_reply_told, rw_event_told, rw_reply_told, start_event_told, start_reply_told}
-use Rattle.told_items.specs.Replies.{int32_told}
+use Rattle.run_check.specs.declared.told.deeds.Speaker.{Speaker}
+use Rattle.run_check.specs.declared.told.deeds.Speaker.TheVariants as speakers
+use Rattle.run_check.specs.Deeds.{answer_told, answered, cond_event_told, cond_reply_told, deed_told, entry_told, event_told, group_event_told, group_reply_told, halted_in, mutex_event_told, mutex_reply_told, once_event_told, once_reply_told, pool_event_told, pool_reply_told, rw_event_told, rw_reply_told, start_event_told, start_reply_told}
+use Rattle.run_check.specs.Replies.{int32_told}
 
 -- ---- what a line leaves out
 

@@ -108,9 +108,9 @@ use Rattle.record_text.proofs.EachDeed.{EachOf, IsStep, LeadsOn, any_leads, by_n
 use Rattle.record_text.proofs.MeantItems.{IsMeant}
 use Rattle.record_text.proofs.ObjectNumbers.{pools_cons, pools_in, times}
 use Rattle.record_text.proofs.OwnWords.{each_both, each_mono, each_split}
-use Rattle.told_items.specs.declared.deeds.Speaker.{Speaker}
-use Rattle.told_items.specs.declared.deeds.Speaker.TheVariants as speakers
-use Rattle.told_items.specs.Items.{Kept, declared_speaker, script_call, speaker_at, speaker_behind, speaker_of}
+use Rattle.run_check.specs.declared.told.deeds.Speaker.{Speaker}
+use Rattle.run_check.specs.declared.told.deeds.Speaker.TheVariants as speakers
+use Rattle.run_check.specs.ToldItems.{Kept, declared_speaker, script_call, speaker_at, speaker_behind, speaker_of}
 use Rattle.run_check.proofs.ToldEntries.{GroupEventIs, IsSmall, OnceEventIs, PoolEventIs}
 use Rattle.run_check.proofs.ToldPlaces.{AllOf, of_line}
 

@@ -17,13 +17,13 @@ use Rattle.record_text.specs.declared.item_line.PlacedReply.{PlacedReply}
 use Rattle.record_text.specs.declared.item_line.Said.{Said}
 use Rattle.record_text.specs.declared.item_line.Said.TheVariants as said
 use Rattle.record_text.specs.Told.{Told, items_of}
-use Rattle.told_items.specs.declared.along.Along.{Along}
-use Rattle.told_items.specs.declared.placing.Asked.{Asked}
-use Rattle.told_items.specs.declared.sketch.Sketch.{Sketch}
-use Rattle.told_items.specs.declared.sketch.Sketch.TheVariants as sketches
-use Rattle.told_items.specs.Deeds.{deed_told}
-use Rattle.told_items.specs.Items.{Kept, Sketched, along_behind, along_start, asked_by, entered, kept_by, list_told, made_of, may_be_of, ranged_by, replied, script_call, sketch_told, sketched_before, speaker_of, worker_told}
-use Rattle.told_items.specs.Replies.{reply_told}
+use Rattle.run_check.specs.declared.told.along.Along.{Along}
+use Rattle.run_check.specs.declared.told.placing.Asked.{Asked}
+use Rattle.run_check.specs.declared.told.sketch.Sketch.{Sketch}
+use Rattle.run_check.specs.declared.told.sketch.Sketch.TheVariants as sketches
+use Rattle.run_check.specs.Deeds.{deed_told}
+use Rattle.run_check.specs.ToldItems.{Kept, Sketched, along_behind, along_start, asked_by, entered, kept_by, list_told, made_of, may_be_of, ranged_by, replied, script_call, sketch_told, sketched_before, speaker_of, worker_told}
+use Rattle.run_check.specs.Replies.{reply_told}
 use Rattle.record_clauses.specs.declared.clause.Clause.{Clause}
 use Rattle.record_clauses.specs.declared.clause.Clause.TheVariants as clauses
 use Rattle.record_clauses.specs.Account.{Account, Claim, ToldItem, made_in, record_of}

@@ -26,7 +26,7 @@ use Rattle.sync_model.specs.declared.item.SharedReply.TheVariants as answers
 use Rattle.sync_model.specs.SharedHistory.{Contents, IsReply, contents_after, map_at, number_at, shared_after}
 use Rattle.shared_checks.specs.Placing.{IsOn}
 use Rattle.record_text.specs.Written.{whole_of}
-use Rattle.told_items.specs.Replies.{compares, int32_told, int64_told, settles}
+use Rattle.run_check.specs.Replies.{compares, int32_told, int64_told, settles}
 use Rattle.run_check.proofs.ToldReplies.{AtomicReplyIs, MapReplyIs, NumberIs}
 
 -- what is known of the one-thread atomic

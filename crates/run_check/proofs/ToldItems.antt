@@ -30,9 +30,9 @@ use Rattle.run_cuts.specs.CallsAlong.{calls_along}
 use Rattle.record_text.specs.declared.item_line.ItemLine.{ItemLine}
 use Rattle.record_text.specs.Told.{items_of as told_of}
 use Rattle.record_text.proofs.OwnWords.{each_at}
-use Rattle.told_items.specs.declared.deeds.Speaker.{Speaker}
-use Rattle.told_items.specs.declared.deeds.Speaker.TheVariants as speakers
-use Rattle.told_items.specs.Items.{Kept, along_start, declared_speaker, kept_at, kept_by, script_call, speaker_of}
+use Rattle.run_check.specs.declared.told.deeds.Speaker.{Speaker}
+use Rattle.run_check.specs.declared.told.deeds.Speaker.TheVariants as speakers
+use Rattle.run_check.specs.ToldItems.{Kept, along_start, declared_speaker, kept_at, kept_by, script_call, speaker_of}
 use Rattle.record_clauses.specs.Account.{Account, Claim, ToldItem, made_in, outcome_of, record_of}
 use Rattle.record_clauses.specs.Clauses.{IsSpelt}
 use Rattle.record_clauses.specs.Lists.{before_halts, calls_told, halts, is_halt, without_halts}

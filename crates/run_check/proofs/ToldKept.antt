@@ -26,8 +26,8 @@ use Rattle.record_text.specs.declared.item_line.Said.{Said}
 use Rattle.record_text.specs.declared.item_line.Said.TheVariants as said
 use Rattle.record_text.specs.Told.{items_of}
 use Rattle.record_text.specs.Written.{answer_of, entry_said, event_of, front_in, made_said, shared_said}
-use Rattle.told_items.specs.declared.along.Along.{Along}
-use Rattle.told_items.specs.Items.{Kept, along_behind, along_start, keep, keep_event, keep_list, keep_said, kept_at, kept_by}
+use Rattle.run_check.specs.declared.told.along.Along.{Along}
+use Rattle.run_check.specs.ToldItems.{Kept, along_behind, along_start, keep, keep_event, keep_list, keep_said, kept_at, kept_by}
 use Rattle.record_clauses.specs.Account.{ToldItem, made_in}
 use Rattle.run_check.specs.Items.{line_of}
 use Rattle.run_check.proofs.ToldLists.{mapped}

@@ -7,10 +7,10 @@ use Rattle.run_record.specs.declared.made.Made.{Made}
 use Rattle.run_record.specs.declared.made.Made.TheVariants.{Shared, Entered}
 use Rattle.sync_model.specs.declared.journal.Deed.TheVariants.{Event, Refused, Halt}
 use Rattle.run_cuts.specs.Blind.{AreAlike, bare}
-use Rattle.told_items.specs.declared.sketch.Sketch.{Sketch}
-use Rattle.told_items.specs.declared.sketch.Sketch.TheVariants as sketches
-use Rattle.told_items.specs.Items.{Sketched, made_of}
-use Rattle.told_items.specs.Lists as told
+use Rattle.run_check.specs.declared.told.sketch.Sketch.{Sketch}
+use Rattle.run_check.specs.declared.told.sketch.Sketch.TheVariants as sketches
+use Rattle.run_check.specs.ToldItems.{Sketched, made_of}
+use Rattle.run_check.specs.ToldLists as told
 use Rattle.record_clauses.specs.Account.{ToldItem, made_in}
 use Rattle.record_clauses.specs.Lists.{calls_told, is_halt, without_halts}
 use Rattle.run_check.specs.Items.{told_item, unmarked_item, unmarked_made}

@@ -14,7 +14,7 @@ use Rattle.run_record.specs.StartsKind.{closing, opening}
 use Rattle.run_cuts.specs.CallsAlong.{calls_along, calls_from, next_call}
 use Rattle.record_text.proofs.EachDeed.{EachOf}
 use Rattle.record_text.proofs.OwnWords.{each_split}
-use Rattle.told_items.specs.Items.{script_call}
+use Rattle.run_check.specs.ToldItems.{script_call}
 
 drop_past : (p k : ℕ) (xs : List Call) (x : Call) (ys : List Call) → drop p xs ≡ x ∷ ys → drop (p + 1 + k) xs ≡ drop k ys
 drop_past zero k xs x ys is =

@@ -22,7 +22,7 @@ use Rattle.record_text.specs.declared.item_line.Said.TheVariants as said
 use Rattle.record_text.specs.declared.item_line.Whole.{Whole}
 use Rattle.record_text.specs.declared.item_line.Whole.TheVariants.{Natural}
 use Rattle.record_text.specs.Written.{atomic_reply, map_reply, number_reply, shared_said, whole_of}
-use Rattle.told_items.specs.Replies.{any_number_told, atomic_reply_told, compares, int32_told, int64_told, map_reply_told, or_else, reply_told, settles}
+use Rattle.run_check.specs.Replies.{any_number_told, atomic_reply_told, compares, int32_told, int64_told, map_reply_told, or_else, reply_told, settles}
 
 -- the number is one of an atomic of this type; a truth is no answer to a comparison
 abbrev pub NumberIs : AtomicKind → Bool → Number → Type 0

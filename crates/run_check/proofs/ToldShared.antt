@@ -13,10 +13,10 @@ use Rattle.run_record.specs.Objects.{contents_of}
 use Rattle.run_record.specs.Record.{calls_of, shared_in}
 use Rattle.shared_checks.specs.Parts.{LawfulHistory}
 use Rattle.record_text.specs.Told.{Told}
-use Rattle.told_items.specs.declared.sketch.Sketch.{Sketch}
-use Rattle.told_items.specs.declared.sketch.Sketch.TheVariants as sketches
-use Rattle.told_items.specs.Items.{Sketched, made_of, worker_told}
-use Rattle.told_items.specs.Lists.{shared_at}
+use Rattle.run_check.specs.declared.told.sketch.Sketch.{Sketch}
+use Rattle.run_check.specs.declared.told.sketch.Sketch.TheVariants as sketches
+use Rattle.run_check.specs.ToldItems.{Sketched, made_of, worker_told}
+use Rattle.run_check.specs.ToldLists.{shared_at}
 use Rattle.record_clauses.specs.declared.clause.Clause.TheVariants.{Legal}
 use Rattle.record_clauses.specs.Account.{Account, Claim, ToldItem, made_in, record_of}
 use Rattle.record_clauses.specs.Clauses.{IsLegallyPlaced}

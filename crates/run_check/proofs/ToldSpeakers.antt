@@ -14,9 +14,9 @@ use Rattle.run_record.specs.declared.entered.ObjectEvent.TheVariants as object_e
 use Rattle.run_record.specs.declared.entered.ObjectReply.{ObjectReply}
 use Rattle.run_record.specs.Objects.{starts_number}
 use Rattle.run_record.specs.Record.{object_number}
-use Rattle.told_items.specs.declared.deeds.Speaker.{Speaker}
-use Rattle.told_items.specs.declared.deeds.Speaker.TheVariants as speakers
-use Rattle.told_items.specs.Items.{Kept, declared_speaker, later_speaker, speaker_at, speaker_behind, speaker_of}
+use Rattle.run_check.specs.declared.told.deeds.Speaker.{Speaker}
+use Rattle.run_check.specs.declared.told.deeds.Speaker.TheVariants as speakers
+use Rattle.run_check.specs.ToldItems.{Kept, declared_speaker, later_speaker, speaker_at, speaker_behind, speaker_of}
 use Rattle.run_check.proofs.FrontOrder.{apart}
 use Rattle.run_check.proofs.ToldEntries.{DeedIs, EventIs, ReplyIs}
 use Rattle.run_check.proofs.ToldEvents.{DeedFits, EventFits}

@@ -70,8 +70,8 @@ use Rattle.run_record.specs.Tests.{compared, holds, tests, unless_met, waits_for
 use Rattle.record_text.specs.Written.{atomic_reply, map_reply, whole_of}
 use Rattle.record_text.proofs.EachDeed.{EachOf, LeadsOn, by_never, by_read, by_returns, by_then, each_deed, of_deeds, of_entries}
 use Rattle.record_text.proofs.OwnWords.{each_split}
-use Rattle.told_items.specs.Items.{sum_in}
-use Rattle.told_items.specs.Replies.{int64_told}
+use Rattle.run_check.specs.ToldItems.{sum_in}
+use Rattle.run_check.specs.Replies.{int64_told}
 
 -- what the worker's last call on a map or an atomic answered as a sum
 abbrev pub sum_behind : ℤ → SharedCall → SharedReply → ℤ

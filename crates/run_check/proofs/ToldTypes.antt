@@ -39,8 +39,8 @@ use Rattle.run_record.specs.Record.{Record, calls_of, list_of, shared_in}
 use Rattle.run_cuts.specs.CallsAlong.{calls_along}
 use Rattle.shared_checks.specs.Placing.{IsOn}
 use Rattle.record_text.proofs.OwnWords.{each_both, each_mono, each_split}
-use Rattle.told_items.specs.declared.placing.Asked.{Asked}
-use Rattle.told_items.specs.Items.{asked_at, asked_by, asked_on, ranged_by, script_call, type_at as type_told, type_of}
+use Rattle.run_check.specs.declared.told.placing.Asked.{Asked}
+use Rattle.run_check.specs.ToldItems.{asked_at, asked_by, asked_on, ranged_by, script_call, type_at as type_told, type_of}
 use Rattle.run_check.proofs.OnObjects.{all_at, an_atomic, get_map, int64, is_good, referred, script_good, spelt_is_on, type_at, valid_parts, zero_kind}
 use Rattle.run_check.proofs.ToldCalls.{FitsCall, FitsIn, line_fits}
 use Rattle.run_check.proofs.ToldHeld.{IsAnswered, KeepsTypes, answer_is, hold_at, hold_zeros, map_is, replied_64}

@@ -9,7 +9,7 @@ use Rattle.run_record.specs.declared.made.Made.{Made}
 use Rattle.run_record.specs.declared.made.Made.TheVariants.{Shared, Entered}
 use Rattle.record_text.specs.declared.item_line.ItemLine.{ItemLine}
 use Rattle.record_text.specs.Told.{Told, items_of}
-use Rattle.told_items.specs.Items.{Sketched, along_start, kept_by, worker_told}
+use Rattle.run_check.specs.ToldItems.{Sketched, along_start, kept_by, worker_told}
 use Rattle.record_clauses.specs.declared.clause.Clause.{Clause}
 use Rattle.record_clauses.specs.declared.clause.Clause.TheVariants.{Spell}
 use Rattle.record_clauses.specs.declared.clause.Verdict.TheVariants.{Yes, No}

@@ -7,7 +7,7 @@ use Rattle.run_record.specs.declared.made.Made.TheVariants.{Shared, Entered}
 use Rattle.record_text.specs.declared.item_line.ItemLine.{ItemLine}
 use Rattle.record_text.specs.Told.{Told}
 use Rattle.record_text.specs.Written.{item_line}
-use Rattle.told_items.specs.Items.{Sketched, made_of, number_of, worker_told}
+use Rattle.run_check.specs.ToldItems.{Sketched, made_of, number_of, worker_told}
 use Rattle.record_clauses.specs.Account.{ToldItem}
 
 -- an item as a line of a worker's list says it

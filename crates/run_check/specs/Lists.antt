@@ -6,8 +6,8 @@ use Rattle.run_record.specs.Lines.{Line}
 use Rattle.run_cuts.specs.CallsAlong.{calls_along}
 use Rattle.record_text.specs.declared.item_line.ItemLine.{ItemLine}
 use Rattle.list_checks.specs.SpellLines.{IsLineHere, IsSpelling}
-use Rattle.told_items.specs.Items.{Sketched, worker_told}
-use Rattle.told_items.specs.Lists.{AreParts, call_in, spelt_in}
+use Rattle.run_check.specs.ToldItems.{Sketched, worker_told}
+use Rattle.run_check.specs.ToldLists.{AreParts, call_in, spelt_in}
 use Rattle.run_check.specs.declared.spelling.SpeltList.{SpeltList}
 use Rattle.run_check.specs.declared.spelling.Spelling.{Spelling}
 

@@ -13,6 +13,7 @@ pub mod report;
 mod shown_keys;
 pub mod spelling;
 pub mod stops;
+pub mod told;
 pub mod verdict;
 
 pub use verdict::check;

@@ -1,9 +1,10 @@
 //! What the workers' lists spell.
 ghost use Rattle.std.specs.Prelude.{◌≡◌, ◌↔◌, ◌<◌, ◌++◌, ◌∷◌, [], false, IfOk, OnOk, IsTrue, MatchOption};
 ghost use Rattle.workload.specs.Dialect.{has_variables};
-ghost use Rattle.told_items.specs.Items.{kept_by};
+ghost use Rattle.run_check.specs.ToldItems.{kept_by};
 ghost use Rattle.run_check.specs.Lists.{AreSpeltTo, IsSpeltList, SomeSpellsNothing, SpellsNothing};
 
+use crate::told::lists::{ToldList, kept_by, list_told};
 use list_checks::spell::line::{SpeltLine, spell_line};
 use object_checks::journals::JournalItem;
 use record_text::ItemLine;
@@ -11,7 +12,6 @@ use run_record::Made;
 use std::alloc::{AllocError, Global};
 use sync_model::Item;
 use sync_types::Seq;
-use told_items::lists::{ToldList, kept_by, list_told};
 use workload::Workload;
 
 /// What was found of a worker's list: its items, and what they spell.

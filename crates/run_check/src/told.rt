@@ -1,5 +1,4 @@
 //! The items that the lines of a record's text say.
-#![tactic(auto)]
 
 pub mod along;
 pub mod deeds;

@@ -46,9 +46,9 @@ use Rattle.record_text.specs.declared.event.EventWord.{EventWord}
 use Rattle.record_text.specs.declared.event.EventWord.TheVariants as events
 use Rattle.record_text.specs.declared.answer.AnswerWord.{AnswerWord}
 use Rattle.record_text.specs.declared.answer.AnswerWord.TheVariants as words
-use Rattle.told_items.specs.Replies.{int32_told}
-use Rattle.told_items.specs.declared.deeds.Speaker.{Speaker}
-use Rattle.told_items.specs.declared.deeds.Speaker.TheVariants as speakers
+use Rattle.run_check.specs.Replies.{int32_told}
+use Rattle.run_check.specs.declared.told.deeds.Speaker.{Speaker}
+use Rattle.run_check.specs.declared.told.deeds.Speaker.TheVariants as speakers
 
 -- ---- the events and answers of each kind; an answer belongs to an event
 

@@ -1,6 +1,6 @@
 //! What a call on a map or an atomic replied, read from its word.
 ghost use Rattle.std.specs.Prelude.{◌≡◌, ◌+◌, ◌-◌, ◌<◌, ◌≤◌, ◌^◌, negsuc};
-ghost use Rattle.told_items.specs.Replies.{below_told, int64_told, int32_told, any_number_told, natural_told, number_told, compares, atomic_reply_told, settles, map_reply_told, reply_told};
+ghost use Rattle.run_check.specs.Replies.{below_told, int64_told, int32_told, any_number_told, natural_told, number_told, compares, atomic_reply_told, settles, map_reply_told, reply_told};
 
 use record_text::{PlacedReply, Whole};
 use sync_model::{SharedCall, SharedReply};

@@ -36,15 +36,15 @@ use Rattle.record_text.specs.declared.item_line.PlacedReply.{PlacedReply}
 use Rattle.record_text.specs.declared.item_line.PlacedReply.TheVariants as replies
 use Rattle.record_text.specs.declared.item_line.Said.{Said}
 use Rattle.record_text.specs.declared.item_line.Said.TheVariants as said
-use Rattle.told_items.specs.declared.along.Along.{Along}
-use Rattle.told_items.specs.declared.deeds.Speaker.{Speaker}
-use Rattle.told_items.specs.declared.deeds.Speaker.TheVariants as speakers
-use Rattle.told_items.specs.declared.placing.Asked.{Asked}
-use Rattle.told_items.specs.declared.sketch.Sketch.{Sketch}
-use Rattle.told_items.specs.declared.sketch.Sketch.TheVariants as sketches
+use Rattle.run_check.specs.declared.told.along.Along.{Along}
+use Rattle.run_check.specs.declared.told.deeds.Speaker.{Speaker}
+use Rattle.run_check.specs.declared.told.deeds.Speaker.TheVariants as speakers
+use Rattle.run_check.specs.declared.told.placing.Asked.{Asked}
+use Rattle.run_check.specs.declared.told.sketch.Sketch.{Sketch}
+use Rattle.run_check.specs.declared.told.sketch.Sketch.TheVariants as sketches
 use Rattle.record_text.specs.Told.{items_of}
-use Rattle.told_items.specs.Deeds.{deed_told}
-use Rattle.told_items.specs.Replies.{int64_told, reply_told}
+use Rattle.run_check.specs.Deeds.{deed_told}
+use Rattle.run_check.specs.Replies.{int64_told, reply_told}
 
 -- ---- the call on a map or an atomic that a call of a script makes
 

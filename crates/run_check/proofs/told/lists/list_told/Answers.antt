@@ -1,7 +1,7 @@
 use Rattle.std.proofs.Common.{◌≡◌, ℕ, List, sym, ap, ◌∙◌}
-use Rattle.told_items.specs.Lists.{parts_with}
-use Rattle.told_items.proofs.ListLemmas.{line_next, says}
-use Rattle.told_items.proofs.lists.list_told.Goals as goal
+use Rattle.run_check.specs.ToldLists.{parts_with}
+use Rattle.run_check.proofs.ListLemmas.{line_next, says}
+use Rattle.run_check.proofs.told.lists.list_told.Goals as goal
 
 pub loop-index-preserved : goal.loop-index-preserved
 loop-index-preserved c =

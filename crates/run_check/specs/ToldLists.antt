@@ -9,10 +9,10 @@ use Rattle.run_record.specs.declared.entered.ObjectReply.{ObjectReply}
 use Rattle.run_record.specs.declared.made.Made.{Made}
 use Rattle.run_record.specs.declared.made.Made.TheVariants.{Shared, Entered}
 use Rattle.object_checks.specs.declared.journals.item.JournalItem.{JournalItem}
-use Rattle.told_items.specs.declared.lists.ToldList.{ToldList}
-use Rattle.told_items.specs.declared.sketch.Sketch.{Sketch}
-use Rattle.told_items.specs.declared.sketch.Sketch.TheVariants as sketches
-use Rattle.told_items.specs.Items.{Sketched}
+use Rattle.run_check.specs.declared.told.lists.ToldList.{ToldList}
+use Rattle.run_check.specs.declared.told.sketch.Sketch.{Sketch}
+use Rattle.run_check.specs.declared.told.sketch.Sketch.TheVariants as sketches
+use Rattle.run_check.specs.ToldItems.{Sketched}
 
 abbrev pub halts : Deed ObjectEvent ObjectReply → Bool
 halts (Event event reply) = false

@@ -9,11 +9,11 @@ use Rattle.record_text.specs.declared.item_line.ItemLine.{ItemLine}
 use Rattle.record_text.specs.declared.item_line.Said.{Said}
 use Rattle.record_text.specs.declared.item_line.Said.TheVariants as said
 use Rattle.record_text.specs.Told.{items_of}
-use Rattle.told_items.specs.declared.along.Along.{Along}
-use Rattle.told_items.specs.declared.lists.ToldList.{ToldList}
-use Rattle.told_items.specs.declared.sketch.Sketch.{Sketch}
-use Rattle.told_items.specs.Items.{Kept, Sketched, along_behind, along_start, keep_list, keep_said, list_told, sketch_told, sketched_before}
-use Rattle.told_items.specs.Lists.{AreParts, bare, behind_items, call_in, entry_at, parts_with, shared_at, spelt_in}
+use Rattle.run_check.specs.declared.told.along.Along.{Along}
+use Rattle.run_check.specs.declared.told.lists.ToldList.{ToldList}
+use Rattle.run_check.specs.declared.told.sketch.Sketch.{Sketch}
+use Rattle.run_check.specs.ToldItems.{Kept, Sketched, along_behind, along_start, keep_list, keep_said, list_told, sketch_told, sketched_before}
+use Rattle.run_check.specs.ToldLists.{AreParts, bare, behind_items, call_in, entry_at, parts_with, shared_at, spelt_in}
 
 -- how many calls stand before grows by one at most
 pub along_grows : (along : Along) (s : Said) (i : ℕ) → along.calls ≤ i → (along_behind along s).calls ≤ i + 1

@@ -2,9 +2,9 @@
 ghost use Rattle.std.specs.Prelude.{◌≡◌, ◌<◌};
 ghost use Rattle.std.specs.Option.{option_map};
 ghost use Rattle.run_record.specs.Objects.{map_number, atomic_number};
-ghost use Rattle.told_items.specs.Items.{type_at, loads, asked_on, asked_by, ranged_by, kept_at, declared_speaker, later_speaker, speaker_behind, speaker_of, script_call};
+ghost use Rattle.run_check.specs.ToldItems.{type_at, loads, asked_on, asked_by, ranged_by, kept_at, declared_speaker, later_speaker, speaker_behind, speaker_of, script_call};
 
-use crate::deeds::Speaker;
+use crate::told::deeds::Speaker;
 use list_checks::spell::numbers::{atomic_number, map_number, starts_number};
 use list_checks::spell::renamed::numbered;
 use script_calls::{Call, ComposedCall, Operation};

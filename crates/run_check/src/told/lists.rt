@@ -1,13 +1,13 @@
 //! The list of a worker, out of the lines of a text.
 ghost use Rattle.std.specs.Prelude.{◌≡◌, ◌<◌, [], ◌++◌, ◌∷◌, List, length, IfOk, OnOk, MatchOption, Some, None};
 ghost use Rattle.run_record.specs.declared.made.Made.{Made};
-ghost use Rattle.told_items.specs.Items.{Sketched, kept_by, keep, keep_said, keep_list, list_told, worker_told, along_start, sketch_told};
-ghost use Rattle.told_items.specs.Lists.{AreParts, bare, halts, parts_with};
+ghost use Rattle.run_check.specs.ToldItems.{Sketched, kept_by, keep, keep_said, keep_list, list_told, worker_told, along_start, sketch_told};
+ghost use Rattle.run_check.specs.ToldLists.{AreParts, bare, halts, parts_with};
 ghost use Rattle.record_text.specs.Told.{items_of};
 
-use crate::along::Along;
-use crate::placing::kept_at;
-use crate::sketch::{Sketch, along_behind, sketch_told};
+use crate::told::along::Along;
+use crate::told::placing::kept_at;
+use crate::told::sketch::{Sketch, along_behind, sketch_told};
 use object_checks::journals::JournalItem;
 use record_text::{EventWord, ItemLine, Said};
 use run_record::{Made, ObjectEvent, ObjectReply};

@@ -1,8 +1,8 @@
 //! What was done on an object, and what it answered, read from their words.
 ghost use Rattle.std.specs.Prelude.{◌≡◌};
-ghost use Rattle.told_items.specs.Deeds.{mutex_event_told, mutex_reply_told, rw_event_told, rw_arrival_told, rw_trial_told, rw_unlocking_told, rw_resumption_told, rw_leaving_told, rw_reply_told, cond_event_told, cond_reply_told, group_event_told, group_reply_told, once_event_told, once_reply_told, pool_event_told, put_reply_told, look_reply_told, sweep_reply_told, pool_reply_told, start_event_told, start_reply_told, event_told, answer_told, halted_in, entry_told, deed_told};
+ghost use Rattle.run_check.specs.Deeds.{mutex_event_told, mutex_reply_told, rw_event_told, rw_arrival_told, rw_trial_told, rw_unlocking_told, rw_resumption_told, rw_leaving_told, rw_reply_told, cond_event_told, cond_reply_told, group_event_told, group_reply_told, once_event_told, once_reply_told, pool_event_told, put_reply_told, look_reply_told, sweep_reply_told, pool_reply_told, start_event_told, start_reply_told, event_told, answer_told, halted_in, entry_told, deed_told};
 
-use crate::replies::int32_told;
+use crate::told::replies::int32_told;
 use mutex_core::{Arrival, MutexEvent, MutexReply, Resumption, Unlocking};
 use pool_core::{PoolEvent, PoolReply};
 use record_text::{AnswerWord, EventWord};

@@ -1,11 +1,11 @@
 //! The item that a line of a record's text says, beside its front.
 ghost use Rattle.std.specs.Prelude.{◌≡◌, ◌<◌, ◌+◌, ◌^◌};
-ghost use Rattle.told_items.specs.Items.{along_behind, entered, may_be_of, sketch_told, speaker_of, sum_in};
+ghost use Rattle.run_check.specs.ToldItems.{along_behind, entered, may_be_of, sketch_told, speaker_of, sum_in};
 
-use crate::along::Along;
-use crate::deeds::{Speaker, deed_told};
-use crate::placing::{asked_by, ranged_by, script_call, speaker_of};
-use crate::replies::{int64_told, reply_told};
+use crate::told::along::Along;
+use crate::told::deeds::{Speaker, deed_told};
+use crate::told::placing::{asked_by, ranged_by, script_call, speaker_of};
+use crate::told::replies::{int64_told, reply_told};
 use record_text::{AnswerWord, EventWord, PlacedReply, Said};
 use run_record::{ObjectEvent, ObjectReply};
 use sync_model::{Deed, SharedCall, SharedReply};

@@ -1,7 +1,7 @@
 use Rattle.std.proofs.Common.{◌≡◌, cond, None, sym, ap, ◌∙◌}
-use Rattle.told_items.specs.declared.deeds.Speaker.{Speaker}
-use Rattle.told_items.specs.Items.{entered, speaker_of}
-use Rattle.told_items.proofs.sketch.sketch_told.Goals as goal
+use Rattle.run_check.specs.declared.told.deeds.Speaker.{Speaker}
+use Rattle.run_check.specs.ToldItems.{entered, speaker_of}
+use Rattle.run_check.proofs.told.sketch.sketch_told.Goals as goal
 
 pub returns-then-may_be_of : goal.returns-then-may_be_of
 returns-then-may_be_of c =

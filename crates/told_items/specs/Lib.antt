@@ -1,4 +1,0 @@
-pub mod Replies
-pub mod Deeds
-pub mod Items
-pub mod Lists
