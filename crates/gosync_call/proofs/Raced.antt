@@ -8,8 +8,8 @@ use Rattle.sync_types.specs.declared.misuse.Misuse.{Misuse}
 use Rattle.workload.specs.Plan.{Plan}
 use Rattle.record_clauses.specs.declared.clause.Verdict.TheVariants as verdicts
 use Rattle.race_clocks.specs.declared.race.Race.{Race}
-use Rattle.race_report.specs.RaceText.{races_text, report_with_races}
-use Rattle.race_report.specs.Variables.{with_variables}
+use Rattle.race_clocks.specs.RaceText.{races_text, report_with_races}
+use Rattle.race_clocks.specs.Variables.{with_variables}
 use Rattle.step_runner.specs.Computed.{variables_left}
 use Rattle.step_runner.specs.declared.ends.VariableEnd.{VariableEnd}
 use Rattle.run_report.specs.ReportText.{report_text}

@@ -14,8 +14,8 @@ use Rattle.step_runner.specs.Outcomes.{StepsTo}
 use Rattle.step_runner.specs.Traces.{trace_of}
 use Rattle.race_clocks.specs.Races.{AreRaces}
 use Rattle.race_clocks.specs.declared.race.Race.{Race}
-use Rattle.race_report.specs.RaceText.{report_with_races}
-use Rattle.race_report.specs.Variables.{with_variables}
+use Rattle.race_clocks.specs.RaceText.{report_with_races}
+use Rattle.race_clocks.specs.Variables.{with_variables}
 use Rattle.gosync_call.specs.ComesTo.{ComesBy}
 use Rattle.gosync_call.specs.declared.status.Ending.{Ending}
 use Rattle.gosync_call.specs.declared.status.Ending.TheVariants as endings

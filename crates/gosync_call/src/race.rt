@@ -4,15 +4,15 @@ ghost use Rattle.sync_outside.specs.Faults.{Rose};
 ghost use Rattle.script_calls.specs.Outcome.{shows_to};
 ghost use Rattle.workload.specs.declared.limits.TheConstants.{MAX_KEYS};
 ghost use Rattle.step_runner.specs.Computed.{variables_left};
-ghost use Rattle.race_report.specs.Variables.{with_variables};
+ghost use Rattle.race_clocks.specs.Variables.{with_variables};
 ghost use Rattle.gosync_call.specs.Races.{ending_with, EndsWithRaces, FailsWithRaces, HasRaces};
 ghost use Rattle.gosync_call.specs.declared.status.Fault.TheVariants as faults;
 
 use crate::read::is_in_range;
 use crate::status::{Ending, Fault};
+use race_clocks::report::report::report_with_races;
+use race_clocks::report::variables::with_variables;
 use race_clocks::{Race, races};
-use race_report::report::report_with_races;
-use race_report::variables::with_variables;
 use script_calls::Outcome;
 use std::alloc::{AllocError, Global};
 use step_runner::laws::each_run_has_one_outcome;

@@ -30,3 +30,5 @@ pub mod StepByStep
 pub mod Told
 pub mod Turns
 pub mod Whose
+pub mod Shown
+pub mod TextCuts

@@ -11,3 +11,5 @@ pub mod Numbering
 pub mod Passing
 pub mod Stepping
 pub mod Places
+pub mod RaceText
+pub mod Variables

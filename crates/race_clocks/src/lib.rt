@@ -11,6 +11,7 @@ mod maps;
 mod numbers;
 mod pools;
 pub mod race;
+pub mod report;
 mod seen;
 mod steps;
 mod tables;

@@ -12,7 +12,7 @@ ghost use Rattle.step_runner.specs.Computed.{turns};
 ghost use Rattle.step_runner.specs.Outcomes.{StepsTo};
 ghost use Rattle.step_runner.specs.Traces.{trace_of};
 ghost use Rattle.race_clocks.specs.Races.{AreRaces};
-ghost use Rattle.race_report.specs.RaceText.{races_text};
+ghost use Rattle.race_clocks.specs.RaceText.{races_text};
 ghost use Rattle.run_report.specs.ReportText.{report_text};
 ghost use Rattle.gosync_call.specs.ComesTo.{ComesTo, IsReadIn};
 ghost use Rattle.gosync_call.specs.Headline.{Headline};
@@ -27,7 +27,7 @@ ghost use Rattle.gosync_call.specs.declared.status.Status.TheVariants as statuse
 
 use race_clocks::Race;
 use race_clocks::laws::without_variables_nothing_races;
-use race_report::laws::{races_stand_behind_the_report, variables_stand_behind_the_ends};
+use race_clocks::report::laws::{races_stand_behind_the_report, variables_stand_behind_the_ends};
 use step_runner::laws::{each_run_has_one_outcome, variables_end_with_their_last_writes};
 use workload::laws::{
     plain_texts_are_race_texts_without_variables, race_texts_are_read_or_refused,

@@ -1,7 +1,7 @@
 use Rattle.std.proofs.Common.{◌∙◌, List, ap, subst}
 use Rattle.sync_outside.specs.Bytes.{Appends}
 use Rattle.race_clocks.specs.declared.race.Race.{Race}
-use Rattle.race_report.specs.RaceText.{report_with_races}
+use Rattle.race_clocks.specs.RaceText.{report_with_races}
 use Rattle.gosync_call.specs.Races.{ending_with}
 use Rattle.gosync_call.proofs.Raced.{ends_with_races}
 use Rattle.gosync_call.proofs.race.run_with_races.Goals as goal

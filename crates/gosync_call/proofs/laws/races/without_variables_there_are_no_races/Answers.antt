@@ -8,8 +8,8 @@ use Rattle.step_runner.specs.Computed.{variables_left}
 use Rattle.step_runner.specs.Outcomes.{StepsTo}
 use Rattle.step_runner.specs.declared.ends.VariableEnd.{VariableEnd}
 use Rattle.race_clocks.specs.declared.race.Race.{Race}
-use Rattle.race_report.specs.RaceText.{report_with_races}
-use Rattle.race_report.specs.Variables.{with_variables}
+use Rattle.race_clocks.specs.RaceText.{report_with_races}
+use Rattle.race_clocks.specs.Variables.{with_variables}
 use Rattle.run_report.specs.ReportText.{report_text}
 use Rattle.gosync_call.specs.Messages.{ending_of}
 use Rattle.gosync_call.specs.Races.{ending_with, race_text}

@@ -3,9 +3,9 @@ use Rattle.std.specs.List.{flat_map}
 use Rattle.std.proofs.lemmas.Result.{on_err_weaker}
 use Rattle.sync_outside.specs.Bytes.{AppendsFront}
 use Rattle.run_report.specs.ReportText.{report_lines, report_text}
-use Rattle.race_report.specs.RaceText.{count_line, race_line, races_text}
-use Rattle.race_report.proofs.TextCuts.{on_err}
-use Rattle.race_report.proofs.report.report_with_races.Goals as goal
+use Rattle.race_clocks.specs.RaceText.{count_line, race_line, races_text}
+use Rattle.race_clocks.proofs.TextCuts.{on_err}
+use Rattle.race_clocks.proofs.report.report.report_with_races.Goals as goal
 
 pub returns-in_err-write_race_lines-clause-err : goal.returns-in_err-write_race_lines-clause-err
 returns-in_err-write_race_lines-clause-err g c =

@@ -10,10 +10,10 @@ ghost use Rattle.workload.specs.Canonical.{name_of};
 ghost use Rattle.workload.specs.Plan.{Plan};
 ghost use Rattle.run_report.specs.ReportText.{report_text};
 ghost use Rattle.step_runner.specs.declared.ends.VariableEnd.{VariableEnd};
-ghost use Rattle.race_report.specs.RaceText.{report_with_races};
-ghost use Rattle.race_report.specs.Variables.{with_variables};
+ghost use Rattle.race_clocks.specs.RaceText.{report_with_races};
+ghost use Rattle.race_clocks.specs.Variables.{with_variables};
 
-use race_clocks::Race;
+use crate::race::Race;
 
 /// Behind the report of a run stand its races, in order: for each a line `race X I.J K.L` with the variable's name and the worker and place
 /// of both calls. A last line says how many there are. So where there are none, `races 0` stands there and nothing else.

@@ -1,7 +1,7 @@
 //! The variables of a workload in the report of its run.
 ghost use Rattle.std.specs.Prelude.{◌≡◌, ◌++◌, ℕ, map, IfOk, OnOk};
 ghost use Rattle.script_calls.specs.Outcome.{shows_to};
-ghost use Rattle.race_report.specs.Variables.{variable_end, with_variables};
+ghost use Rattle.race_clocks.specs.Variables.{variable_end, with_variables};
 
 use script_calls::{Outcome, Report};
 use std::alloc::AllocError;

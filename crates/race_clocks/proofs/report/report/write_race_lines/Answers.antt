@@ -3,9 +3,9 @@ use Rattle.std.specs.List.{flat_map}
 use Rattle.sync_outside.specs.Bytes.{Appends, AppendsFront}
 use Rattle.run_report.specs.Writes.{WroteUpTo}
 use Rattle.race_clocks.specs.declared.race.Race.{Race}
-use Rattle.race_report.specs.RaceText.{race_line}
-use Rattle.race_report.proofs.TextCuts.{next_piece, on_err, with_rest}
-use Rattle.race_report.proofs.report.write_race_lines.Goals as goal
+use Rattle.race_clocks.specs.RaceText.{race_line}
+use Rattle.race_clocks.proofs.TextCuts.{next_piece, on_err, with_rest}
+use Rattle.race_clocks.proofs.report.report.write_race_lines.Goals as goal
 
 -- what stands for a race where there is none
 abbrev none : Race

@@ -4,8 +4,8 @@ use Rattle.std.specs.Vec.{vec_capacity}
 use Rattle.sync_outside.specs.Bytes.{Appends}
 use Rattle.workload_text.specs.declared.line.TheConstants.{LINE_ROOM}
 use Rattle.run_report.specs.Writes.{Wrote}
-use Rattle.race_report.specs.RaceText.{race_line}
-use Rattle.race_report.proofs.report.write_race_lines.Given as goal
+use Rattle.race_clocks.specs.RaceText.{race_line}
+use Rattle.race_clocks.proofs.report.report.write_race_lines.Given as goal
 
 abbrev pub invariant-loop-race : goal.invariant-loop-race
 invariant-loop-race g l = record {

@@ -16,8 +16,8 @@ use Rattle.workload_text.specs.ReportLines.{end_line}
 use Rattle.run_report.specs.ReportText.{ends_text, report_text}
 use Rattle.race_clocks.specs.declared.race.Race.{Race}
 use Rattle.step_runner.specs.declared.ends.VariableEnd.{VariableEnd}
-use Rattle.race_report.specs.RaceText.{count_line, place_text, race_line, races_text}
-use Rattle.race_report.specs.Variables.{variable_end, with_variables}
+use Rattle.race_clocks.specs.RaceText.{count_line, place_text, race_line, races_text}
+use Rattle.race_clocks.specs.Variables.{variable_end, with_variables}
 
 -- pieces that are equal one by one make one text
 same_pieces : {X : Type 0} (f g : X → List ℕ) → ((x : X) → f x ≡ g x) → (xs : List X) → flat_map f xs ≡ flat_map g xs

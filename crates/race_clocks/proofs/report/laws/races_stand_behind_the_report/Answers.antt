@@ -1,7 +1,7 @@
 use Rattle.std.proofs.Common.{ℕ, List, ◌++◌, ap}
 use Rattle.run_report.specs.ReportText.{report_text}
-use Rattle.race_report.proofs.Shown.{no_races, races_told}
-use Rattle.race_report.proofs.laws.races_stand_behind_the_report.Goals as goal
+use Rattle.race_clocks.proofs.Shown.{no_races, races_told}
+use Rattle.race_clocks.proofs.report.laws.races_stand_behind_the_report.Goals as goal
 
 pub returns-clause-lines : goal.returns-clause-lines
 returns-clause-lines c plan outcome races = ap (λ (behind : List ℕ). report_text plan outcome ++ behind) (races_told plan races)

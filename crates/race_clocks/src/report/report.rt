@@ -7,10 +7,10 @@ ghost use Rattle.script_calls.specs.Outcome.{shows_to};
 ghost use Rattle.workload.specs.declared.limits.TheConstants.{MAX_KEYS};
 ghost use Rattle.workload_text.specs.Adding.{Adds, HasRoom};
 ghost use Rattle.run_report.specs.Writes.{Wrote, WroteUpTo};
-ghost use Rattle.race_report.specs.RaceText.{count_line, lines_with_races, place_text, race_line, report_with_races};
+ghost use Rattle.race_clocks.specs.RaceText.{count_line, lines_with_races, place_text, race_line, report_with_races};
 
+use crate::race::{CallPlace, Race};
 use itoa::Buffer;
-use race_clocks::{CallPlace, Race};
 use run_report::laws::what_is_written_adds_up;
 use run_report::report::report;
 use script_calls::Outcome;

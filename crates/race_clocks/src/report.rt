@@ -1,5 +1,4 @@
 //! The races of a run by schedule, told behind its report.
-#![tactic(auto)]
 
 pub mod laws;
 pub mod report;

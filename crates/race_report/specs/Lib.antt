@@ -1,2 +1,0 @@
-pub mod RaceText
-pub mod Variables
