@@ -23,4 +23,4 @@ returns-clause-lawful g c =
     lawful_for c.args.self.now _ c.make-made.new.seat.me.0 (ap (λ (u : View). u.begin) made.is ∙ c.requires.note.0.begin) made.looks
 
 pub returns-clause-called : goal.returns-clause-called
-returns-clause-called g c = called_by c.args.self.now c.args.note.now c.make-made.new.seat.me.0 (calls.Map c.args.map c.args.call) (replies.Map c.make-made.result.reply) (cost_of c.args.call) c.requires.note.0 c.make-made.ensures.made.1.1.called
+returns-clause-called g c = called_by c.args.self.now c.args.note.now c.make-made.new.seat.me.0 c.time_of.result.time (calls.Map c.args.map c.args.call) (replies.Map c.make-made.result.reply) (cost_of c.args.call) c.requires.note.0 c.time_of.ensures c.make-made.ensures.made.1.1.called

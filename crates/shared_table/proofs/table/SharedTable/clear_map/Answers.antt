@@ -24,4 +24,4 @@ returns-clause-lawful g c =
     lawful_for c.args.self.now _ c.clear.new.seat.me.0 (ap (λ (u : View). u.begin) made.is ∙ c.requires.note.0.begin) made.looks
 
 pub returns-clause-called : goal.returns-clause-called
-returns-clause-called g c = called_by c.args.self.now c.args.note.now c.clear.new.seat.me.0 (calls.Map c.args.map Clear) (replies.Map Done) 1 c.requires.note.0 c.clear.ensures.made.1.2.called
+returns-clause-called g c = called_by c.args.self.now c.args.note.now c.clear.new.seat.me.0 c.time_of.result.time (calls.Map c.args.map Clear) (replies.Map Done) 1 c.requires.note.0 c.time_of.ensures c.clear.ensures.made.1.2.called
