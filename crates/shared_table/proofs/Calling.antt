@@ -35,8 +35,8 @@ drafts (first ∷ owns) x time all zero own at = subst (λ (o : Own). o.draft �
 drafts (first ∷ owns) x time all (suc i) own at = all (suc i) own at
 
 -- the note is still a note of its home
-pub note_on : (home : SharedTable) (old new : SharedNote) (call : SharedCall) (reply : SharedReply) → IsNoteOf home old → new.seat.table_id ≡ old.seat.table_id → new.seat.me.1 ≡ old.seat.me.1 → PlacesCall call reply (at_time old.seat.me.0 old.stamp.time) new.seat.me.0 → IsNoteOf home new
-note_on home old new call reply is table_is empty places =
+pub note_on : (home : SharedTable) (old new : SharedNote) (before : ℕ) (call : SharedCall) (reply : SharedReply) → IsNoteOf home old → new.seat.table_id ≡ old.seat.table_id → new.seat.me.1 ≡ old.seat.me.1 → PlacesCall call reply (at_time old.seat.me.0 before) new.seat.me.0 → IsNoteOf home new
+note_on home old new before call reply is table_is empty places =
     let v = old.seat.me.0 in
     let w = called_view v (with_item v.owns places.item places.time) places.seen places.time in
     let same = sym places.is in
@@ -54,11 +54,11 @@ note_on home old new call reply is table_is empty places =
     }
 
 -- what an operation tells a note of its table
-pub operated_on : (table : SharedTable) (old : SharedNote) (a : ℕ) (call : AtomicCall) (f : ℕ → ℕ) (found : ℕ) (after : Me (Unit {0}) View) → IsNoteOf table old → (on : IsOperationOn table a call f) → Operates a call old.stamp.time old.seat.me found after
-    → (is_word on.kind found ≡ true) × PlacesCall (Atomic a call) (replies.Atomic (atomic_reply call (number_in on.kind found))) (at_time old.seat.me.0 old.stamp.time) after.0 × IsAtEnd (view_state after.0)
-operated_on table old a call f found after is on told = told.1 on.kind (ap (λ (b : Begin). slice_get b.kinds a) is.begin ∙ on.at)
+pub operated_on : (table : SharedTable) (old : SharedNote) (before a : ℕ) (call : AtomicCall) (f : ℕ → ℕ) (found : ℕ) (after : Me (Unit {0}) View) → IsNoteOf table old → (on : IsOperationOn table a call f) → Operates a call before old.seat.me found after
+    → (is_word on.kind found ≡ true) × PlacesCall (Atomic a call) (replies.Atomic (atomic_reply call (number_in on.kind found))) (at_time old.seat.me.0 before) after.0 × IsAtEnd (view_state after.0)
+operated_on table old before a call f found after is on told = told.1 on.kind (ap (λ (b : Begin). slice_get b.kinds a) is.begin ∙ on.at)
 
-pub home_on : (table : SharedTable) (old new : SharedNote) (a : ℕ) (call : AtomicCall) (f : ℕ → ℕ) (found : ℕ) → IsNoteOf table old → IsOperationOn table a call f
-    → new.seat.table_id ≡ old.seat.table_id → Operates a call old.stamp.time old.seat.me found new.seat.me → SameHome IsNoteOf old new
-home_on table old new a call f found is on table_is told home at_home =
-    note_on home old new (Atomic a call) (replies.Atomic (atomic_reply call (number_in on.kind found))) at_home table_is told.0 (operated_on table old a call f found new.seat.me is on told).1
+pub home_on : (table : SharedTable) (old new : SharedNote) (before a : ℕ) (call : AtomicCall) (f : ℕ → ℕ) (found : ℕ) → IsNoteOf table old → IsOperationOn table a call f
+    → new.seat.table_id ≡ old.seat.table_id → Operates a call before old.seat.me found new.seat.me → SameHome IsNoteOf old new
+home_on table old new before a call f found is on table_is told home at_home =
+    note_on home old new before (Atomic a call) (replies.Atomic (atomic_reply call (number_in on.kind found))) at_home table_is told.0 (operated_on table old before a call f found new.seat.me is on told).1

@@ -32,7 +32,7 @@ has_unit note cost owned unwritten one spare = by_owns note.seat.me.0.owns refl
         let enough : cost ≤ own.spare = spare (record { number = note.seat.me.0.number; items = own.items; times = own.times; spare = own.spare }) (ap (held_in note.seat.me.0.number) e) in
         (own, owns, e, unwritten 0 own (ap (λ o. slice_get o 0) e), ap (next_in note.next) (sym e) ∙ note.next_is, omega arith)
 
-module _ (table : SharedTable) (old : SharedNote) (m : ℕ) (call : MapCall ℕ) (reply : MapReply) (words : ℕ) (w : View) (is : IsNoteOf table old) (costs : cost_of call ≡ 1) (unit : HasUnit old.seat.me.0.owns old.next) (cut : List CutNode) (made : MadeCall m call reply words (having_cut (at_time old.seat.me.0 old.stamp.time) cut) w) where
+module _ (table : SharedTable) (old : SharedNote) (before m : ℕ) (call : MapCall ℕ) (reply : MapReply) (words : ℕ) (w : View) (is : IsNoteOf table old) (costs : cost_of call ≡ 1) (unit : HasUnit old.seat.me.0.owns old.next) (cut : List CutNode) (made : MadeCall m call reply words (having_cut (at_time old.seat.me.0 before) cut) w) where
   abbrev after : Own
   after = record unit.0 { items = unit.0.items ++ made.item ∷ []; times = unit.0.times ++ made.time ∷ []; next = unit.0.next + words; spare = unit.0.spare - 1; draft = [] }
 

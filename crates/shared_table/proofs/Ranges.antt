@@ -129,7 +129,7 @@ module _ (k : Begin) (first : Me (Unit {0}) View) (z : Spot) (start : Place) (ra
         let c = ranging.cursor in
         let of = c.of in
         subst (λ u. IsRanging k (u, me.1) (moved z place) place) (sym here) record {
-          cursor = record { live = c.live; begin = c.begin; own = c.own; owns = c.owns; is = c.is; spot = refl; of = record { begin = of.begin; at = of.at; call = of.call; front = of.front; steps = of.steps; shown = of.shown } };
+          cursor = record { live = c.live; walk = c.walk; begin = c.begin; own = c.own; owns = c.owns; is = c.is; spot = refl; of = record { begin = of.begin; at = of.at; call = of.call; front = of.front; steps = of.steps; shown = of.shown } };
           leaf = ranging.leaf;
           nodes = refl;
           slots = refl;

@@ -13,12 +13,13 @@ use Rattle.shared_table.specs.Notes.{front_by, own_by, seen_by, IsNoteOf}
 use Rattle.shared_table.specs.Tables.{first_of}
 
 -- a call of a note's seat, which was told the note's number
-pub called_by : (table : SharedTable) (old : SharedNote) (after : View) (time : ℕ) (call : SharedCall) (reply : SharedReply) (cost : ℕ) → IsNoteOf table old → time ≡ after.time
-    → Called (start_of old.seat.me.0.begin) call reply cost (view_state (at_time old.seat.me.0 old.stamp.time)) (view_state after)
+pub called_by : (table : SharedTable) (old : SharedNote) (after : View) (before time : ℕ) (call : SharedCall) (reply : SharedReply) (cost : ℕ) → IsNoteOf table old → before ≡ old.stamp.time → time ≡ after.time
+    → Called (start_of old.seat.me.0.begin) call reply cost (view_state (at_time old.seat.me.0 before)) (view_state after)
     → Called (first_of table) call reply cost (state_of own_by front_by seen_by old) (record (view_state after) { time = time })
-called_by table old after time call reply cost is same called =
+called_by table old after before time call reply cost is told same called =
     subst (λ t. Called (first_of table) call reply cost (state_of own_by front_by seen_by old) (record (view_state after) { time = t })) (sym same)
-    (subst (λ k. Called (start_of k) call reply cost (view_state (at_time old.seat.me.0 old.stamp.time)) (view_state after)) is.begin called)
+    (subst (λ t. Called (first_of table) call reply cost (view_state (at_time old.seat.me.0 t)) (view_state after)) told
+    (subst (λ k. Called (start_of k) call reply cost (view_state (at_time old.seat.me.0 before)) (view_state after)) is.begin called))
 
 pub at_end_by : (after : View) (time : ℕ) → time ≡ after.time → IsAtEnd (view_state after) → IsAtEnd (record (view_state after) { time = time })
 at_end_by after time same e = subst (λ t. IsAtEnd (record (view_state after) { time = t })) (sym same) e

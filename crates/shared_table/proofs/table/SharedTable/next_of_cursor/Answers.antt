@@ -27,12 +27,12 @@ pub returns-clause-home : goal.returns-clause-home
 returns-clause-home c home at_home =
     let is = c.requires.cursor in
     let stepped = c.next-shown.ensures.stepped is.0 is.1 (of_holder (IsCursor c.args.self.now.words c.args.cursor.now is.0 is.1) (own_by c.args.note.now) c.requires.note.1 is.2) in
-    note_on home c.args.note.now _ (calls.Next is.1) (replies.Shown c.next-shown.result) at_home c.next-shown.ensures.table c.next-shown.ensures.slots stepped.placed
+    note_on home c.args.note.now _ c.same.result.time (calls.Next is.1) (replies.Shown c.next-shown.result) at_home c.next-shown.ensures.table c.next-shown.ensures.slots stepped.placed
 
 pub returns-clause-called : goal.returns-clause-called
 returns-clause-called c map begin is =
     let stepped = c.next-shown.ensures.stepped map begin (of_holder (IsCursor c.args.self.now.words c.args.cursor.now map begin) (own_by c.args.note.now) c.requires.note.1 is) in
-    called_by c.args.self.now c.args.note.now c.next-shown.new.seat.me.0 c.time_of.result.time (calls.Next begin) (replies.Shown c.next-shown.result) 0 c.requires.note.0 c.time_of.ensures stepped.placed.called
+    called_by c.args.self.now c.args.note.now c.next-shown.new.seat.me.0 c.same.result.time c.time_of-note.result.time (calls.Next begin) (replies.Shown c.next-shown.result) 0 c.requires.note.0 c.same.ensures c.time_of-note.ensures stepped.placed.called
 
 pub returns-clause-stands : goal.returns-clause-stands
 returns-clause-stands c map begin is = holder_of (IsCursor c.args.self.now.words c.next-shown.new.self map begin) (view_state c.next-shown.new.seat.me.0).own
