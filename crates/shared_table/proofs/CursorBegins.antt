@@ -22,7 +22,7 @@ use Rattle.table_rule.specs.Walking.{HasWords, IsFree}
 use Rattle.shared_table.proofs.Ranged.{let_go, one_more, at_end, not_yet}
 
 -- a caller's seat has begun a cursor
-module _ (words : TableWords) (old mid new : Me (Unit {0}) View) (root m : ℕ) (cursor : TableCursor) (free : IsFree (begin_of words) old) (begun : BeginsCursor m old root mid)
+module _ (words : TableWords) (old mid new : Me (Unit {0}) View) (root m : ℕ) (cursor : TableCursor) (free : IsFree (begin_of words) old) (begun : BeginsCursor m old.0.time old root mid)
     (new_is : new ≡ (unmounted mid.0, mid.1)) (seat_is : cursor.seat.me ≡ (cursor_seat mid.0, [])) (table_is : IsSeatOf words cursor.seat) (nodes : nodes_of cursor.place ≡ root ∷ []) (slots : slots_of cursor.place ≡ 0 ∷ []) where
   abbrev v : View
   v = old.0

@@ -24,28 +24,28 @@ use Rattle.table_rule.specs.Walking.{HasWords, IsFree}
 use Rattle.shared_table.proofs.Ranged.{let_go, one_more, one_step}
 
 -- its seat took in the cursor's
-pub taken_in : (first mid me : Me (Unit {0}) View) (cursor held : Seat (Unit {0}) View) → mid ≡ (unmounted first.0, first.1) → held ≡ cursor → me ≡ (mounted mid.0 held.me.0, mid.1) → me ≡ (mounted (unmounted first.0) cursor.me.0, first.1)
-taken_in first mid me cursor held mid_is held_is is = is ∙ (λ i. (mounted (mid_is i).0 (held_is i).me.0, (mid_is i).1))
+pub taken_in : (first mid me : Me (Unit {0}) View) (cursor held : Seat (Unit {0}) View) (time : ℕ) → mid ≡ (unmounted first.0, first.1) → held ≡ cursor → me ≡ (mounted time mid.0 held.me.0, mid.1) → me ≡ (mounted time (unmounted first.0) cursor.me.0, first.1)
+taken_in first mid me cursor held time mid_is held_is is = is ∙ (λ i. (mounted time (mid_is i).0 (held_is i).me.0, (mid_is i).1))
 
 -- a caller's seat has taken in its cursor's, made a step, and let it go
 module _ (words : TableWords) (first : Me (Unit {0}) View) (free : IsFree (begin_of words) first) (cursor : TableCursor) (m b : ℕ) (is : IsCursor words cursor m b (items_of (view_state first.0).own)) where
   abbrev v : View
   v = first.0
 
-  pub ranging : (me : Me (Unit {0}) View) → me ≡ (mounted (unmounted first.0) cursor.seat.me.0, first.1) → IsRanging (begin_of words) me is.spot cursor.place
+  pub ranging : (me : Me (Unit {0}) View) → me ≡ (mounted first.0.time (unmounted first.0) cursor.seat.me.0, first.1) → IsRanging (begin_of words) me is.spot cursor.place
   ranging me me_is = by_owns v.owns refl
     where
       by_owns : (owns : List Own) → v.owns ≡ owns → IsRanging (begin_of words) me is.spot cursor.place
       by_owns [] e = absurd (let none_there = ap length e in let some_there = free.some in omega arith)
       by_owns (own ∷ owns) e = subst (λ (x : Me (Unit {0}) View). IsRanging (begin_of words) x is.spot cursor.place) (sym me_is) record {
-        cursor = record { live = free.live; begin = free.begin; own = own; owns = owns; is = e; spot = is.is; of = subst (λ l. IsCursorOf (items_of (held_in v.number l)) is.spot) e is.of };
+        cursor = record { live = free.live; walk = free.idle.walk; begin = free.begin; own = own; owns = owns; is = e; spot = is.is; of = subst (λ l. IsCursorOf (items_of (held_in v.number l)) is.spot) e is.of };
         leaf = free.idle.leaf;
         nodes = is.nodes;
         slots = is.slots;
         words = λ i node at. subst (λ (k : Begin). HasWords (record v { begin = k }) node 18) (is.begin ∙ sym free.begin) (is.within i node at);
       }
 
-  module _ (me mid : Me (Unit {0}) View) (place : Place) (shown : Option (ℕ × ℕ)) (me_is : me ≡ (mounted (unmounted first.0) cursor.seat.me.0, first.1)) (same : mid.1 ≡ me.1)
+  module _ (me mid : Me (Unit {0}) View) (place : Place) (shown : Option (ℕ × ℕ)) (me_is : me ≡ (mounted first.0.time (unmounted first.0) cursor.seat.me.0, first.1)) (same : mid.1 ≡ me.1)
       (stepped : (z : Spot) → me.0.spot ≡ Some z → ShowsNext z shown place me.0 mid.0) where
     sweeps : Sweeps (calls.Next is.spot.begin) (replies.Shown shown) (Some (showing (moved is.spot place) shown)) None (record v { spot = cursor.seat.me.0.spot }) mid.0
     sweeps = subst (λ (u : View). ShowsNext is.spot shown place u mid.0) (ap (λ (x : Me (Unit {0}) View). x.0) me_is) (stepped is.spot (ap (λ (x : Me (Unit {0}) View). x.0.spot) me_is ∙ is.is))

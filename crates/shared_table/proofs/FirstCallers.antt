@@ -50,7 +50,7 @@ module _ (k : Begin) (n next : ℕ) (inside : n < length k.spares) where
   one = drop_more k.spares n 0 inside
 
   abbrev new_one : Own
-  new_one = record { items = []; next = next; spare = slice_index k.spares n; draft = [] }
+  new_one = record { items = []; times = []; next = next; spare = slice_index k.spares n; draft = [] }
 
   owns_are : new_owns next (drop n k.spares) ≡ new_one ∷ new_owns (next + unit_words * slice_index k.spares n) (drop (n + 1) k.spares)
   owns_are = ap (new_owns next) one
@@ -106,7 +106,7 @@ pub all_new : (table : SharedTable) (k : Begin) (callers : List (Caller SharedNo
 all_new table k callers key count each = record {
   all = record {
     all = count ∙ ap callers_of (sym key);
-    each = λ i caller at. let e = each i caller at in (e.is, (record { number = i; items = []; spare = slice_index k.spares i }, e.own, refl));
+    each = λ i caller at. let e = each i caller at in (e.is, (record { number = i; items = []; times = []; spare = slice_index k.spares i }, e.own, refl));
   };
   own = λ i caller at. (each i caller at).own;
   seen = λ i caller at. (each i caller at).seen;

@@ -56,6 +56,7 @@ module _ (k : Begin) (first : Me (Unit {0}) View) (m key : ℕ) (writing : IsWri
         of_answer false e a =
             let whole : last ≡ standing after.0 None None = last_is ∙ ap (λ w. standing after.0 w None) (ap (λ (u : View). u.walk) a.is) in record {
               item = a.item;
+              time = a.time;
               seen = a.seen;
               is = whole ∙ ap (λ (u : View). standing u None None) a.is;
               called = subst (λ (z : MapReply × View). Called (start_of first.0.begin) (calls.Map m call) (replies.Map z.0) (cost_of call) (view_state first.0) (view_state z.1)) (λ i. (sym end.1 i, sym last_is i)) a.called;
@@ -118,11 +119,11 @@ writing_on k first me m walk w is = subst (λ z. IsWriting k z m) (sym is) recor
 
 -- and its call is as if it had stood nowhere
 pub answers_on : (m : ℕ) (call : MapCall ℕ) (reply : MapReply) (words : ℕ) (v u w : View) (walk : Option Walk) → u ≡ standing v walk None → AnswersAndPrunes m call reply words u w → AnswersAndPrunes m call reply words v w
-answers_on m call reply words v u w walk is (cut, a) = let b = subst (λ z. Answers m call reply words None (having_cut z cut) w) is a in (cut, record { item = b.item; seen = b.seen; is = b.is; called = b.called; looks = b.looks })
+answers_on m call reply words v u w walk is (cut, a) = let b = subst (λ z. Answers m call reply words None (having_cut z cut) w) is a in (cut, record { item = b.item; time = b.time; seen = b.seen; is = b.is; called = b.called; looks = b.looks })
 
 -- a call that was answered on its way cut off no node
 pub answers_alone : (m : ℕ) (call : MapCall ℕ) (reply : MapReply) (words : ℕ) (v w : View) → Answers m call reply words None v w → AnswersAndPrunes m call reply words v w
-answers_alone m call reply words v w a = ([], record { item = a.item; seen = a.seen; is = a.is; called = a.called; looks = a.looks })
+answers_alone m call reply words v w a = ([], record { item = a.item; time = a.time; seen = a.seen; is = a.is; called = a.called; looks = a.looks })
 
 -- a call under a lock, from before the lock was taken until it was given back
 pub made_there : (m : ℕ) (call : MapCall ℕ) (key node level : ℕ) (reply : MapReply) (words : ℕ) (v u x y : View) (l : Lock) (cut : List CutNode) → v.lock ≡ None → v.upper ≡ None → u ≡ holding v v.gate (Some l) None
@@ -132,9 +133,10 @@ made_there m call key node level reply words v u x y l cut free alone took made 
       cut,
       record {
         item = makes.item;
+        time = makes.time;
         seen = makes.seen;
         is = left ∙ ap (λ (z : View). having_cut (standing (holding z z.gate None None) None None) cut) makes.is
-            ∙ (λ i. record (called_view v (paid (cost_of call) words (with_item v.owns makes.item)) makes.seen) { walk = None; leaf = None; lock = sym free i; upper = sym alone i; cut = cut ++ v.cut });
+            ∙ (λ i. record (called_view v (paid (cost_of call) words (with_item v.owns makes.item makes.time)) makes.seen makes.time) { walk = None; leaf = None; lock = sym free i; upper = sym alone i; cut = cut ++ v.cut });
         called = subst (λ (z : View). Called (start_of v.begin) (calls.Map m call) (replies.Map reply) (cost_of call) (view_state v) (view_state z)) (sym left) makes.called;
         looks = looks_still x y None None None None x.gate x.spot (cut ++ x.cut) left makes.looks;
       },
@@ -149,8 +151,9 @@ made_between k m call reply words first inside before after free came (cut, made
       cut,
       record {
         item = a.item;
+        time = a.time;
         seen = a.seen;
-        is = went ∙ ap (λ z. holding z Outside None None) a.is ∙ (λ i. record (called_view v (paid (cost_of call) words (with_item v.owns a.item)) a.seen) { walk = sym idle.walk i; leaf = sym idle.leaf i; gate = sym idle.gate i; lock = sym idle.lock i; upper = sym idle.upper i });
+        is = went ∙ ap (λ z. holding z Outside None None) a.is ∙ (λ i. record (called_view v (paid (cost_of call) words (with_item v.owns a.item a.time)) a.seen a.time) { walk = sym idle.walk i; leaf = sym idle.leaf i; gate = sym idle.gate i; lock = sym idle.lock i; upper = sym idle.upper i });
         called = subst (λ z. Called (start_of v.begin) (calls.Map m call) (replies.Map reply) (cost_of call) (view_state v) (view_state z)) (sym went) a.called;
         looks = looks_still before after before.walk before.leaf None None Outside before.spot before.cut went a.looks;
       },
@@ -175,9 +178,10 @@ clears_between k m first closed alone before after free shut known cleared opene
         record { map = t.1.1.map; top = t.1.1.top; entry = t.1.1.entry; before = ap (λ (v : View). v.seen) opened.1 ∙ t.1.1.before },
         record {
           item = made.item;
+          time = made.time;
           seen = made.seen;
           is = opened.1 ∙ ap (λ z. holding z Outside None None) made.is
-              ∙ (λ i. record (called_view (having_cut first.0 (d ∷ [])) (paid (cost_of {K = ℕ} Clear) 18 (with_item first.0.owns made.item)) made.seen) { gate = sym idle.gate i; lock = sym idle.lock i; upper = sym idle.upper i });
+              ∙ (λ i. record (called_view (having_cut first.0 (d ∷ [])) (paid (cost_of {K = ℕ} Clear) 18 (with_item first.0.owns made.item made.time)) made.seen made.time) { gate = sym idle.gate i; lock = sym idle.lock i; upper = sym idle.upper i });
           called = subst (λ z. Called (start_of first.0.begin) (calls.Map m Clear) (replies.Map Done) (cost_of {K = ℕ} Clear) (view_state first.0) (view_state z)) (sym opened.1) made.called;
           looks = looks_still before.0 after.0 before.0.walk before.0.leaf None None Outside before.0.spot before.0.cut opened.1 made.looks;
         },

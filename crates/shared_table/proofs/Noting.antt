@@ -82,7 +82,7 @@ lawful_for table note before begin looks =
     mine (own ∷ owns) is holding held =
         let first = looks.owned 0 own (ap (λ l. slice_get l 0) is) in
         let number : before.number ≡ before.number + 0 = omega arith in
-        subst (λ (h : Holding). looks.calls h.number ≡ h.items) (same_Some (record { number = before.number; items = own.items; spare = own.spare }) holding held) (ap looks.calls number ∙ first.1)
+        subst (λ (h : Holding). looks.calls h.number ≡ h.items) (same_Some (record { number = before.number; items = own.items; times = own.times; spare = own.spare }) holding held) (ap looks.calls number ∙ first.1)
 
 -- all callers of a new table
 pub all_callers : (table : SharedTable) (spare : List ℕ) (callers : List (Caller SharedNote)) → AreNewCallers table spare callers → All (IsCallerAt IsNoteOf own_by table) callers

@@ -18,7 +18,7 @@ use Rattle.table_rule.specs.Layout.{size_of}
 use Rattle.table_rule.specs.Making.{HasUnit, MadeCall}
 use Rattle.table_rule.specs.Pruning.{having_cut}
 use Rattle.shared_table.specs.Notes.{own_by, IsNoteOf}
-use Rattle.table_rule.specs.Views.{held_in, with_item, paid, spend, next_in, spare_in, IsIdle}
+use Rattle.table_rule.specs.Views.{held_in, with_item, paid, spend, next_in, spare_in, IsIdle, at_time}
 use Rattle.table_rule.specs.Writing.{HasRoomWithin}
 use Rattle.shared_table.proofs.Calling.{some_own}
 
@@ -29,15 +29,15 @@ has_unit note cost owned unwritten one spare = by_owns note.seat.me.0.owns refl
     by_owns : (owns : List Own) → note.seat.me.0.owns ≡ owns → HasUnit note.seat.me.0.owns note.next
     by_owns [] e = absurd (let none_there = some_own note.seat.me.0.number note.seat.me.0.owns owned in let empty = ap length e in omega arith)
     by_owns (own ∷ owns) e =
-        let enough : cost ≤ own.spare = spare (record { number = note.seat.me.0.number; items = own.items; spare = own.spare }) (ap (held_in note.seat.me.0.number) e) in
+        let enough : cost ≤ own.spare = spare (record { number = note.seat.me.0.number; items = own.items; times = own.times; spare = own.spare }) (ap (held_in note.seat.me.0.number) e) in
         (own, owns, e, unwritten 0 own (ap (λ o. slice_get o 0) e), ap (next_in note.next) (sym e) ∙ note.next_is, omega arith)
 
-module _ (table : SharedTable) (old : SharedNote) (m : ℕ) (call : MapCall ℕ) (reply : MapReply) (words : ℕ) (w : View) (is : IsNoteOf table old) (costs : cost_of call ≡ 1) (unit : HasUnit old.seat.me.0.owns old.next) (cut : List CutNode) (made : MadeCall m call reply words (having_cut old.seat.me.0 cut) w) where
+module _ (table : SharedTable) (old : SharedNote) (before m : ℕ) (call : MapCall ℕ) (reply : MapReply) (words : ℕ) (w : View) (is : IsNoteOf table old) (costs : cost_of call ≡ 1) (unit : HasUnit old.seat.me.0.owns old.next) (cut : List CutNode) (made : MadeCall m call reply words (having_cut (at_time old.seat.me.0 before) cut) w) where
   abbrev after : Own
-  after = record unit.0 { items = unit.0.items ++ made.item ∷ []; next = unit.0.next + words; spare = unit.0.spare - 1; draft = [] }
+  after = record unit.0 { items = unit.0.items ++ made.item ∷ []; times = unit.0.times ++ made.time ∷ []; next = unit.0.next + words; spare = unit.0.spare - 1; draft = [] }
 
   owns_after : w.owns ≡ after ∷ unit.1
-  owns_after = ap (λ (z : View). z.owns) made.is ∙ ap (λ c. paid c words (with_item old.seat.me.0.owns made.item)) costs ∙ ap (λ o. spend words (with_item o made.item)) unit.2
+  owns_after = ap (λ (z : View). z.owns) made.is ∙ ap (λ c. paid c words (with_item old.seat.me.0.owns made.item made.time)) costs ∙ ap (λ o. spend words (with_item o made.item made.time)) unit.2
 
   pub next_after : next_in (old.next + words) w.owns ≡ old.next + words
   next_after = ap (next_in (old.next + words)) owns_after ∙ ap (λ n. n + words) unit.4

@@ -185,9 +185,9 @@ held_undrafted : (number : ℕ) (owns : List Own) (words : List ℕ) → held_in
 held_undrafted number [] words = refl
 held_undrafted number (own ∷ owns) words = refl
 
-spend_undrafted : (used : ℕ) (owns : List Own) (words : List ℕ) (x : Item) → spend used (with_item (with_draft owns words) x) ≡ spend used (with_item owns x)
-spend_undrafted used [] words x = refl
-spend_undrafted used (own ∷ owns) words x = refl
+spend_undrafted : (used : ℕ) (owns : List Own) (words : List ℕ) (x : Item) (time : ℕ) → spend used (with_item (with_draft owns words) x time) ≡ spend used (with_item owns x time)
+spend_undrafted used [] words x time = refl
+spend_undrafted used (own ∷ owns) words x time = refl
 
 pub undrafted : (first me after : Me (Unit {0}) View) (n used : ℕ) (word : ℕ → ℕ) (call : MapCall ℕ) (m : ℕ) → cost_of call ≡ 1 → Drafted first me n word → Publishes m call used me after → Publishes m call used first after
 undrafted first me after n used word call m costs d told =
@@ -196,9 +196,10 @@ undrafted first me after n used word call m costs d told =
       t.0,
       λ l locks. let makes = t.1 l locks in record {
         item = makes.item;
+        time = makes.time;
         seen = makes.seen;
-        is = makes.is ∙ ap (λ o. record (called_view v o makes.seen) { walk = None; leaf = None; lock = Some (bare l) })
-            (ap (λ c. paid c used (with_item (with_draft v.owns d.words) makes.item)) costs ∙ spend_undrafted used v.owns d.words makes.item ∙ sym (ap (λ c. paid c used (with_item v.owns makes.item)) costs));
+        is = makes.is ∙ ap (λ o. record (called_view v o makes.seen makes.time) { walk = None; leaf = None; lock = Some (bare l) })
+            (ap (λ c. paid c used (with_item (with_draft v.owns d.words) makes.item makes.time)) costs ∙ spend_undrafted used v.owns d.words makes.item makes.time ∙ sym (ap (λ c. paid c used (with_item v.owns makes.item makes.time)) costs));
         called = subst (λ own. Called (start_of v.begin) (calls.Map m call) (replies.Map (key_reply call (leaf_value v.leaf l.key))) (cost_of call) (record (view_state v) { own = own }) (view_state after.0)) (held_undrafted v.number v.owns d.words) makes.called;
         looks = makes.looks;
       },

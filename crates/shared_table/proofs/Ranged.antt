@@ -25,8 +25,9 @@ use Rattle.shared_table.proofs.Seeing.{looks_still}
 pub let_go : (call : SharedCall) (reply : SharedReply) (v w : View) (before after : Option Spot) → v.spot ≡ None → v.leaf ≡ None → Sweeps call reply after None (record v { spot = before }) w → PlacesCall call reply v (unmounted w)
 let_go call reply v w before after nowhere entry s = record {
   item = s.item;
+  time = s.time;
   seen = s.seen;
-  is = ap unmounted s.is ∙ (λ i. record (called_view v (with_item v.owns s.item) s.seen) { spot = sym nowhere i; leaf = sym entry i });
+  is = ap unmounted s.is ∙ (λ i. record (called_view v (with_item v.owns s.item s.time) s.seen s.time) { spot = sym nowhere i; leaf = sym entry i });
   called = s.called;
   looks = looks_still w (unmounted w) w.walk w.leaf w.lock w.upper w.gate None w.cut refl s.looks;
 }

@@ -129,7 +129,7 @@ module _ (k : Begin) (first : Me (Unit {0}) View) (z : Spot) (start : Place) (ra
         let c = ranging.cursor in
         let of = c.of in
         subst (λ u. IsRanging k (u, me.1) (moved z place) place) (sym here) record {
-          cursor = record { live = c.live; begin = c.begin; own = c.own; owns = c.owns; is = c.is; spot = refl; of = record { begin = of.begin; at = of.at; call = of.call; front = of.front; steps = of.steps; shown = of.shown } };
+          cursor = record { live = c.live; walk = c.walk; begin = c.begin; own = c.own; owns = c.owns; is = c.is; spot = refl; of = record { begin = of.begin; at = of.at; call = of.call; front = of.front; steps = of.steps; shown = of.shown } };
           leaf = ranging.leaf;
           nodes = refl;
           slots = refl;
@@ -148,4 +148,4 @@ module _ (k : Begin) (first : Me (Unit {0}) View) (z : Spot) (start : Place) (ra
       pub steps : (shown : Option (ℕ × ℕ)) → ((y : Spot) → me.0.spot ≡ Some y → ShowsNext y shown new me.0 after.0) → (y : Spot) → first.0.spot ≡ Some y → ShowsNext y shown new first.0 after.0
       steps shown moves y at =
           let s : ShowsNext (moved z place) shown new (at_spot first.0 (Some (moved z place)) first.0.leaf) after.0 = subst (λ u. ShowsNext (moved z place) shown new u after.0) here (moves (moved z place) ranging_on.cursor.spot) in
-          subst (λ x. ShowsNext x shown new first.0 after.0) (same_Some z y (sym ranging.cursor.spot ∙ at)) record { item = s.item; seen = s.seen; is = s.is; called = s.called; looks = s.looks }
+          subst (λ x. ShowsNext x shown new first.0 after.0) (same_Some z y (sym ranging.cursor.spot ∙ at)) record { item = s.item; time = s.time; seen = s.seen; is = s.is; called = s.called; looks = s.looks }

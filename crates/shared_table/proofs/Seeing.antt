@@ -24,6 +24,9 @@ module _ (v w : View) (walk : Option Walk) (leaf : Option Leaf) (lock upper : Op
         seen = looks.seen;
         heard = looks.heard;
         lawful = looks.lawful;
+        entry_times = looks.entry_times;
+        times = looks.times;
+        order = looks.order;
         none_else = looks.none_else;
         owned = looks.owned;
         made = looks.made;

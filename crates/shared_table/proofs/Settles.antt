@@ -10,7 +10,7 @@ use Rattle.sync_model.specs.declared.item.SharedEntry.{SharedEntry}
 use Rattle.sync_model.specs.Front.{AtLeast}
 use Rattle.sync_model.specs.Journal.{Begins}
 use Rattle.sync_model.specs.Note.{Holding, IsCounted}
-use Rattle.sync_model.specs.Shared.{IsHeldBy, items_of, AreAllCallers, calls_of, SameCalls, Settled}
+use Rattle.sync_model.specs.Shared.{IsHeldBy, items_of, AreAllCallers, calls_of, SameCalls, Settled, times_of, times_by}
 use Rattle.sync_model.specs.SharedCalls.{Lawful}
 use Rattle.sync_model.specs.SharedHistory.{Contents}
 use Rattle.table_words.specs.Seats.{IsSeatOf}
@@ -25,6 +25,7 @@ use Rattle.table_rule.specs.Shape.{start_of}
 use Rattle.shared_table.specs.Tables.{caller_count, first_of}
 use Rattle.table_rule.specs.Views.{held_in, next_in, spare_in, copied, dealt, joined, most, IsIdle, Looks}
 use Rattle.table_rule.specs.Views as views
+use Rattle.sync_model.specs.SharedOrder.{InOrder}
 
 module _ {A : Type 0} where
   pub item_there : (xs : List A) (i : ℕ) → i < length xs → (x : A) × (slice_get xs i ≡ Some x)
@@ -62,7 +63,7 @@ only_own note i few held = by_owns note.seat.me.0.owns few held.0 held.1 held.2
   where
     by_owns : (owns : List Own) → length owns ≤ 1 → (h : Holding) → held_in note.seat.me.0.number owns ≡ Some h → h.number ≡ i → (own : Own) × (owns ≡ own ∷ []) × (note.seat.me.0.number ≡ i)
     by_owns [] few h at is = absurd (none-some h at)
-    by_owns (own ∷ []) few h at is = (own, refl, ap (λ (g : Holding). g.number) (same_Some (record { number = note.seat.me.0.number; items = own.items; spare = own.spare }) h at) ∙ is)
+    by_owns (own ∷ []) few h at is = (own, refl, ap (λ (g : Holding). g.number) (same_Some (record { number = note.seat.me.0.number; items = own.items; times = own.times; spare = own.spare }) h at) ∙ is)
     by_owns (own ∷ other ∷ owns) few h at is = absurd (omega arith)
 
 -- the calls of a caller, by its number
@@ -70,6 +71,26 @@ pub calls_at : (list : List (Caller SharedNote)) (c : ℕ) (caller : Caller Shar
 calls_at [] c caller at = absurd (none-some caller at)
 calls_at (x ∷ xs) zero caller at = ap (λ (y : Caller SharedNote). items_of (own_by y.note)) (same_Some x caller at)
 calls_at (x ∷ xs) (suc c) caller at = calls_at xs c caller at
+
+-- and their numbers
+times_at : (list : List (Caller SharedNote)) (c : ℕ) (caller : Caller SharedNote) → slice_get list c ≡ Some caller → times_of own_by list c ≡ times_by (own_by caller.note)
+times_at [] c caller at = absurd (none-some caller at)
+times_at (x ∷ xs) zero caller at = ap (λ (y : Caller SharedNote). times_by (own_by y.note)) (same_Some x caller at)
+times_at (x ∷ xs) (suc c) caller at = times_at xs c caller at
+
+times_past : (list : List (Caller SharedNote)) (c : ℕ) → length list ≤ c → times_of own_by list c ≡ []
+times_past [] c past = refl
+times_past (x ∷ xs) zero past = absurd (omega arith)
+times_past (x ∷ xs) (suc c) past = times_past xs c (omega arith)
+
+-- lists of calls and of numbers that are in order stay so, list by list
+in_order : (history : List SharedEntry) (calls other : ℕ → List Item) (entry_times : List ℕ) (times now : ℕ → List ℕ) → ((c : ℕ) → other c ≡ calls c) → ((c : ℕ) → now c ≡ times c) → InOrder history calls entry_times times → InOrder history other entry_times now
+in_order history calls other entry_times times now same_calls same_times o = record {
+  entries = o.entries;
+  rise = o.rise;
+  all = λ c. ap length (same_times c) ∙ o.all c ∙ ap length (sym (same_calls c));
+  among = λ c j time x at at_time. o.among c j time x (ap (λ l. slice_get l j) (sym (same_calls c)) ∙ at) (ap (λ l. slice_get l j) (sym (same_times c)) ∙ at_time);
+}
 
 pub calls_past : (list : List (Caller SharedNote)) (c : ℕ) → length list ≤ c → calls_of own_by list c ≡ []
 calls_past [] c past = refl
@@ -263,11 +284,25 @@ module _ (table : SharedTable) (callers : List (Caller SharedNote)) (all : AreAl
       | inr past ↦ calls_past news c (omega arith) ∙ sym (looks.none_else c (subst (λ k. callers_of k ≤ c) (sym g.begin) (let all_there = all.all in omega arith)))
     ]
 
+    times_are : (c : ℕ) → times_of own_by news c ≡ looks.times c
+    times_are c = elim (cases_lt c (length news)) [
+      | inl below ↦ let new = item_there news c below in let old = old_of c new.0 new.1 in let h = has c old.0 new.0 old.1 new.1 in
+          let mine = looks.owned c h.own h.at in let zero_number = g.number in let number : v.number + c ≡ c = omega arith in
+          times_at news c new.0 new.1 ∙ ap (λ (u : View). times_by (held_in u.number u.owns)) h.view ∙ sym (ap looks.times (sym number) ∙ mine.2)
+      | inr past ↦ times_past news c (omega arith) ∙ sym (none_made (looks.times c) (looks.order.all c ∙ ap length (sym (calls_are c) ∙ calls_past news c (omega arith))))
+    ]
+      where
+        none_made : (xs : List ℕ) → length xs ≡ 0 → xs ≡ []
+        none_made [] is = refl
+        none_made (x ∷ xs) is = absurd (omega arith)
+
     pub settled : CountAlone → Settled own_by front_by seen_by (first_of table) news
     settled same_law = record {
       history = looks.log;
       all = seen_is;
       lawful = same_law (first_of table) looks.log looks.calls (calls_of own_by news) calls_are (subst (λ k. Lawful (start_of k) looks.log looks.calls) g.begin looks.lawful);
+      entry_times = looks.entry_times;
+      order = in_order looks.log looks.calls (calls_of own_by news) looks.entry_times looks.times (times_of own_by news) calls_are times_are looks.order;
       fronts = λ i c new at_new. let made = looks.made c in let same = ap length (calls_are c) in subst (λ f. slice_index f c ≤ length (calls_of own_by news c)) (sym (front_is i new at_new)) (omega arith);
     }
 

@@ -113,6 +113,7 @@ module _ (k : Begin) (me after : Me (Unit {0}) View) (call : MapCall ℕ) (m key
       living = refl;
       makes = record {
         item = a.item;
+        time = a.time;
         seen = a.seen;
         is = settled mid word is (ap (λ (z : View). z.upper) a.is ∙ stands.alone) ∙ ap (λ (z : View). record z { lock = Some (lock word) }) a.is;
         called = subst (λ (z : View). Called (start_of me.0.begin) (calls.Map m call) (replies.Map (key_reply call (leaf_value leaf key))) (cost_of call) (view_state me.0) (view_state z)) (sym is) a.called;
@@ -192,6 +193,7 @@ made_locked k call m key node level next words leaf v w after p told =
       living = p.living;
       makes = record {
         item = makes.item;
+        time = makes.time;
         seen = makes.seen;
         is = makes.is;
         called = subst (λ z. Called (start_of v.begin) (calls.Map m call) (replies.Map z) (cost_of call) (view_state v) (view_state after.0)) reply_is makes.called;

@@ -17,7 +17,7 @@ use Rattle.trie_nodes.specs.declared.slot.Slot.TheVariants.{Empty, Node, Entry}
 use Rattle.table_rule.specs.Operations.{PlacesCall}
 use Rattle.table_rule.specs.Shape.{start_of}
 use Rattle.table_rule.specs.Views.{with_item, called_view, view_state}
-use Rattle.table_rule.specs.Walking.{standing, walk_at, given_by, HasWords, Answers, FindsIn, IsFree, OnWay, AtEntry}
+use Rattle.table_rule.specs.Walking.{standing, walk_at, given_by, HasWords, Answers, FindsIn, IsFree, OnWay, AtEntry, told_at}
 use Rattle.shared_table.specs.Notes.{own_by, IsNoteOf}
 use Rattle.table_words.specs.Seats.{begin_of}
 use Rattle.shared_table.proofs.Calling.{some_own}
@@ -26,6 +26,10 @@ use Rattle.shared_table.proofs.Seeing.{looks_still}
 -- a note's seat may begin a walk
 pub free_seat : (table : SharedTable) (note : SharedNote) → IsNoteOf table note → IsSome (own_by note) → IsFree (begin_of table.words) note.seat.me
 free_seat table note is owned = record { live = is.live; begin = is.begin; idle = is.idle; some = some_own note.seat.me.0.number note.seat.me.0.owns owned }
+
+-- a seat that was told a number is as free as before
+pub free_told : (k : Begin) (me : Me (Unit {0}) View) (time : ℕ) → IsFree k me → IsFree k (told_at time me)
+free_told k me time f = let i = f.idle in record { live = f.live; begin = f.begin; idle = record { walk = i.walk; leaf = i.leaf; lock = i.lock; upper = i.upper; gate = i.gate; spot = i.spot }; some = f.some }
 
 -- a seat that was free stands at the node of this level on the key's path
 pub record IsAt (first : Me (Unit {0}) View) (m key : ℕ) (me : Me (Unit {0}) View) (node level : ℕ) : Type 0 where
@@ -45,8 +49,9 @@ module _ (k : Begin) (first : Me (Unit {0}) View) (free : IsFree k first) (m key
   placed : (walk : Option Walk) (leaf : Option Leaf) (reply : MapReply) (mid last : View) → Answers m (Load key) reply 0 leaf (standing first.0 walk first.0.leaf) mid → last ≡ standing mid None None → PlacesCall (calls.Map m (Load key)) (replies.Map reply) first.0 last
   placed walk leaf reply mid last a is = record {
     item = a.item;
+    time = a.time;
     seen = a.seen;
-    is = is ∙ ap (λ u. standing u None None) a.is ∙ (λ i. standing (called_view first.0 (with_item first.0.owns a.item) a.seen) (sym free.idle.walk i) (sym free.idle.leaf i));
+    is = is ∙ ap (λ u. standing u None None) a.is ∙ (λ i. standing (called_view first.0 (with_item first.0.owns a.item a.time) a.seen a.time) (sym free.idle.walk i) (sym free.idle.leaf i));
     called = subst (λ u. Called (start_of first.0.begin) (calls.Map m (Load key)) (replies.Map reply) 0 (view_state first.0) (view_state u)) (sym is) a.called;
     looks = looks_still mid last None None mid.lock mid.upper mid.gate mid.spot mid.cut is a.looks;
   }
@@ -64,7 +69,7 @@ module _ (k : Begin) (first : Me (Unit {0}) View) (free : IsFree k first) (m key
     pub finds_none : FindsIn (Load key) (walk_at m key node level (length me.0.seen)) Empty me.0 after.0 → (after.1 ≡ first.1) × PlacesCall (calls.Map m (Load key)) (replies.Map (Found None)) first.0 after.0
     finds_none found =
         let f : FindsIn (Load key) (walk here) Empty here after.0 = subst (λ (u : View). FindsIn (Load key) (walk u) Empty u after.0) at.view found in
-        let whole : after.0 ≡ standing after.0 None None = f.is ∙ (λ i. standing (called_view here (with_item here.owns f.item) f.seen) None (free.idle.leaf i)) ∙ ap (λ u. standing u None None) (sym f.is) in
+        let whole : after.0 ≡ standing after.0 None None = f.is ∙ (λ i. standing (called_view here (with_item here.owns f.item f.time) f.seen f.time) None (free.idle.leaf i)) ∙ ap (λ u. standing u None None) (sym f.is) in
         (same ∙ at.slots, placed (Some (walk here)) first.0.leaf (Found None) after.0 after.0 f whole)
 
     -- an entry is there, whose words the seat knows

@@ -15,6 +15,6 @@ left_view k n next = record (first_view k) { number = n; owns = new_owns next (d
 -- caller i of a new table
 pub record IsNewCaller (table : SharedTable) (spares : List ℕ) (i : ℕ) (caller : Caller SharedNote) : Type 0 where
   pub is : IsNoteOf table caller.note
-  pub own : own_by caller.note ≡ Some (record { number = i; items = []; spare = slice_index spares i })
+  pub own : own_by caller.note ≡ Some (record { number = i; items = []; times = []; spare = slice_index spares i })
   pub seen : seen_by caller.note ≡ []
   pub knows : (c : ℕ) → slice_index (counts_by caller.note) c ≡ 0

@@ -10,6 +10,6 @@ use Rattle.shared_table.specs.Tables.{caller_count}
 -- all callers, in order of number, each with its own spare units. None has made a call, and none has seen or knows one
 pub record AreNewCallers (table : SharedTable) (spare : List ℕ) (callers : List (Caller SharedNote)) : Type 0 where
   pub all : AreAllCallers IsNoteOf own_by table callers (caller_count table)
-  pub own : (i : ℕ) (caller : Caller SharedNote) → slice_get callers i ≡ Some caller → own_by caller.note ≡ Some (record { number = i; items = []; spare = slice_index spare i })
+  pub own : (i : ℕ) (caller : Caller SharedNote) → slice_get callers i ≡ Some caller → own_by caller.note ≡ Some (record { number = i; items = []; times = []; spare = slice_index spare i })
   pub seen : (i : ℕ) (caller : Caller SharedNote) → slice_get callers i ≡ Some caller → seen_by caller.note ≡ []
   pub knows : (i c : ℕ) (caller : Caller SharedNote) → slice_get callers i ≡ Some caller → slice_index (counts_by caller.note) c ≡ 0

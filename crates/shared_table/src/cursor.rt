@@ -6,7 +6,7 @@ ghost use Rattle.sync_model.specs.declared.item.SharedReply.TheVariants as repli
 ghost use Rattle.sync_model.specs.Shared.{items_of};
 ghost use Rattle.table_rule.specs.declared.view.Spot.{Spot};
 ghost use Rattle.table_words.specs.Seats.{begin_of, IsSeatOf};
-ghost use Rattle.table_rule.specs.Views.{made_by, view_state};
+ghost use Rattle.table_rule.specs.Views.{at_time, made_by, view_state};
 ghost use Rattle.table_rule.specs.Walking.{IsFree};
 ghost use Rattle.shared_table.specs.Ranging.{AreWithin, IsRanging, MovesTo, ShowsNext, HasPassedAll, IsCursor, RangesOn};
 ghost use Rattle.trie_nodes.specs.PlaceLists.{slots_of};

@@ -9,6 +9,7 @@ ghost use Rattle.sync_model.specs.Shared.{Called, state_of};
 ghost use Rattle.table_rule.specs.declared.view.Leaf.{Leaf};
 ghost use Rattle.table_rule.specs.Operations.{PlacesCall};
 ghost use Rattle.table_words.specs.Seats.{begin_of, IsSeatOf};
+ghost use Rattle.table_rule.specs.Views.{at_time};
 ghost use Rattle.table_rule.specs.Walking.{standing, given_by, HasWords, IsFree, AtEntry};
 ghost use Rattle.shared_table.specs.Notes.{front_by, own_by, seen_by, IsLawfulFor, IsNoteOf};
 ghost use Rattle.shared_table.specs.Tables.{maps_of, first_of};

@@ -18,6 +18,7 @@ ghost use Rattle.shared_table.specs.Drafts.{IsPoised};
 ghost use Rattle.shared_table.specs.MapCalls.{AnswersAndPrunes, IsEnd, IsReached, IsSight, IsWriting, MadeLocked, MakesAndPrunes, MayHaveMade, StillLocked};
 ghost use Rattle.sync_types.specs.KeyCalls.{key_after};
 ghost use Rattle.shared_table.specs.Tables.{maps_of, first_of};
+ghost use Rattle.table_rule.specs.Views.{at_time};
 ghost use Rattle.table_rule.specs.Walking.{standing, walk_at, given_by, HasWords, Affords, IsFree, AtEntry, IsUncounted};
 
 use crate::changes::{Change, reply_of};

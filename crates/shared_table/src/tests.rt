@@ -12,6 +12,7 @@ mod prunes;
 use crate::note::SharedNote;
 use crate::table::SharedTable;
 use atomic_table::Seat;
+use stamps::Stamp;
 use std::marker::Brand;
 use std::sync::Wait;
 use std::sync::ledger::{Blank, Ledger};
@@ -79,7 +80,9 @@ fn look_over_a_clear<R: Wait, L: Ledger>(
     requires clearer { IsNoteOf table.now clearer.old × IsSome (own_by clearer.old) }
 {
     let mut steps = Steps::<L>::new(rt, blank);
-    let node = table.words.enter(seat, 0, key, &mut steps);
+    let node = table
+        .words
+        .enter(seat, 0, key, Stamp::first(), &mut steps);
     if !clear_one(rt, table, clearer) {
         return None;
     }
@@ -106,7 +109,7 @@ fn look_beside_a_closed_gate<R: Wait, L: Ledger>(
     requires closer { IsSeatOf table.now.words closer.old × IsFree (begin_of table.now.words) closer.old.me }
     requires reader { IsNoteOf table.now reader.old × IsSome (own_by reader.old) }
 {
-    if !table.words.try_close(rt, closer, 0) {
+    if !table.words.try_close(rt, closer, 0, Stamp::first()) {
         return None;
     }
     table.look_up(reader, 0, key, &mut Steps::<L>::new(rt, blank))

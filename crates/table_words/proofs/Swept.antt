@@ -1,5 +1,5 @@
 -- A step of a seat with a cursor changes no word: the cursor goes elsewhere, or a call of it is placed.
-use Rattle.std.proofs.Common.{◌≡◌, ℕ, ◌≤◌, ◌<◌, true, false, List, ◌∷◌, length, set, Option, Some, slice_get, refl, sym, ap, arith, le_refl, None}
+use Rattle.std.proofs.Common.{◌≡◌, ℕ, ◌≤◌, ◌<◌, true, false, List, ◌∷◌, length, set, Option, Some, slice_get, refl, sym, ap, arith, le_refl, None, ◌+◌}
 use mathlib.Core.Option.{some}
 use lib.ListN.{get_elem?}
 use Rattle.sync_model.specs.declared.item.Item.{Item}
@@ -76,7 +76,7 @@ module _ (k : Begin) (laws : HistoryLaws) (s : TableState) (r : Kept k s) (id : 
   }
 
   -- no entry has come since
-  fresh : (n later : ℕ) → length r.log ≤ n → slice_get r.ordered.entry_times n ≡ Some later → v.time + 2 ≤ later
+  pub fresh : (n later : ℕ) → length r.log ≤ n → slice_get r.ordered.entry_times n ≡ Some later → v.time + 2 ≤ later
   fresh = at_the_end k s r v
 
   abbrev pub view_after : View

@@ -11,6 +11,7 @@ use crate::map_call::Reached;
 use crate::note::SharedNote;
 use crate::table::SharedTable;
 use atomic_table::Seat;
+use stamps::Stamp;
 use std::sync::Wait;
 use std::test::Fail;
 use sync_model::CallerNote;
@@ -58,7 +59,7 @@ fn store_over_a_pruning<R: Wait>(
         key: NEAR,
         value: 9,
     };
-    table.come_in(rt, seat, 0);
+    table.come_in(rt, seat, 0, Stamp::first());
     let (node, level) = match table.descend(seat, call, 0, NEAR) {
         Reached::Stands { node, level } => (node, level),
         Reached::Answered(_) => return false,

@@ -13,7 +13,7 @@ make-made-requires-clause-unit g c = has_unit c.args.note.now _ c.requires.note.
 
 pub overflow_add-note : goal.overflow_add-note
 overflow_add-note g c =
-    let small = next_small c.args.self.now c.args.note.now c.args.map c.args.call c.make-made.result.reply c.make-made.result.words c.make-made.new.seat.me.0 c.requires.note.0 c.requires.call.1
+    let small = next_small c.args.self.now c.args.note.now c.same.result.time c.args.map c.args.call c.make-made.result.reply c.make-made.result.words c.make-made.new.seat.me.0 c.requires.note.0 c.requires.call.1
     (has_unit c.args.note.now _ c.requires.note.1 c.requires.note.0.unwritten c.requires.call.1 c.requires.spare) c.make-made.ensures.made.1.0 c.make-made.ensures.made.1.1 c.make-made.ensures.room in
     search rules
 
@@ -23,4 +23,4 @@ returns-clause-lawful g c =
     lawful_for c.args.self.now _ c.make-made.new.seat.me.0 (ap (λ (u : View). u.begin) made.is ∙ c.requires.note.0.begin) made.looks
 
 pub returns-clause-called : goal.returns-clause-called
-returns-clause-called g c = called_by c.args.self.now c.args.note.now c.make-made.new.seat.me.0 (calls.Map c.args.map c.args.call) (replies.Map c.make-made.result.reply) (cost_of c.args.call) c.requires.note.0 c.make-made.ensures.made.1.1.called
+returns-clause-called g c = called_by c.args.self.now c.args.note.now c.make-made.new.seat.me.0 c.same.result.time c.time_of-note.result.time (calls.Map c.args.map c.args.call) (replies.Map c.make-made.result.reply) (cost_of c.args.call) c.requires.note.0 c.same.ensures c.time_of-note.ensures c.make-made.ensures.made.1.1.called

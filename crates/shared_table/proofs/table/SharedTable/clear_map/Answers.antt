@@ -14,7 +14,7 @@ clear-requires-clause-unit g c = has_unit c.args.note.now 1 c.requires.note.1 c.
 
 pub overflow_add-note : goal.overflow_add-note
 overflow_add-note g c =
-    let small = next_small c.args.self.now c.args.note.now c.args.map Clear Done 18 c.clear.new.seat.me.0 c.requires.note.0 refl
+    let small = next_small c.args.self.now c.args.note.now c.same.result.time c.args.map Clear Done 18 c.clear.new.seat.me.0 c.requires.note.0 refl
     (has_unit c.args.note.now 1 c.requires.note.1 c.requires.note.0.unwritten refl c.requires.spare) (c.clear.ensures.made.1.0 ∷ []) c.clear.ensures.made.1.2 c.clear.ensures.room in
     search rules
 
@@ -24,4 +24,4 @@ returns-clause-lawful g c =
     lawful_for c.args.self.now _ c.clear.new.seat.me.0 (ap (λ (u : View). u.begin) made.is ∙ c.requires.note.0.begin) made.looks
 
 pub returns-clause-called : goal.returns-clause-called
-returns-clause-called g c = called_by c.args.self.now c.args.note.now c.clear.new.seat.me.0 (calls.Map c.args.map Clear) (replies.Map Done) 1 c.requires.note.0 c.clear.ensures.made.1.2.called
+returns-clause-called g c = called_by c.args.self.now c.args.note.now c.clear.new.seat.me.0 c.same.result.time c.time_of-note.result.time (calls.Map c.args.map Clear) (replies.Map Done) 1 c.requires.note.0 c.same.ensures c.time_of-note.ensures c.clear.ensures.made.1.2.called
