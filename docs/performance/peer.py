@@ -2,11 +2,17 @@
 """Measures whole runs of gosync beside those of peer.go, which reads the same texts, makes the same calls on Go's own types and writes
 the same lines, one write each.
 
-    peer.py [--turns N] [--dry] [--instructions] [--command run|step] [--gosync PROGRAM]
+    peer.py [--whole] [--turns N] [--large] [--dry] [--instructions] [--command run|step] [--gosync PROGRAM]
 
 The texts have 20,000 calls of one kind, or a mix, by 1, 2, 4 and 8 workers; the last one has no call. Each turn starts both programs on
-each text anew, with their output dropped. Prints a table in Markdown of the least time of each, in milliseconds, from before the process
-is made until it has ended, and what gosync's is of Go's. Before that it looks whether both write the same calls of each text.
+each text anew, with their output dropped. Prints a table in Markdown with a row for each kind, whose cells have a number for each of 1, 2,
+4 and 8 workers: the least time of each program, in milliseconds, from before the process is made until it has ended, and what gosync's is
+of Go's. Before that it looks whether both write the same calls of each text.
+
+--whole prints all that there is, as docs/PERFORMANCE.md has it: --large, --dry and --instructions, with 12 turns. That takes some five
+minutes on a machine that does nothing else.
+
+--large adds what gosync takes of Go's time where its memory lies in large pages, as the wrapper ./gosync lets it (GLIBC_TUNABLES).
 
 --dry adds the same without the writes: each program makes its lines, and a write of one returns at once, without a call of the system.
 gosync calls the C library's `write`, before which a shared library of a few lines is put (LD_PRELOAD); of Go's program that is a word. The
@@ -17,8 +23,8 @@ call for reading the text, and a call for running it and making the report. Read
 that it refuses.
 
 It needs Go 1.23 or later, a C compiler for --dry, and valgrind for --instructions. Only from Go 1.24 on a sync.Map is a hash trie.
-GO=PROGRAM names another `go`. The program is that of `rt run`. The wrapper ./gosync lets its memory lie in large pages by
-GLIBC_TUNABLES, which both programs get as it stands here. The machine should do nothing else meanwhile.
+GO=PROGRAM names another `go`. The program is that of `rt run`. But for --large both programs get GLIBC_TUNABLES as it stands here. The
+machine should do nothing else meanwhile.
 """
 import argparse
 import os
@@ -54,6 +60,11 @@ WORKLOADS = (
     ("`store`s of 4,096 keys of one map", ["map t"], key_stores),
     ("`store` and `delete` of 4,096 keys of one map", ["map t"], key_churn),
 )
+
+# The commands beside gosync and Go.
+LARGE, DRY, GO_DRY, DRY_LARGE = "gosync, large pages", "gosync, no writes", "Go, no writes", "gosync, no writes, large pages"
+
+LARGE_PAGES = {"GLIBC_TUNABLES": "glibc.malloc.hugetlb=1"}
 
 # A write to the output that isn't made. All else that is written goes on to the system.
 NO_WRITE = """
@@ -96,23 +107,39 @@ def least_times(turns, texts, commands):
     return least
 
 
+def ratios_of(least, texts, one, other):
+    """What the least time of one command is of that of another one, on each text."""
+    return {place: least[place, one] / least[place, other] for place in texts}
+
+
 def print_times(turns, texts, commands):
     least = least_times(turns, texts, commands)
-    columns = [("gosync", "Go"), *([("gosync, dry", "Go, dry")] if "Go, dry" in commands else [])]
-    print(f"Milliseconds, best of {turns}.\n")
-    print("| Text | Workers | " + " | ".join(f"{one} | {other} | ratio" for one, other in columns) + " |")
-    print("|---|---|" + "---|---|---|" * len(columns))
-    ratios = {pair: [] for pair in columns}
-    for place in texts:
-        cells = []
-        for pair in columns:
-            one, other = (least[place, name] for name in pair)
-            cells.append(f"{one:.1f} | {other:.1f} | {one / other:.2f}")
-            if place[1]:
-                ratios[pair].append(one / other)
-        print(f"| {place[0]} | {place[1] or ''} | " + " | ".join(cells) + " |")
-    for pair, found in ratios.items():
-        print(f"\n{pair[0]} to {pair[1]}: {min(found):.2f} to {max(found):.2f}, the middle one {statistics.median(found):.2f}.")
+
+    def times(name):
+        return {place: least[place, name] for place in texts}, 1
+
+    def ratios(one, other):
+        return ratios_of(least, texts, one, other), 2
+
+    # What stands above a column, and its number for each text, with so many digits.
+    columns = {"gosync, ms": times("gosync"), "Go, ms": times("Go"), "of Go's": ratios("gosync", "Go")}
+    if LARGE in commands:
+        columns["of Go's, large pages"] = ratios(LARGE, "Go")
+    if DRY in commands:
+        columns |= {"gosync, no writes, ms": times(DRY), "Go, no writes, ms": times(GO_DRY), "of Go's, no writes": ratios(DRY, GO_DRY)}
+    if DRY_LARGE in commands:
+        columns["of Go's, no writes, large pages"] = ratios(DRY_LARGE, GO_DRY)
+    print(f"Milliseconds, best of {turns}, with {', '.join(map(str, runs.WORKERS))} workers.\n")
+    print("| Text | " + " | ".join(columns) + " |")
+    print("|---|" + "---|" * len(columns))
+    for title in dict.fromkeys(title for title, _ in texts):
+        places = [place for place in texts if place[0] == title]
+        cells = (", ".join(f"{found[place]:.{digits}f}" for place in places) for found, digits in columns.values())
+        print(f"| {title} | " + " | ".join(cells) + " |")
+    for name, (found, digits) in columns.items():
+        if name.startswith("of"):
+            of_calls = [ratio for place, ratio in found.items() if place[1]]
+            print(f"\n{name}: {min(of_calls):.2f} to {max(of_calls):.2f}, the middle one {statistics.median(of_calls):.2f}.")
 
 
 def instructions(words, folder):
@@ -151,12 +178,17 @@ def print_instructions(texts, gosync, folder):
 
 def main():
     parser = argparse.ArgumentParser(description=__doc__, formatter_class=argparse.RawDescriptionHelpFormatter)
-    parser.add_argument("--turns", type=int, default=20)
+    parser.add_argument("--whole", action="store_true", help="all that follows, and 12 turns")
+    parser.add_argument("--turns", type=int, help="20, where nothing is said")
+    parser.add_argument("--large", action="store_true", help="also with large pages")
     parser.add_argument("--dry", action="store_true", help="also without the writes")
     parser.add_argument("--instructions", action="store_true", help="also what callgrind counts")
     parser.add_argument("--command", choices=("run", "step"), default="run")
     parser.add_argument("--gosync", default=BUILT, metavar="PROGRAM")
     given = parser.parse_args()
+    turns = given.turns or (12 if given.whole else 20)
+    if given.whole:
+        given.large = given.dry = given.instructions = True
     gosync = os.path.realpath(given.gosync)
     if not os.path.exists(gosync):
         sys.exit(f"{gosync} isn't there: build it by ./gosync")
@@ -175,11 +207,15 @@ def main():
                 file.write(text)
         commands = {"gosync": ([gosync, given.command], {}), "Go": ([peer], {})}
         compare(texts, *(words for words, _ in commands.values()))
+        if given.large:
+            commands[LARGE] = ([gosync, given.command], LARGE_PAGES)
         if given.dry:
             made([os.environ.get("CC", "cc"), "-O2", "-shared", "-fPIC", "-x", "c", "-o", library, "-"], input=NO_WRITE.encode())
-            commands["gosync, dry"] = ([gosync, given.command], {"LD_PRELOAD": library})
-            commands["Go, dry"] = ([peer, "-dry"], {})
-        print_times(given.turns, texts, commands)
+            commands[DRY] = ([gosync, given.command], {"LD_PRELOAD": library})
+            commands[GO_DRY] = ([peer, "-dry"], {})
+        if given.large and given.dry:
+            commands[DRY_LARGE] = ([gosync, given.command], {"LD_PRELOAD": library, **LARGE_PAGES})
+        print_times(turns, texts, commands)
         if given.instructions:
             print_instructions(texts, gosync, folder)
         version = subprocess.run([go, "version"], capture_output=True, text=True).stdout.split()[2]

@@ -37,7 +37,7 @@ impl<N: FreshNote> Measured for Flights<N> {
     ghost has_pass = { λ flights pass. IsPassOf flights.group pass };
 
     fn new(alloc: Global, plan: Plan) -> Result<(Self, Vec<GroupPass<N>>), AllocError> {
-        let (group, passes) = Group::new(alloc, plan.callers, MAX_CALLS, N::fresh())?;
+        let (group, passes) = Group::new(alloc, plan.callers, MAX_CALLS, N::fresh(plan.callers))?;
         let one_key = matches!(plan.what, What::Flight(Keys::One));
         Ok((Flights { group, one_key }, passes))
     }

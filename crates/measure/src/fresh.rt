@@ -3,19 +3,24 @@ use sync_model::{FrontNote, NoNote, Note};
 
 /// What a caller keeps from one pair to the next.
 pub trait Fresh: Sized {
-    /// What it has before the first.
-    fn fresh() -> Self;
+    /// What it has before the first, where an object has so many callers: at most 64.
+    fn fresh(callers: u32) -> Self;
 }
 
-/// A note that knows nothing when it is fresh, and is at home anywhere.
+/// A note that is at home anywhere. Where it counts, it knows of one shared call of each caller when it is fresh, since a note of which less
+/// is known costs less.
 pub trait FreshNote: Note<Home = ()> + Fresh + Send {
     // Each note is at home.
     ghost anywhere: { (home : Unit {0}) (note : Self) → Self.at home note };
 }
 
 impl Fresh for FrontNote {
-    fn fresh() -> Self {
-        FrontNote::new([0; 64])
+    fn fresh(callers: u32) -> Self {
+        let mut counts = [0; 64];
+        for count in counts.iter_mut().take(callers as usize) {
+            *count = 1;
+        }
+        FrontNote::new(counts)
     }
 }
 
@@ -24,7 +29,7 @@ impl FreshNote for FrontNote {
 }
 
 impl Fresh for NoNote {
-    fn fresh() -> Self {
+    fn fresh(_callers: u32) -> Self {
         NoNote::new()
     }
 }

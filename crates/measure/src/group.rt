@@ -18,7 +18,13 @@ impl<N: FreshNote> Measured for WaitGroup<N> {
     ghost has_pass = { λ group pass. IsPassOf group pass };
 
     fn new(alloc: Global, plan: Plan) -> Result<(Self, Vec<GroupPass<N>>), AllocError> {
-        let (group, passes) = WaitGroup::new(alloc, plan.callers, MAX_CALLS, 0, N::fresh())?;
+        let (group, passes) = WaitGroup::new(
+            alloc,
+            plan.callers,
+            MAX_CALLS,
+            0,
+            N::fresh(plan.callers),
+        )?;
         Ok((group, passes))
     }
 

@@ -18,7 +18,7 @@ impl<N: FreshNote> Measured for Mutex<N> {
     ghost has_pass = { λ mutex pass. IsPassOfMutex mutex pass };
 
     fn new(alloc: Global, plan: Plan) -> Result<(Self, Vec<MutexPass<N>>), AllocError> {
-        let (mutex, passes) = Mutex::new(alloc, plan.callers, MAX_CALLS, N::fresh())?;
+        let (mutex, passes) = Mutex::new(alloc, plan.callers, MAX_CALLS, N::fresh(plan.callers))?;
         Ok((mutex, passes))
     }
 

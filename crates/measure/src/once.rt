@@ -18,7 +18,7 @@ impl<N: FreshNote> Measured for Once<(), N> {
     ghost has_pass = { λ once pass. IsPassOf once pass };
 
     fn new(alloc: Global, plan: Plan) -> Result<(Self, Vec<OncePass<(), N>>), AllocError> {
-        let (once, passes) = Once::new(alloc, plan.callers, MAX_CALLS, N::fresh())?;
+        let (once, passes) = Once::new(alloc, plan.callers, MAX_CALLS, N::fresh(plan.callers))?;
         Ok((once, passes))
     }
 

@@ -149,7 +149,7 @@ pub struct Round {
 }
 
 impl Fresh for Round {
-    fn fresh() -> Self {
+    fn fresh(_callers: u32) -> Self {
         Round { number: 0 }
     }
 }

@@ -21,7 +21,15 @@ impl<N: FreshNote> Measured for Pool<N> {
     ghost has_pass = { λ pool pass. IsPassOf pool pass };
 
     fn new(alloc: Global, plan: Plan) -> Result<(Self, Vec<PoolPass<N>>), AllocError> {
-        let (pool, passes) = Pool::new(alloc, &(), plan.callers, ROOM, 0, MAX_CALLS, N::fresh())?;
+        let (pool, passes) = Pool::new(
+            alloc,
+            &(),
+            plan.callers,
+            ROOM,
+            0,
+            MAX_CALLS,
+            N::fresh(plan.callers),
+        )?;
         Ok((pool, passes))
     }
 

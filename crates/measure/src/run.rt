@@ -11,19 +11,19 @@ use std::thread::{Threads, map_indices, map_vec};
 use sync_outside::Clock;
 use system_io::SystemClock;
 
-/// How many nanoseconds a caller takes for so many pairs.
+/// How many nanoseconds a caller takes for its pairs.
 fn time_of<M: Measured, C: Clock, R: Wait + rt::Clock>(
     rt: &R,
     object: &M,
     clock: &C,
     mut pass: M::Pass,
-    rounds: u32,
+    plan: Plan,
 ) -> u64
     requires { M.has_pass object.now pass }
 {
-    let mut kept = M::Kept::fresh();
+    let mut kept = M::Kept::fresh(plan.callers);
     let start = SystemClock::new(rt);
-    for round in 0..rounds {
+    for round in 0..plan.rounds {
         object.pair(rt, clock, &mut pass, &mut kept);
     }
     start.now()
@@ -48,7 +48,7 @@ fn shared<M: Measured, C: Clock + Sync, R: Threads + Wait + rt::Clock + Sync>(
         passes,
         &|pass: M::Pass| -> u64
             requires { M.has_pass object pass }
-        { time_of(rt, &object, clock, pass, plan.rounds) },
+        { time_of(rt, &object, clock, pass, plan) },
     )?;
     Ok(times.iter().copied().max().unwrap_or(0))
 }

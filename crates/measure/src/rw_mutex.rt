@@ -25,7 +25,7 @@ impl<N: FreshNote> Measured for Reading<N> {
     ghost has_pass = { λ reading pass. IsPassOfRwMutex reading.lock pass };
 
     fn new(alloc: Global, plan: Plan) -> Result<(Self, Vec<RwPass<N>>), AllocError> {
-        let (lock, passes) = RwMutex::new(alloc, plan.callers, MAX_CALLS, N::fresh())?;
+        let (lock, passes) = RwMutex::new(alloc, plan.callers, MAX_CALLS, N::fresh(plan.callers))?;
         Ok((Reading { lock }, passes))
     }
 
@@ -53,7 +53,7 @@ impl<N: FreshNote> Measured for Writing<N> {
     ghost has_pass = { λ writing pass. IsPassOfRwMutex writing.lock pass };
 
     fn new(alloc: Global, plan: Plan) -> Result<(Self, Vec<RwPass<N>>), AllocError> {
-        let (lock, passes) = RwMutex::new(alloc, plan.callers, MAX_CALLS, N::fresh())?;
+        let (lock, passes) = RwMutex::new(alloc, plan.callers, MAX_CALLS, N::fresh(plan.callers))?;
         Ok((Writing { lock }, passes))
     }
 

@@ -30,7 +30,13 @@ impl<N: FreshNote> Measured for Sema<N> {
 
     fn new(alloc: Global, plan: Plan) -> Result<(Self, Vec<SemaPass<N>>), AllocError> {
         let size = room_of(plan.what);
-        let (sema, passes) = Sema::new(alloc, plan.callers, size, MAX_CALLS, N::fresh())?;
+        let (sema, passes) = Sema::new(
+            alloc,
+            plan.callers,
+            size,
+            MAX_CALLS,
+            N::fresh(plan.callers),
+        )?;
         Ok((sema, passes))
     }
 
