@@ -1,5 +1,5 @@
 -- Which moments the events of a call have, that reads the clock for each event or lazily.
-use Rattle.std.proofs.Common.{◌≡◌, ◌⊎◌, inl, inr, ℕ, Bool, true, false, List, [], ◌∷◌, Option, None, Some, Result, refl, sym, subst}
+use Rattle.std.proofs.Common.{◌≡◌, ◌⊎◌, inl, inr, ℕ, Bool, true, false, List, [], ◌∷◌, Option, None, Some, IfSome, Result, refl, sym, subst}
 use Rattle.std.proofs.lemmas.Bool.{false≢true}
 use Rattle.sync_types.specs.declared.misuse.Misuse.{Misuse}
 use Rattle.sync_model.specs.declared.answer.Answer.{Answer}
@@ -17,7 +17,7 @@ use Rattle.protocols.specs.declared.step.Step.TheVariants.{Finished, Misused, Wa
 use Rattle.protocols.specs.Spelling.{CallAnswer, IsEventOf, Spells, AreTimely}
 use Rattle.protocols.specs.Steps.{IsAt, KeepsResults, GainsAtItsEnd}
 use Rattle.call_loop.specs.Calls.{Did, has_gained}
-use Rattle.call_loop.specs.Stages.{meant, MadeStage, acquires_by, EndsCall, MayBeAt, IsClocked, IsTimedBy, AreTimedBy}
+use Rattle.call_loop.specs.Stages.{meant, MadeStage, acquires_by, EndsCall, MayBeAt, IsClocked, IsTimedBy, ReadyOr, AreTimedBy}
 use Rattle.call_loop.proofs.SoFar.{IsOn, IsEnd, ends_by, meets_end, timely_deed, went_on}
 
 module _ {G O : Type 0} (shows : ℕ → Type 0) where
@@ -64,6 +64,19 @@ module _ {E R G O : Type 0} (moment : E → Option ℕ) (meaning : G → R → S
   one_timed true stage event (Halted misuse) step is at = (subst (λ (s : Answer (Step G O)). IsAt (MayBeAt true shows s) (moment event)) is at, tt)
 
 module _ {S N E R G O : Type 0} (next : S → ℕ → E → S × R) (halts : Bool) (start : S) (event_of : G → ℕ → E) (moment : E → Option ℕ) (meaning : G → R → Step G O) (lazy : Bool) (shows : ℕ → Type 0) where
+  -- an event that was made before has a moment of the clock
+  pub unready : (stage : G) (ready : Option E) → IfSome ready (λ event. IsClocked event_of moment shows stage event) → (old new : Pass S N E R) (from to : Front) (event : E) (answer : Answer R)
+      → MakesWith next halts start (λ state given. ReadyOr ready (IsTimedBy next event_of moment meaning lazy shows stage state) given) (λ given. ReadyOr ready (IsClocked event_of moment shows stage) given) old from event answer new to
+      → MakesWith next halts start (IsTimedBy next event_of moment meaning lazy shows stage) (IsClocked event_of moment shows stage) old from event answer new to
+  unready stage ready clocked old new from to event answer made = record { makes = made.makes; chosen = by_halt (halt_of made.makes.one.before) (state_after next start made.makes.one.before) ready clocked made.chosen }
+    where
+      by_halt : (h : Option Misuse) (state : S) (r : Option E) → IfSome r (λ e. IsClocked event_of moment shows stage e) → MayBeMade (λ here given. ReadyOr r (IsTimedBy next event_of moment meaning lazy shows stage here) given) (λ given. ReadyOr r (IsClocked event_of moment shows stage) given) h state event
+          → MayBeMade (IsTimedBy next event_of moment meaning lazy shows stage) (IsClocked event_of moment shows stage) h state event
+      by_halt None state None all chosen = chosen
+      by_halt (Some misuse) state None all chosen = chosen
+      by_halt None state (Some e) all chosen = let is = subst (λ (x : E). IsClocked event_of moment shows stage x) (sym chosen) all in (is.0, inl is.1)
+      by_halt (Some misuse) state (Some e) all chosen = subst (λ (x : E). IsClocked event_of moment shows stage x) (sym chosen) all
+
   -- it is the stage's event
   pub of_timed : (stage : G) (old new : Pass S N E R) (from to : Front) (event : E) (answer : Answer R) → MakesWith next halts start (IsTimedBy next event_of moment meaning lazy shows stage) (IsClocked event_of moment shows stage) old from event answer new to → IsEventOf event_of stage event
   of_timed stage old new from to event answer made = by_halt _ (halt_of made.makes.one.before) made.chosen

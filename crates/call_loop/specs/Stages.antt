@@ -1,5 +1,5 @@
 -- What one stage of a running call did.
-use Rattle.std.specs.Prelude.{◌≡◌, ◌⊎◌, ℕ, Bool, true, false, List, [], ◌∷◌, Option}
+use Rattle.std.specs.Prelude.{◌≡◌, ◌⊎◌, ℕ, Bool, true, false, List, [], ◌∷◌, Option, None, Some}
 use Rattle.sync_model.specs.declared.answer.Answer.{Answer}
 use Rattle.sync_model.specs.declared.answer.Answer.TheVariants.{Done, Halted}
 use Rattle.sync_model.specs.declared.journal.Deed.{Deed}
@@ -80,6 +80,12 @@ module _ {S E R G O : Type 0} (next : S → ℕ → E → S × R) (event_of : G 
   -- It is the stage's event, at a moment that the clock may show. Where the clock is read lazily it may be at any moment, if the call ends with it, whoever makes it in this state.
   abbrev pub IsTimedBy : S → E → Type 0
   IsTimedBy state event = IsEventOf event_of stage event × (IsAt shows (moment event) ⊎ ((lazy ≡ true) × ((caller : ℕ) → EndsCall (meaning stage (next state caller event).1))))
+
+module _ {E : Type 0} where
+  -- it is the event that was made before, and where none was, such a one
+  abbrev pub ReadyOr : Option E → (E → Type 0) → E → Type 0
+  ReadyOr None P event = P event
+  ReadyOr (Some ready) P event = event ≡ ready
 
 module _ {E R : Type 0} (moment : E → Option ℕ) (shows : ℕ → Type 0) where
   -- The moments of a call that reads the clock lazily. They are the clock's, but for the moment of an event that the machine took and that is the call's only one.

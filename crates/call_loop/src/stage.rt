@@ -6,7 +6,7 @@ ghost use Rattle.ruled_object.specs.Passes.{own_by, callers_of, start_of, IsHome
 ghost use Rattle.ruled_object.specs.Standing.{stand_by};
 ghost use Rattle.call_loop.specs.Stages.{MadeStage, MayBeAt, MayCome, StandsOn, acquires_by};
 
-use crate::timing::{StageEvent, Timing};
+use crate::timing::{StageEvent, Timing, made_before};
 use protocols::{Protocol, Step};
 use ruled_object::laws::standing;
 use ruled_object::{Object, PassOf};
@@ -42,10 +42,12 @@ pub(crate) fn make<P: Protocol + Worded, T: Timing<P>, N: Note, C: Clock, R: Wai
     P::laws();
     standing::<P, P::Stand>();
     journal_is_log::<P>();
+    let ready = made_before::<P, T, C>(stage, at.clock);
     let source = StageEvent::<P, T, C> {
         stage,
         timing,
         clock: at.clock,
+        ready,
     };
     let did = object.call_with(rt, at.home, pass, note, &source);
     match did.1 {

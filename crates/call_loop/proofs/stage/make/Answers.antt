@@ -7,7 +7,7 @@ use Rattle.ruled_object.specs.Passes.{callers_of, number_of, own_by, start_of}
 use Rattle.ruled_object.specs.Standing.{stand_by}
 use Rattle.protocols.specs.Steps.{IsExpected, LeadsOn}
 use Rattle.call_loop.specs.Stages.{acquires_by, IsClocked, IsTimedBy, MadeStage, MayBeAt}
-use Rattle.call_loop.proofs.Timed.{made_timed, of_timed}
+use Rattle.call_loop.proofs.Timed.{made_timed, of_timed, unready}
 use Rattle.call_loop.proofs.Stands.{comes, quiet, stand_on}
 use Rattle.call_loop.proofs.stage.make.Goals as goal
 
@@ -21,7 +21,7 @@ returns-in-Halted-clause-made g c =
     let lazy = g.T.Timing.LAZY in
     let stage = c.args.stage in
     made_timed m.next m.HALTS start p.event p.moment p.meaning lazy shows stage c.args.pass.now c.call_with-did.new.pass (front c.args.note.now) (front c.call_with-did.new.note) c.call_with-did.result.0 (Halted c.in-Halted.misuse)
-    (subst (λ answer. MakesWith m.next m.HALTS start (IsTimedBy m.next p.event p.moment p.meaning lazy shows stage) (IsClocked p.event p.moment shows stage) c.args.pass.now (front c.args.note.now) c.call_with-did.result.0 answer c.call_with-did.new.pass (front c.call_with-did.new.note)) c.in-Halted.is c.call_with-did.ensures.makes)
+    (subst (λ answer. MakesWith m.next m.HALTS start (IsTimedBy m.next p.event p.moment p.meaning lazy shows stage) (IsClocked p.event p.moment shows stage) c.args.pass.now (front c.args.note.now) c.call_with-did.result.0 answer c.call_with-did.new.pass (front c.call_with-did.new.note)) c.in-Halted.is (unready g.P.Machine.next g.P.Machine.HALTS (start_of c.args.object.now) g.P.Protocol.event g.P.Protocol.moment g.P.Protocol.meaning g.T.Timing.LAZY (g.C.Clock.shows c.args.at.now.clock.now) c.args.stage c.made_before-ready.result c.made_before-ready.ensures c.args.pass.now c.call_with-did.new.pass (g.N.Note.front c.args.note.now) (g.N.Note.front c.call_with-did.new.note) c.call_with-did.result.0 c.call_with-did.result.1 c.call_with-did.ensures.makes))
 
 pub returns-in-Done-clause-made : goal.returns-in-Done-clause-made
 returns-in-Done-clause-made g c =
@@ -37,7 +37,7 @@ returns-in-Done-clause-made g c =
     let from = front c.args.note.now in
     let to = front c.call_with-did.new.note in
     let event = c.call_with-did.result.0 in
-    let made = subst (λ answer. MakesWith m.next m.HALTS start (IsTimedBy m.next p.event p.moment p.meaning lazy shows stage) (IsClocked p.event p.moment shows stage) old from event answer new to) c.in-Done.is c.call_with-did.ensures.makes in
+    let made = subst (λ answer. MakesWith m.next m.HALTS start (IsTimedBy m.next p.event p.moment p.meaning lazy shows stage) (IsClocked p.event p.moment shows stage) old from event answer new to) c.in-Done.is (unready g.P.Machine.next g.P.Machine.HALTS (start_of c.args.object.now) g.P.Protocol.event g.P.Protocol.moment g.P.Protocol.meaning g.T.Timing.LAZY (g.C.Clock.shows c.args.at.now.clock.now) c.args.stage c.made_before-ready.result c.made_before-ready.ensures c.args.pass.now c.call_with-did.new.pass (g.N.Note.front c.args.note.now) (g.N.Note.front c.call_with-did.new.note) c.call_with-did.result.0 c.call_with-did.result.1 c.call_with-did.ensures.makes) in
     let done = made_timed m.next m.HALTS start p.event p.moment p.meaning lazy shows stage old new from to event (Done c.in-Done.reply) made in
     subst (λ step. MadeStage m.next m.HALTS start p.event p.moment p.meaning (MayBeAt lazy shows (Done step)) stage old from (Done step) new to) (sym c.meaning.ensures) done
 
@@ -48,7 +48,7 @@ returns-in-Done-clause-expected g c =
     let front = g.N.Note.front in
     let start = start_of c.args.object.now in
     let old = c.args.pass.now in
-    let of = of_timed m.next m.HALTS start p.event p.moment p.meaning g.T.Timing.LAZY (g.C.Clock.shows c.args.at.now.clock.now) c.args.stage c.args.pass.now c.call_with-did.new.pass (g.N.Note.front c.args.note.now) (g.N.Note.front c.call_with-did.new.note) c.call_with-did.result.0 c.call_with-did.result.1 c.call_with-did.ensures.makes in
+    let of = of_timed m.next m.HALTS start p.event p.moment p.meaning g.T.Timing.LAZY (g.C.Clock.shows c.args.at.now.clock.now) c.args.stage c.args.pass.now c.call_with-did.new.pass (g.N.Note.front c.args.note.now) (g.N.Note.front c.call_with-did.new.note) c.call_with-did.result.0 c.call_with-did.result.1 (unready g.P.Machine.next g.P.Machine.HALTS (start_of c.args.object.now) g.P.Protocol.event g.P.Protocol.moment g.P.Protocol.meaning g.T.Timing.LAZY (g.C.Clock.shows c.args.at.now.clock.now) c.args.stage c.made_before-ready.result c.made_before-ready.ensures c.args.pass.now c.call_with-did.new.pass (g.N.Note.front c.args.note.now) (g.N.Note.front c.call_with-did.new.note) c.call_with-did.result.0 c.call_with-did.result.1 c.call_with-did.ensures.makes) in
     let event = c.call_with-did.result.0 in
     let reply = c.in-Done.reply in
     let made = subst (λ answer. Makes m.next m.HALTS start old (front c.args.note.now) event answer c.call_with-did.new.pass (front c.call_with-did.new.note)) c.in-Done.is c.call_with-did.ensures.makes.makes in
@@ -64,7 +64,7 @@ returns-in-Done-clause-stands g c =
     let start = start_of c.args.object.now in
     let old = c.args.pass.now in
     let new = c.call_with-did.new.pass in
-    let of = of_timed m.next m.HALTS start p.event p.moment p.meaning g.T.Timing.LAZY (g.C.Clock.shows c.args.at.now.clock.now) c.args.stage c.args.pass.now c.call_with-did.new.pass (g.N.Note.front c.args.note.now) (g.N.Note.front c.call_with-did.new.note) c.call_with-did.result.0 c.call_with-did.result.1 c.call_with-did.ensures.makes in
+    let of = of_timed m.next m.HALTS start p.event p.moment p.meaning g.T.Timing.LAZY (g.C.Clock.shows c.args.at.now.clock.now) c.args.stage c.args.pass.now c.call_with-did.new.pass (g.N.Note.front c.args.note.now) (g.N.Note.front c.call_with-did.new.note) c.call_with-did.result.0 c.call_with-did.result.1 (unready g.P.Machine.next g.P.Machine.HALTS (start_of c.args.object.now) g.P.Protocol.event g.P.Protocol.moment g.P.Protocol.meaning g.T.Timing.LAZY (g.C.Clock.shows c.args.at.now.clock.now) c.args.stage c.made_before-ready.result c.made_before-ready.ensures c.args.pass.now c.call_with-did.new.pass (g.N.Note.front c.args.note.now) (g.N.Note.front c.call_with-did.new.note) c.call_with-did.result.0 c.call_with-did.result.1 c.call_with-did.ensures.makes) in
     let event = c.call_with-did.result.0 in
     let reply = c.in-Done.reply in
     let made = c.call_with-did.ensures.makes.makes in
@@ -80,7 +80,7 @@ returns-in-Done-clause-no_edge g c none =
     let p = g.P.Protocol in
     let m = g.P.Machine in
     let start = start_of c.args.object.now in
-    let of = of_timed m.next m.HALTS start p.event p.moment p.meaning g.T.Timing.LAZY (g.C.Clock.shows c.args.at.now.clock.now) c.args.stage c.args.pass.now c.call_with-did.new.pass (g.N.Note.front c.args.note.now) (g.N.Note.front c.call_with-did.new.note) c.call_with-did.result.0 c.call_with-did.result.1 c.call_with-did.ensures.makes in
+    let of = of_timed m.next m.HALTS start p.event p.moment p.meaning g.T.Timing.LAZY (g.C.Clock.shows c.args.at.now.clock.now) c.args.stage c.args.pass.now c.call_with-did.new.pass (g.N.Note.front c.args.note.now) (g.N.Note.front c.call_with-did.new.note) c.call_with-did.result.0 c.call_with-did.result.1 (unready g.P.Machine.next g.P.Machine.HALTS (start_of c.args.object.now) g.P.Protocol.event g.P.Protocol.moment g.P.Protocol.meaning g.T.Timing.LAZY (g.C.Clock.shows c.args.at.now.clock.now) c.args.stage c.made_before-ready.result c.made_before-ready.ensures c.args.pass.now c.call_with-did.new.pass (g.N.Note.front c.args.note.now) (g.N.Note.front c.call_with-did.new.note) c.call_with-did.result.0 c.call_with-did.result.1 c.call_with-did.ensures.makes) in
     let event = c.call_with-did.result.0 in
     let reply = c.in-Done.reply in
     let expected = subst IsExpected c.meaning.ensures (returns-in-Done-clause-expected g c) in
