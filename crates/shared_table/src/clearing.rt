@@ -22,8 +22,8 @@ ghost use Rattle.shared_table.specs.Tables.{maps_of, first_of};
 use crate::note::{SharedNote, time_of};
 use crate::table::SharedTable;
 use atomic_table::Seat;
-use stamps::Stamp;
 use crossbeam_utils::Backoff;
+use stamps::Stamp;
 use std::sync::Wait;
 use table_words::View;
 use trie_nodes::layout::NODE_WORDS;
@@ -48,14 +48,7 @@ impl SharedTable {
     }
 
     // The same, by a seat whose caller's room begins here, and whose caller's last event has this number.
-    fn clear<R: Wait>(
-        &self,
-        rt: &R,
-        seat: &mut Seat<(), View>,
-        map: u32,
-        next: u64,
-        time: Stamp,
-    )
+    fn clear<R: Wait>(&self, rt: &R, seat: &mut Seat<(), View>, map: u32, next: u64, time: Stamp)
         requires table { IsSeatOf self.now.words seat.old }
         requires free { IsFree (begin_of self.now.words) seat.old.me }
         requires unit { HasUnit seat.old.me.0.owns next }

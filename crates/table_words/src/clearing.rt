@@ -25,7 +25,13 @@ const CLOSED: u64 = 1 << 32;
 impl TableWords {
     /// Tries to close the map's gate, for a caller whose last event has this number. It doesn't where another has closed it, or passed it just then. Only a call that may wait
     /// closes it, so no load does.
-    pub fn try_close<R: Wait>(&self, _rt: &R, seat: &mut Seat<(), View>, map: u32, _time: Stamp) -> bool
+    pub fn try_close<R: Wait>(
+        &self,
+        _rt: &R,
+        seat: &mut Seat<(), View>,
+        map: u32,
+        _time: Stamp,
+    ) -> bool
         requires table { IsSeatOf self.now seat.old }
         requires free { IsFree (begin_of self.now) seat.old.me }
         requires map { map < (begin_of self.now).maps }

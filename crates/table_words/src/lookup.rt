@@ -45,7 +45,13 @@ impl TableWords {
     }
 
     // The same, on a way that is told by a type.
-    fn enter_told<W: Way + Timed>(&self, seat: &mut Seat<(), View>, map: u32, key: u32, _time: Stamp) -> u64
+    fn enter_told<W: Way + Timed>(
+        &self,
+        seat: &mut Seat<(), View>,
+        map: u32,
+        key: u32,
+        _time: Stamp,
+    ) -> u64
         requires table { IsSeatOf self.now seat.old }
         requires may { MayEnter (begin_of self.now) seat.old.me }
         requires map { map < (begin_of self.now).maps }

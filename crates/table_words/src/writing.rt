@@ -30,7 +30,13 @@ use trie_nodes::{Slot, nibble};
 impl TableWords {
     /// Tries to come in as a writer of the map, for a caller whose last event has this number. It doesn't where the gate is closed, or where another passed it just then. Only a
     /// call that may wait comes in, so no load does.
-    pub fn try_come_in<R: Wait>(&self, _rt: &R, seat: &mut Seat<(), View>, map: u32, _time: Stamp) -> bool
+    pub fn try_come_in<R: Wait>(
+        &self,
+        _rt: &R,
+        seat: &mut Seat<(), View>,
+        map: u32,
+        _time: Stamp,
+    ) -> bool
         requires table { IsSeatOf self.now seat.old }
         requires free { IsFree (begin_of self.now) seat.old.me }
         requires map { map < (begin_of self.now).maps }
