@@ -3,12 +3,13 @@ use Rattle.std.proofs.Common.{◌≡◌, ℕ, zero, suc, ◌<◌, ◌≤◌, ◌
 use Rattle.std.specs.Prelude.{slice_index}
 use Rattle.std.proofs.lemmas.Bool.{cases_lt}
 use Rattle.std.proofs.lemmas.List.{length-map}
-use Rattle.std.proofs.lemmas.Option.{same_Some, slice_get_within}
+use Rattle.std.proofs.lemmas.Option.{none-some, same_Some, slice_get_within}
 use Rattle.sync_model.specs.declared.caller.Caller.{Caller}
 use Rattle.sync_model.specs.declared.item.Item.{Item}
 use Rattle.sync_model.specs.Front.{AtLeast}
 use Rattle.sync_model.specs.Journal.{Begins, by}
-use Rattle.sync_model.specs.Shared.{IsHeldBy, AreAllCallers, SameCalls, Settled, calls_of, items_of}
+use Rattle.sync_model.specs.Shared.{IsHeldBy, AreAllCallers, SameCalls, Settled, calls_of, items_of, times_of, times_by as numbers_of}
+use Rattle.sync_model.specs.SharedOrder.{InOrder}
 use Rattle.sync_model.specs.SharedHistory.{Contents, contents_after, contents_at}
 use Rattle.ruled_object.specs.Gathered.{AreAllPasses, IsWhole}
 use Rattle.ruled_object.specs.Notes.{held_by, IsNoteOf}
@@ -19,7 +20,8 @@ use Rattle.shared_plain.specs.declared.mark.Mark.{Mark}
 use Rattle.shared_plain.specs.declared.plain.Plain.{Plain}
 use Rattle.shared_plain.specs.Counting.{length-items}
 use Rattle.shared_plain.specs.Marks.{counts_by, front_by, holding, own_by, seen_of, KeepsOwn, IsMarkOf}
-use Rattle.shared_plain.specs.PlainHistory.{Step, front_of, history_of, items_by}
+use Rattle.shared_plain.specs.PlainHistory.{Step, front_of, history_of, items_by, entry_times_of, times_by}
+use Rattle.shared_plain.proofs.Numbers.{in_one_order, kept_times, no_times}
 use Rattle.shared_plain.specs.PlainMachine.{contents_of, next}
 use Rattle.shared_plain.specs.Plains.{caller_count}
 use Rattle.shared_plain.specs.Settling.{PlainPass, passes_in, IsSameMark, AreSameMarks, IsBack}
@@ -114,7 +116,7 @@ module _ (plain : Plain) (laws : PassLaws plain) (frees takes : Event → Option
       let c = number_of before.note.pass in
       let stays : by c (seen_by after.note.pass) ≡ by c (seen_by before.note.pass) = ap (λ d. by d (seen_by after.note.pass)) (sym b.marks.number) ∙ (sym b.mine ∙ (b.was.keeps b.own.own b.own.held).own_is) in
       same_own after.note before.note (b.held ∙ sym b.own.held) b.marks.number b.marks.callers b.marks.spare
-      (λ own held. kept_items before.note.callers c (seen_by before.note.pass) (seen_by after.note.pass) b.begins stays)
+      (λ own held. kept_items before.note.callers c (seen_by before.note.pass) (seen_by after.note.pass) b.begins stays) (λ own held. ap (λ d. times_by d (seen_by after.note.pass)) b.marks.number ∙ kept_times c (seen_by before.note.pass) (seen_by after.note.pass) b.begins stays)
 
   old_there : (i : ℕ) (after : Caller Mark) → slice_get new i ≡ Some after → (before : Caller Mark) × (slice_get old i ≡ Some before)
   old_there i after at = let below = slice_get_within new i after at in let count = same.count in item_there old i (omega arith)
@@ -158,6 +160,35 @@ module _ (plain : Plain) (laws : PassLaws plain) (frees takes : Event → Option
           calls_at new c after.0 after.1 ∙ (ap (λ o. items_of (holding after.0.note o)) b.held ∙ (λ i. items_by (callers i) (b.number i) (b.seen i)))
       by_place (inr least) = let count = same.count in let many = all.all in calls_past new c least ∙ sym (no_items n c [] journal (past c (omega arith)))
 
+  -- and so are their numbers
+  times_are : (c : ℕ) → times_of own_by new c ≡ times_by c journal
+  times_are c = by_place (cases_lt c (length new))
+    where
+      at_caller : (list : List (Caller Mark)) (d : ℕ) (caller : Caller Mark) → slice_get list d ≡ Some caller → times_of own_by list d ≡ numbers_of (own_by caller.note)
+      at_caller [] d caller at = absurd (none-some caller at)
+      at_caller (x ∷ xs) zero caller at = ap (λ (y : Caller Mark). numbers_of (own_by y.note)) (same_Some x caller at)
+      at_caller (x ∷ xs) (suc d) caller at = at_caller xs d caller at
+
+      past_all : (list : List (Caller Mark)) (d : ℕ) → length list ≤ d → times_of own_by list d ≡ []
+      past_all [] d least = refl
+      past_all (x ∷ xs) zero least = absurd (omega arith)
+      past_all (x ∷ xs) (suc d) least = past_all xs d (omega arith)
+
+      by_place : (c < length new) ⊎ (length new ≤ c) → times_of own_by new c ≡ times_by c journal
+      by_place (inl below) =
+          let after = item_there new c below in
+          let b = (there c after.0 after.1).1 in
+          at_caller new c after.0 after.1 ∙ (ap (λ o. numbers_of (holding after.0.note o)) b.held ∙ (λ i. times_by (b.number i) (b.seen i)))
+      by_place (inr least) = let count = same.count in let many = all.all in past_all new c least ∙ sym (no_times c journal (past c (omega arith)))
+
+  ordered : InOrder (history_of journal) (calls_of own_by new) (entry_times_of journal) (times_of own_by new)
+  ordered = let o = in_one_order n journal whole.times in record {
+    entries = o.entries;
+    rise = o.rise;
+    all = λ c. ap length (times_are c) ∙ o.all c ∙ ap length (sym (calls_are c));
+    among = λ c j time x at at_time. o.among c j time x (ap (λ l. slice_get l j) (sym (calls_are c)) ∙ at) (ap (λ l. slice_get l j) (sym (times_are c)) ∙ at_time);
+  }
+
   in_order : (c : ℕ) → c < n → AreInOrder n c [] journal
   in_order c below =
       let count = same.count in let many = all.all in
@@ -177,6 +208,8 @@ module _ (plain : Plain) (laws : PassLaws plain) (frees takes : Event → Option
     history = history_of journal;
     all = λ i caller at. ap history_of (back i caller at).seen;
     lawful = of.same (contents_of (start_of plain.object)) (history_of journal) (λ c. items_by n c journal) (calls_of own_by new) calls_are (told of unseen at_end).lawful;
+    entry_times = entry_times_of journal;
+    order = ordered;
     fronts = λ i c caller at.
         let b = (there i caller at).1 in
         let callers = b.marks.callers ∙ b.was.callers in

@@ -13,7 +13,7 @@ use Rattle.ruled_object.specs.Passes.{number_of, seen_by, own_by as entries_of}
 use Rattle.shared_plain.specs.declared.mark.Mark.{Mark}
 use Rattle.shared_plain.specs.declared.plain.Plain.{Plain}
 use Rattle.shared_plain.specs.Marks.{counts_by, holding, own_by, seen_of, IsMarkOf}
-use Rattle.shared_plain.specs.PlainHistory.{calls_counted, history_of, items_by}
+use Rattle.shared_plain.specs.PlainHistory.{calls_counted, history_of, items_by, times_by}
 use Rattle.shared_plain.specs.PlainMachine.{Holdings, first_holdings}
 use Rattle.shared_plain.specs.Plains.{caller_count}
 use Rattle.shared_plain.specs.Walks.{AreInOrder}
@@ -71,7 +71,7 @@ knows_none (suc n) from (suc c) = knows_none n (from + 1) c
 -- the note of caller i, who did nothing and has seen nothing
 pub record IsNewMark (plain : Plain) (i spare : ℕ) (mark : Mark) : Type 0 where
   pub is : IsMarkOf plain mark
-  pub own : own_by mark ≡ Some (record { number = i; items = []; spare = spare })
+  pub own : own_by mark ≡ Some (record { number = i; items = []; times = []; spare = spare })
   pub seen : seen_of mark ≡ []
   pub knows : (c : ℕ) → slice_index (counts_by mark) c ≡ 0
 
@@ -87,7 +87,7 @@ new_mark plain mark i spare is held number seen own callers left done = record {
       done = λ _. done ∙ sym (ap (calls_counted (number_of mark.pass)) seen);
     };
   };
-  own = ap (holding mark) held ∙ (λ j. Some (record { number = number j; items = ap (items_by mark.callers (number_of mark.pass)) seen j; spare = left j }));
+  own = ap (holding mark) held ∙ (λ j. Some (record { number = number j; items = ap (items_by mark.callers (number_of mark.pass)) seen j; times = ap (times_by (number_of mark.pass)) seen j; spare = left j }));
   seen = ap history_of seen;
   knows = λ c. ap (λ journal. get_or (map (λ d. calls_counted d journal) (range_with_len 0 mark.callers)) c 0) seen ∙ knows_none mark.callers 0 c;
 }

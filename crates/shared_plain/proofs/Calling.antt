@@ -16,9 +16,10 @@ use Rattle.shared_plain.specs.declared.event.Event.{Event}
 use Rattle.shared_plain.specs.declared.event.Answered.{Answered}
 use Rattle.shared_plain.specs.Counting.{counted_by}
 use Rattle.shared_plain.specs.PlainMachine.{Holdings, contents_of, call_of, next}
-use Rattle.shared_plain.specs.PlainHistory.{Step, call_in, entered, history_of, front_of, item_at, listed, items_from, items_by}
+use Rattle.shared_plain.specs.PlainHistory.{Step, call_in, entered, history_of, front_of, item_at, listed, items_from, items_by, timed, times_by}
 use Rattle.shared_plain.proofs.Histories.{Unseen, a_call, is_history}
 use Rattle.shared_plain.proofs.Items.{Made, history-append, items-append, marks}
+use Rattle.shared_plain.proofs.Numbers.{times-append, kept_times}
 use Rattle.shared_plain.proofs.Passing.{by-append, rises, kept_items, take_front}
 
 -- the last entry of a journal is right after those before it
@@ -66,7 +67,7 @@ module _ (n c : ℕ) where
       (λ k z at_k. subst (λ (l : List Step). bound z ≤ length (history_of l)) same (bounded (before ++ x ∷ []) xs k z at_k)) j y at_j
 
 abbrev pub state_at : ℕ → ℕ → ℕ → ℕ → List Step → CallerState
-state_at n c spare time seen = record { own = Some (record { number = c; items = items_by n c seen; spare = spare }); front = front_of n seen; time = time; seen = history_of seen }
+state_at n c spare time seen = record { own = Some (record { number = c; items = items_by n c seen; times = times_by c seen; spare = spare }); front = front_of n seen; time = time; seen = history_of seen }
 
 -- the entry of a journal that a caller made
 pub record Adds (start : Holdings) (c : ℕ) (event : Event) (answered : Answered) (seen between : List Step) (e : Step) : Type 0 where
@@ -76,9 +77,9 @@ pub record Adds (start : Holdings) (c : ℕ) (event : Event) (answered : Answere
   pub same : by c (seen ++ between) ≡ by c seen
   pub follows : Follows next false start None ((seen ++ between) ++ e ∷ [])
 
-pub called : Unseen → (start : Holdings) (n c : ℕ) (event : Event) (answered : Answered) (seen between : List Step) (e : Step) (spare left time cost : ℕ) → c < n → left + cost ≡ spare → Adds start c event answered seen between e
-    → Called (contents_of start) (call_of event) answered.reply cost (state_at n c spare time seen) (state_at n c left time ((seen ++ between) ++ e ∷ []))
-called unseen start n c event answered seen between e spare left time cost below spent adds =
+pub called : Unseen → (start : Holdings) (n c : ℕ) (event : Event) (answered : Answered) (seen between : List Step) (e : Step) (spare left time cost : ℕ) → c < n → left + cost ≡ spare → time < e.time → Adds start c event answered seen between e
+    → Called (contents_of start) (call_of event) answered.reply cost (state_at n c spare time seen) (state_at n c left e.time ((seen ++ between) ++ e ∷ []))
+called unseen start n c event answered seen between e spare left time cost below spent later adds =
     let front : List Step = seen ++ between in
     let whole : List Step = front ++ e ∷ [] in
     let made : Made = (call_of event, answered) in
@@ -94,11 +95,14 @@ called unseen start n c event answered seen between e spare left time cost below
     let items : items_by n c whole ≡ items_by n c seen ++ item ∷ [] =
     items-append n c [] front (e ∷ []) ∙ ((λ i. items_by n c front ++ listed n c front e (did i) []) ∙ (ap (λ (b : Bool). items_by n c front ++ cond b (item_at n front e.knew made ∷ []) []) (eq-eqb e.caller c adds.caller)
     ∙ ((λ i. kept_items n c seen front (between, refl) adds.same i ++ record { call = call_of event; reply = answered.reply; place = length (history_of front); entry = answered.entry; front = front_of n (known i) } ∷ [])))) in
+    let times : times_by c whole ≡ times_by c seen ++ e.time ∷ [] =
+    times-append c front (e ∷ []) ∙ ((λ i. times_by c front ++ timed c e (did i) []) ∙ (ap (λ (b : Bool). times_by c front ++ cond b (e.time ∷ []) []) (eq-eqb e.caller c adds.caller)
+    ∙ ap (λ l. l ++ e.time ∷ []) (kept_times c seen front (between, refl) adds.same))) in
     let at_place : contents_at (contents_of start) (history_of whole) (length (history_of front)) ≡ contents_of (state_after next start front) =
     ap (λ l. contents_after (contents_of start) (take (length (history_of front)) l)) history ∙ (ap (contents_after (contents_of start)) (take_front (history_of front) (entered c (Some made) [])) ∙ sym before.contents) in
     let one = ap length history in let two = ap length longer in record {
-      was = record { number = c; items = items_by n c seen; spare = spare };
-      becomes = record { number = c; items = items_by n c whole; spare = left };
+      was = record { number = c; items = items_by n c seen; times = times_by c seen; spare = spare };
+      becomes = record { number = c; items = items_by n c whole; times = times_by c whole; spare = left };
       item = item;
       own_old = refl;
       own_new = refl;
@@ -109,7 +113,10 @@ called unseen start n c event answered seen between e spare left time cost below
       is_reply = refl;
       is_front = refl;
       counted = counted_by n c whole below;
-      time = refl;
+      time = e.time;
+      times = times;
+      past = later;
+      reached = omega arith;
       rises = rises n seen whole (between ++ e ∷ [], append_assoc seen between (e ∷ []));
       begins = (history_of between ++ entered c (Some made) [], history ∙ (ap (λ l. l ++ entered c (Some made) []) longer ∙ append_assoc (history_of seen) (history_of between) (entered c (Some made) [])));
       from = omega (arith, length-append (history_of seen) (history_of between));

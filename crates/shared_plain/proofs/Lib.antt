@@ -11,6 +11,7 @@ pub mod Fitting
 pub mod Gathered
 pub mod Histories
 pub mod Items
+pub mod Numbers
 pub mod Orders
 pub mod Passing
 pub mod Replies

@@ -11,7 +11,7 @@ use Rattle.ruled_object.specs.Notes.{held_by}
 use Rattle.ruled_object.specs.Passes.{number_of, seen_by}
 use Rattle.shared_plain.specs.declared.mark.Mark.{Mark}
 use Rattle.shared_plain.specs.Marks.{holding, own_by}
-use Rattle.shared_plain.specs.PlainHistory.{Step, call_in, calls_counted, front_of, item_at, listed, items_from, items_by}
+use Rattle.shared_plain.specs.PlainHistory.{Step, call_in, calls_counted, front_of, item_at, listed, items_from, items_by, times_by}
 use Rattle.shared_plain.proofs.Items.{count-append, items-append}
 
 pub take_front : {A : Type 0} (xs ys : List A) → take (length xs) (xs ++ ys) ≡ xs
@@ -65,9 +65,10 @@ pub rises : (n : ℕ) (old new : List Step) → Begins new old → AtLeast (fron
 rises n old new begins c = at_most n 0 c (λ d. calls_counted d old) (λ d. calls_counted d new) (λ d. let more = count-append d old begins.0 in let same = ap (calls_counted d) begins.1 in omega arith)
 
 held_on : (new old : Mark) (found : Option (List Step)) → number_of new.pass ≡ number_of old.pass → new.callers ≡ old.callers → new.spare ≡ old.spare
-    → ((own : List Step) → found ≡ Some own → items_by old.callers (number_of old.pass) (seen_by new.pass) ≡ items_by old.callers (number_of old.pass) (seen_by old.pass)) → holding new found ≡ holding old found
-held_on new old None number callers spare items = refl
-held_on new old (Some own) number callers spare items = λ i. Some (record {
+    → ((own : List Step) → found ≡ Some own → items_by old.callers (number_of old.pass) (seen_by new.pass) ≡ items_by old.callers (number_of old.pass) (seen_by old.pass)) → ((own : List Step) → found ≡ Some own → times_by (number_of new.pass) (seen_by new.pass) ≡ times_by (number_of old.pass) (seen_by old.pass)) → holding new found ≡ holding old found
+held_on new old None number callers spare items times = refl
+held_on new old (Some own) number callers spare items times = λ i. Some (record {
+  times = times own refl i;
   number = number i;
   items = (ap (λ (z : ℕ × ℕ). items_by z.0 z.1 (seen_by new.pass)) (λ j. (callers j, number j)) ∙ items own refl) i;
   spare = spare i;
@@ -75,5 +76,5 @@ held_on new old (Some own) number callers spare items = λ i. Some (record {
 
 -- the holder and its calls stay
 pub same_own : (new old : Mark) → held_by new.pass ≡ held_by old.pass → number_of new.pass ≡ number_of old.pass → new.callers ≡ old.callers → new.spare ≡ old.spare
-    → ((own : List Step) → held_by old.pass ≡ Some own → items_by old.callers (number_of old.pass) (seen_by new.pass) ≡ items_by old.callers (number_of old.pass) (seen_by old.pass)) → own_by new ≡ own_by old
-same_own new old held number callers spare items = ap (holding new) held ∙ held_on new old (held_by old.pass) number callers spare items
+    → ((own : List Step) → held_by old.pass ≡ Some own → items_by old.callers (number_of old.pass) (seen_by new.pass) ≡ items_by old.callers (number_of old.pass) (seen_by old.pass)) → ((own : List Step) → held_by old.pass ≡ Some own → times_by (number_of new.pass) (seen_by new.pass) ≡ times_by (number_of old.pass) (seen_by old.pass)) → own_by new ≡ own_by old
+same_own new old held number callers spare items times = ap (holding new) held ∙ held_on new old (held_by old.pass) number callers spare items times

@@ -8,7 +8,7 @@ use Rattle.ruled_object.specs.Notes.{held_by, IsNoteOf}
 use Rattle.ruled_object.specs.Passes.{callers_of, number_of, seen_by}
 use Rattle.shared_plain.specs.declared.mark.Mark.{Mark}
 use Rattle.shared_plain.specs.declared.plain.Plain.{Plain}
-use Rattle.shared_plain.specs.PlainHistory.{Step, calls_counted, front_of, history_of, items_by}
+use Rattle.shared_plain.specs.PlainHistory.{Step, calls_counted, front_of, history_of, items_by, times_by}
 use Rattle.shared_plain.specs.Walks.{AreInOrder}
 
 -- for each caller the number of its shared calls that are known
@@ -22,7 +22,7 @@ front_by mark = record { counts = counts_by mark; time = mark.stamp.time }
 -- the holder, with its calls, of a pass that holds entries
 abbrev pub holding : Mark → Option (List Step) → Option Holding
 holding mark None = None
-holding mark (Some own) = Some (record { number = number_of mark.pass; items = items_by mark.callers (number_of mark.pass) (seen_by mark.pass); spare = mark.spare })
+holding mark (Some own) = Some (record { number = number_of mark.pass; items = items_by mark.callers (number_of mark.pass) (seen_by mark.pass); times = times_by (number_of mark.pass) (seen_by mark.pass); spare = mark.spare })
 
 abbrev pub own_by : Mark → Option Holding
 own_by mark = holding mark (held_by mark.pass)

@@ -63,3 +63,23 @@ items_from callers c before (x ∷ xs) = listed callers c before x (call_in x.de
 -- one caller's shared calls
 abbrev pub items_by : ℕ → ℕ → List Step → List Item
 items_by callers c journal = items_from callers c [] journal
+
+-- the number of a call, where it is an entry, stands before those of later entries
+abbrev pub numbered : ℕ → Option (SharedCall × Answered) → List ℕ → List ℕ
+numbered time None later = later
+numbered time (Some made) later = cond made.1.entry (time ∷ later) later
+
+-- the numbers of the shared history's entries
+abbrev pub entry_times_of : List Step → List ℕ
+entry_times_of [] = []
+entry_times_of (x ∷ xs) = numbered x.time (call_in x.deed) (entry_times_of xs)
+
+-- the number of a call stands before those of later ones of its caller
+abbrev pub timed : ℕ → Step → Option (SharedCall × Answered) → List ℕ → List ℕ
+timed c x None later = later
+timed c x (Some made) later = cond (x.caller == c) (x.time ∷ later) later
+
+-- the numbers of one caller's shared calls
+abbrev pub times_by : ℕ → List Step → List ℕ
+times_by c [] = []
+times_by c (x ∷ xs) = timed c x (call_in x.deed) (times_by c xs)

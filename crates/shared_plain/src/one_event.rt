@@ -37,13 +37,14 @@ impl Plain {
     {
         maps_and_atomics_stay();
         passes_and_copies::<PlainMachine, NoNote>();
-        let mut nothing = NoNote::new();
+        let mut nothing = NoNote::at(mark.stamp.same());
         mark.spare -= cost;
         mark.done = one_more(mark.done);
-        match self
+        let answer = self
             .object
-            .call(rt, &(), &mut mark.pass, &mut nothing, event)
-        {
+            .call(rt, &(), &mut mark.pass, &mut nothing, event);
+        mark.stamp = nothing.time();
+        match answer {
             Answer::Done(Some(answered)) => answered,
             Answer::Done(None) => unreachable!(),
             Answer::Halted(_) => unreachable!(),

@@ -23,6 +23,24 @@ impl NoNote {
     }
 }
 
+impl NoNote {
+    /// A note of whom the last event has this number.
+    #[inline(always)]
+    pub fn at(stamp: Stamp) -> Self
+        ensures { result.stamp.time ≡ stamp.time }
+    {
+        NoNote { stamp }
+    }
+
+    /// The number of the last event.
+    #[inline(always)]
+    pub fn time(&self) -> Stamp
+        ensures { result.time ≡ self.now.stamp.time }
+    {
+        self.stamp.same()
+    }
+}
+
 impl Note for NoNote {
     type Home = ();
 

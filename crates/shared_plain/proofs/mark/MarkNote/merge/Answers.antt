@@ -2,11 +2,12 @@ use Rattle.std.proofs.Common.{le_refl, refl, sym, ap, ◌∙◌, subst}
 use Rattle.sync_model.specs.Front.{AtLeast}
 use Rattle.sync_model.specs.Journal.{by}
 use Rattle.ruled_object.specs.Passes.{number_of, seen_by}
-use Rattle.shared_plain.specs.PlainHistory.{front_of}
+use Rattle.shared_plain.specs.PlainHistory.{front_of, times_by}
 use Rattle.shared_plain.specs.declared.mark.Mark.{Mark}
 use Rattle.shared_plain.proofs.Orders.{keeps_on, note_of}
 use Rattle.shared_plain.proofs.Passing.{rises, kept_items, same_own}
 use Rattle.shared_plain.proofs.mark.MarkNote.merge.Goals as goal
+use Rattle.shared_plain.proofs.Numbers.{kept_times}
 
 pub returns-clause-home : goal.returns-clause-home
 returns-clause-home c home is =
@@ -37,4 +38,6 @@ returns-clause-own c =
     let held = c.merge.ensures.held in
     same_own new old held number refl refl
     (λ own is. kept_items old.callers (number_of old.pass) (seen_by old.pass) (seen_by pass) c.merge.ensures.seen.0
+    (ap (λ c. by c (seen_by pass)) (sym number) ∙ (sym (c.merge.ensures.shows.own own (held ∙ is)) ∙ (c.requires.home.0.keeps own is).own_is)))
+    (λ own is. ap (λ d. times_by d (seen_by pass)) number ∙ kept_times (number_of old.pass) (seen_by old.pass) (seen_by pass) c.merge.ensures.seen.0
     (ap (λ c. by c (seen_by pass)) (sym number) ∙ (sym (c.merge.ensures.shows.own own (held ∙ is)) ∙ (c.requires.home.0.keeps own is).own_is)))

@@ -37,7 +37,7 @@ returns-clause-callers c =
     record {
       all = record {
         all = ap length made ∙ (length-beside _ passes spare many ∙ new.all.count);
-        each = λ i caller at. let is = each i caller at in (is.is, (record { number = i; items = []; spare = slice_index spare i }, is.own, refl));
+        each = λ i caller at. let is = each i caller at in (is.is, (record { number = i; items = []; times = []; spare = slice_index spare i }, is.own, refl));
       };
       own = λ i caller at. (each i caller at).own;
       seen = λ i caller at. (each i caller at).seen;
