@@ -1,6 +1,7 @@
 -- All jobs of a run, before the start and behind it.
 use Rattle.std.proofs.Common.{◌≡◌, ℕ, zero, suc, ◌+◌, ◌^◌, ◌<◌, List, [], ◌∷◌, length, get_or, map, Option, Some, slice_get, refl, sym, ap, ◌∙◌, subst, arith}
 use Rattle.std.specs.List.{range_with_len, AllZip}
+use Rattle.std.specs.Prelude.{IsSome, is_some}
 use Rattle.std.proofs.lemmas.List.{length-map}
 use Rattle.std.proofs.lemmas.Option.{none-some, same_Some, slice_get_within, get_or_from_slice_get}
 use Rattle.script_calls.specs.declared.call.Reply.{Reply}
@@ -8,7 +9,7 @@ use Rattle.sync_model.specs.declared.caller.Caller.{Caller}
 use Rattle.sync_types.specs.BoundedSeq.{Bounded}
 use Rattle.sync_model.specs.Front.{Front}
 use Rattle.sync_model.specs.Note.{Holding}
-use Rattle.sync_model.specs.Shared.{AreAllCallers}
+use Rattle.sync_model.specs.Shared.{AreAllCallers, IsHeldBy}
 use Rattle.workload.specs.Keys.{keys_in}
 use Rattle.workload.specs.Plan.{Plan}
 use Rattle.thread_objects.specs.declared.object.AnyObject.{AnyObject}
@@ -48,6 +49,10 @@ counted_at a (suc n) (suc k) x at = counted_at (a + 1) n k x at ∙ omega arith
 pub number_at_place : {J : Type 0} (number : J → ℕ) (jobs : List J) (n k : ℕ) (job : J) → map number jobs ≡ range_with_len 0 n → slice_get jobs k ≡ Some job → number job ≡ k
 number_at_place number jobs n k job are at = counted_at 0 n k (number job) (ap (λ (l : List ℕ). slice_get l k) (sym are) ∙ mapped_found number jobs k job at) ∙ omega arith
 
+-- what is held by a caller is held
+is_held : (o : Option Holding) (c : ℕ) → IsHeldBy c o → IsSome o
+is_held o c of = ap (λ (held : Option Holding). is_some held) of.1
+
 module _ {N H : Type 0} (at : H → N → Type 0) (own : N → Option Holding) (front : N → Front) (home : H) (plan : Plan) (objects : List (AnyObject N H)) (rows : List (List (AnyPass N))) (callers : List (Caller N)) where
   -- a worker with its row, its caller and its rooms may begin
   pub ready_at : AreRows at home plan.workers objects rows → AreAllCallers at own home callers plan.workers → HaveMadeNone own callers → HaveSpare own plan callers
@@ -58,14 +63,17 @@ module _ {N H : Type 0} (at : H → N → Type 0) (own : N → Option Holding) (
       let is_caller = callers_are.each worker caller at_caller in
       let within = slice_get_within callers worker caller at_caller in
       record {
-        number = omega (arith, within, callers_are.all);
-        seats = is_row.seats;
-        is_at = is_caller.0;
+        may = record {
+          number = omega (arith, within, callers_are.all);
+          seats = is_row.seats;
+          is_caller = (is_caller.0, is_held (own caller.note) worker is_caller.1);
+          none = none worker caller at_caller;
+          spare = spare worker caller at_caller;
+          few = few;
+          room = room;
+        };
         held = is_caller.1;
         fresh = record { owns = is_row.none; calls = none worker caller at_caller; number = held_number (own caller.note) worker is_caller.1 };
-        spare = spare worker caller at_caller;
-        few = few;
-        room = room;
       }
 
   module _ {J G : Type 0} (number : J → ℕ) (passes : J → List (AnyPass N)) (caller : J → Caller N) (jobs : List J) (now_passes : G → List (AnyPass N)) (now_caller : G → Caller N) (replies : G → List (Reply ℕ)) (gone : List G) (R : J → G → Type 0) where

@@ -1,8 +1,8 @@
 -- What holds between two calls of a script.
 use Rattle.std.proofs.Common.{◌≡◌, ℕ, ◌+◌, ◌<◌, ◌≤◌, List, [], ◌∷◌, ◌++◌, length, drop, get_or, Option, Some, slice_get, refl, sym, ap, ◌∙◌, subst, arith}
-use Rattle.std.specs.Prelude.{All, IfSome, IfNone, None, Result, sum_by}
+use Rattle.std.specs.Prelude.{All, IfSome, IfNone, IsSome, None, Result, sum_by}
 use Rattle.std.proofs.lemmas.List.{length_push}
-use Rattle.std.proofs.lemmas.List.Elements.{All-append}
+use Rattle.std.proofs.lemmas.List.Elements.{All-append, All-nil}
 use Rattle.std.specs.Option.{ForSome}
 use Rattle.std.proofs.lemmas.List.Sums.{sum_by-cons, sum_by-take-drop}
 use Rattle.std.proofs.lemmas.Option.{same_Some, slice_get_read}
@@ -17,6 +17,7 @@ use Rattle.sync_model.specs.Front.{Front}
 use Rattle.sync_model.specs.Note.{Holding}
 use Rattle.sync_model.specs.Shared.{IsCallerAt, IsHeldBy, items_of}
 use Rattle.protocols.specs.Spelling.{CallAnswer}
+use Rattle.ruled_object.specs.Growth.{KeepsNote}
 use Rattle.workload.specs.Keys.{keys_in}
 use Rattle.workload.specs.Plan.{Plan}
 use Rattle.run_record.specs.Limits.{IsCallOf}
@@ -26,6 +27,7 @@ use Rattle.thread_objects.specs.Desks.{AreSeats}
 use Rattle.thread_objects.specs.GivenUp.{MakesOnly}
 use Rattle.thread_objects.specs.Passes.{owns_of}
 use Rattle.thread_objects.specs.Spending.{Spends}
+use Rattle.thread_runner.specs.Jobs.{IsBetween, MayCall}
 use Rattle.thread_runner.specs.Sites.{AreRooms, cost_of_call, cost_of_calls, ranges_in_call, ranges_in_calls}
 use Rattle.thread_objects.specs.Working.{Desk, desk_with}
 use Rattle.thread_runner.specs.DidLines.{Went}
@@ -69,6 +71,57 @@ over_all over script place passes count is =
 -- what holds of a caller's calls holds still, where it makes only such calls
 pub all_behind : (plan : Plan) (old new : List Item) → All (λ x. IsCallOf plan x.call) old → MakesOnly (IsCallOf plan) old new → All (λ x. IsCallOf plan x.call) new
 all_behind plan old new all made = subst (All (λ x. IsCallOf plan x.call)) (sym made.are) (All-append (λ x. IsCallOf plan x.call) old made.made all made.each)
+
+module _ {H N : Type 0} (at : H → N → Type 0) (own : N → Option Holding) (front : N → Front) (home : H) (plan : Plan) (objects : List (AnyObject N H)) (workers worker : ℕ) where
+  -- before its script a worker is between two calls
+  pub at_first : (passes : List (AnyPass N)) (caller : Caller N) (replies : Bounded (Reply ℕ)) (pairs : List (Bounded (ℕ × ℕ))) → MayCall at own home plan objects workers worker passes caller replies pairs → IsBetween at own home plan objects workers worker caller.note passes caller
+  at_first passes caller replies pairs may = record {
+    seats = may.seats;
+    is_caller = may.is_caller;
+    held = λ c of. of;
+    calls = subst (All (λ x. IsCallOf plan x.call)) (sym may.none) (All-nil (λ x. IsCallOf plan x.call));
+  }
+
+  module _ (caller now : Caller N) (passes : List (AnyPass N)) (seats : AreSeats at home workers worker objects passes) where
+    -- and it still is where its note is kept
+    pub by_note : KeepsNote at own front caller.note now.note → (first : N) (before : List (AnyPass N)) → IsBetween at own home plan objects workers worker first before caller → IsBetween at own home plan objects workers worker first passes now
+    by_note note first before between = record {
+      seats = seats;
+      is_caller = (note.home home between.is_caller.0, subst (λ (o : Option Holding). IsSome o) (sym note.kept) between.is_caller.1);
+      held = λ c of. subst (IsHeldBy c) (sym note.kept) (between.held c of);
+      calls = subst (λ (o : Option Holding). All (λ x. IsCallOf plan x.call) (items_of o)) (sym note.kept) between.calls;
+    }
+
+    -- as it is behind one more call
+    pub by_call : (cost : ℕ) → IsCallerAt at own home now → Spends own cost caller.note now.note → MakesOnly (IsCallOf plan) (items_of (own caller.note)) (items_of (own now.note))
+        → (first : N) → ((c : ℕ) → IsHeldBy c (own first) → IsHeldBy c (own caller.note)) → All (λ x. IsCallOf plan x.call) (items_of (own caller.note)) → IsBetween at own home plan objects workers worker first passes now
+    by_call cost is_caller spends made first held all = record {
+      seats = seats;
+      is_caller = is_caller;
+      held = λ c of. held_behind own cost caller.note now.note spends c (held c of);
+      calls = all_behind plan (items_of (own caller.note)) (items_of (own now.note)) all made;
+    }
+
+    -- a worker that kept its note may still make the calls of its script
+    pub may_still : KeepsNote at own front caller.note now.note → (before : List (AnyPass N)) (replies : Bounded (Reply ℕ)) (pairs : List (Bounded (ℕ × ℕ))) → MayCall at own home plan objects workers worker before caller replies pairs → MayCall at own home plan objects workers worker passes now replies pairs
+    may_still note before replies pairs may = record {
+      number = may.number;
+      seats = seats;
+      is_caller = (note.home home may.is_caller.0, subst (λ (o : Option Holding). IsSome o) (sym note.kept) may.is_caller.1);
+      none = ap (λ (o : Option Holding). items_of o) note.kept ∙ may.none;
+      spare = subst (λ (o : Option Holding). ForSome o (λ holding. cost_of_calls (get_or plan.scripts worker []) ≤ holding.spare)) (sym note.kept) may.spare;
+      few = may.few;
+      room = may.room;
+    }
+
+  -- of a note that was kept before, it is the same caller
+  pub since : (first note : N) → own note ≡ own first → (passes : List (AnyPass N)) (caller : Caller N) → IsBetween at own home plan objects workers worker note passes caller → IsBetween at own home plan objects workers worker first passes caller
+  since first note kept passes caller between = record {
+    seats = between.seats;
+    is_caller = between.is_caller;
+    held = λ c of. between.held c (subst (IsHeldBy c) (sym kept) of);
+    calls = between.calls;
+  }
 
 module _ {H N : Type 0} (at : H → N → Type 0) (own : N → Option Holding) (front : N → Front) (home : H) (plan : Plan) (workers worker : ℕ) (objects : List (AnyObject N H)) (script : List Call) (room : ℕ) (start : Desk) (first : N) where
   -- the worker is about to make the call at this place of its script

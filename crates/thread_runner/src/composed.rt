@@ -1,11 +1,10 @@
 //! Calls that are made of other calls: `ifeq` tests an atomic, `waitfor` waits on a cond until a test of an atomic is met, and `go`
 //! starts a worker under a wait group.
-ghost use Rattle.std.specs.Prelude.{◌≡◌, ℕ, true, List};
+ghost use Rattle.std.specs.Prelude.{◌≡◌, ℕ, List};
 ghost use Rattle.sync_types.specs.declared.atomic_object.AtomicKind.{AtomicKind};
 ghost use Rattle.script_calls.specs.declared.call.Operation.TheVariants.{Composed};
 ghost use Rattle.sync_model.specs.Shared.{IsCallerAt};
 ghost use Rattle.workload.specs.declared.object.ObjectKind.TheVariants.{Atomic};
-ghost use Rattle.workload.specs.Plan.{has_among, refers, starts_dormant};
 ghost use Rattle.run_record.specs.Calls.{call_on};
 ghost use Rattle.run_record.specs.Objects.{atomic_number};
 ghost use Rattle.run_record.specs.Record.{ObjectEntry};
@@ -15,7 +14,7 @@ ghost use Rattle.thread_objects.specs.Catalog.{HasAtomics, IsAt};
 ghost use Rattle.thread_objects.specs.Desks.{AreSeats};
 ghost use Rattle.thread_objects.specs.Passes.{owns_of};
 ghost use Rattle.thread_objects.specs.Working.{Works, desk_with};
-ghost use Rattle.thread_runner.specs.Sites.{IsSite};
+ghost use Rattle.thread_runner.specs.Sites.{HasCallAt, IsWorkerAt};
 
 mod starting;
 mod testing;
@@ -64,12 +63,8 @@ pub(crate) fn composed_at<S: Shared, C: Clock, R: Wait>(
     kind: ObjectKind,
     call: ComposedCall,
 ) -> CallAnswer
-    requires site { IsSite S.Mark.at worker.now.at.home.now site.now.catalog.workload.now (S.maps site.now.catalog.shared.now) (S.kinds site.now.catalog.shared.now) (S.takes site.now.catalog.shared.now) site.now.objects.now site.now.catalog.numbers.now }
-    requires homes { S.home_of site.now.catalog.shared.now ≡ worker.now.at.home.now }
-    requires place { IsAt site.now.catalog.workload.now place kind }
-    requires call { has_among site.now.catalog.workload.now.objects kind (Composed call) ≡ true }
-    requires reference { refers site.now.catalog.workload.now.objects kind ≡ true }
-    requires dormant { starts_dormant site.now.catalog.workload.now.dormant (Composed call) ≡ true }
+    requires site { IsWorkerAt S.Mark.at worker.now.at.home.now (S.home_of site.now.catalog.shared.now) site.now.catalog.workload.now (S.maps site.now.catalog.shared.now) (S.kinds site.now.catalog.shared.now) (S.takes site.now.catalog.shared.now) site.now.objects.now site.now.catalog.numbers.now worker.now.workers }
+    requires call { HasCallAt site.now.catalog.workload.now place kind (Composed call) }
     requires caller { IsCallerAt S.Mark.at S.Mark.own worker.now.at.home.now caller.old }
     requires seats { AreSeats S.Mark.at worker.now.at.home.now worker.now.workers worker.now.number site.now.objects.now passes.old }
     ensures seats { AreSeats S.Mark.at worker.now.at.home.now worker.now.workers worker.now.number site.now.objects.now passes.new }

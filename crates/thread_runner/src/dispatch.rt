@@ -1,21 +1,17 @@
 //! Each call of a script, by the kind of its object.
-ghost use Rattle.std.specs.Prelude.{◌≡◌, ℕ, ◌+◌, ◌<◌, ◌≤◌, ◌*◌, ◌^◌, true, List, [], length, vec_len, IfSome, IfNone};
-ghost use Rattle.std.specs.List.{list_any};
+ghost use Rattle.std.specs.Prelude.{◌≡◌, ℕ, ◌+◌, ◌<◌, ◌≤◌, ◌*◌, ◌^◌, [], length, vec_len, IfSome, IfNone};
 ghost use Rattle.std.specs.Option.{ForSome};
-ghost use Rattle.std.specs.Str.{bytes_eq};
 ghost use Rattle.sync_model.specs.Note.{SameHome};
 ghost use Rattle.sync_model.specs.Shared.{IsCallerAt, items_of};
 ghost use Rattle.workload.specs.declared.object.ObjectKind.TheVariants.{Pool};
-ghost use Rattle.workload.specs.Draft.{all_keys, is_operation, operation_keys};
 ghost use Rattle.workload.specs.Keys.{keys_in, call_number, operation_number};
-ghost use Rattle.workload.specs.Plan.{has_among, refers, starts_dormant};
 ghost use Rattle.run_record.specs.Calls.{SpellsCall, call_on};
 ghost use Rattle.run_record.specs.Limits.{IsCallOf};
 ghost use Rattle.run_record.specs.Objects.{first_part, object_count};
 ghost use Rattle.thread_objects.specs.Desks.{AreSeats};
 ghost use Rattle.thread_objects.specs.GivenUp.{GaveUp, MakesOnly};
 ghost use Rattle.thread_objects.specs.Passes.{owns_of};
-ghost use Rattle.thread_runner.specs.Sites.{AreNumbers, AreRooms, IsScripted, IsSite, operation_cost, operation_ranges, cost_of_call, ranges_in_call};
+ghost use Rattle.thread_runner.specs.Sites.{AreNumbers, AreRooms, HasCallAt, IsScripted, IsWorkerAt, operation_cost, operation_ranges, cost_of_call, ranges_in_call};
 ghost use Rattle.thread_objects.specs.Catalog.{IsAt};
 ghost use Rattle.thread_objects.specs.Spending.{Spends};
 ghost use Rattle.thread_objects.specs.Working.{Works, desk_with};
@@ -90,17 +86,10 @@ fn call_at<S: Shared, C: Clock, R: Wait>(
     operation: &Operation,
     number: u32,
 ) -> Option<CallAnswer>
-    requires site { IsSite S.Mark.at worker.now.at.home.now site.now.catalog.workload.now (S.maps site.now.catalog.shared.now) (S.kinds site.now.catalog.shared.now) (S.takes site.now.catalog.shared.now) site.now.objects.now site.now.catalog.numbers.now }
-    requires homes { S.home_of site.now.catalog.shared.now ≡ worker.now.at.home.now }
-    requires workers { site.now.catalog.workload.now.workers ≡ worker.now.workers }
+    requires site { IsWorkerAt S.Mark.at worker.now.at.home.now (S.home_of site.now.catalog.shared.now) site.now.catalog.workload.now (S.maps site.now.catalog.shared.now) (S.kinds site.now.catalog.shared.now) (S.takes site.now.catalog.shared.now) site.now.objects.now site.now.catalog.numbers.now worker.now.workers }
     requires own { worker.now.number < worker.now.workers }
-    requires place { IsAt site.now.catalog.workload.now place kind }
-    requires call { has_among site.now.catalog.workload.now.objects kind operation.now ≡ true }
-    requires reference { refers site.now.catalog.workload.now.objects kind ≡ true }
-    requires dormant { starts_dormant site.now.catalog.workload.now.dormant operation.now ≡ true }
-    requires ranged { is_operation operation.now ≡ true }
+    requires call { HasCallAt site.now.catalog.workload.now place kind operation.now }
     requires number { number ≡ operation_number (keys_in site.now.catalog.workload.now.scripts) operation.now }
-    requires keys { (name : List ℕ) → list_any (bytes_eq name) (operation_keys operation.now) ≡ true → list_any (bytes_eq name) (all_keys site.now.catalog.workload.now.scripts) ≡ true }
     requires caller { IsCallerAt S.Mark.at S.Mark.own worker.now.at.home.now caller.old }
     requires spare { ForSome (S.Mark.own caller.old.note) (λ holding. operation_cost operation.now ≤ holding.spare) }
     requires seats { AreSeats S.Mark.at worker.now.at.home.now worker.now.workers worker.now.number site.now.objects.now passes.old }
@@ -176,9 +165,7 @@ pub(crate) fn make_call<S: Shared, C: Clock, R: Wait>(
     call: &Call,
     number: u32,
 ) -> Option<CallAnswer>
-    requires site { IsSite S.Mark.at worker.now.at.home.now site.now.catalog.workload.now (S.maps site.now.catalog.shared.now) (S.kinds site.now.catalog.shared.now) (S.takes site.now.catalog.shared.now) site.now.objects.now site.now.catalog.numbers.now }
-    requires homes { S.home_of site.now.catalog.shared.now ≡ worker.now.at.home.now }
-    requires workers { site.now.catalog.workload.now.workers ≡ worker.now.workers }
+    requires site { IsWorkerAt S.Mark.at worker.now.at.home.now (S.home_of site.now.catalog.shared.now) site.now.catalog.workload.now (S.maps site.now.catalog.shared.now) (S.kinds site.now.catalog.shared.now) (S.takes site.now.catalog.shared.now) site.now.objects.now site.now.catalog.numbers.now worker.now.workers }
     requires call { IsScripted site.now.catalog.workload.now worker.now.number call.now }
     requires number { number ≡ call_number (keys_in site.now.catalog.workload.now.scripts) call.now }
     requires caller { IsCallerAt S.Mark.at S.Mark.own worker.now.at.home.now caller.old }

@@ -45,13 +45,12 @@ where
     <S::Mark as Note>::Home: Sync,
 {
     ghost use Rattle.std.specs.Prelude.{◌≡◌};
-    ghost use Rattle.thread_runner.specs.Sites.{IsSite};
+    ghost use Rattle.thread_runner.specs.Sites.{IsWorkerAt};
     ghost use Rattle.thread_runner.specs.Jobs.{IsReady, HasGone};
 
     type Out = Gone<S::Mark>;
 
-    ghost ready = { λ job. IsSite S.Mark.at job.worker.at.home.now job.site.now.catalog.workload.now (S.maps job.site.now.catalog.shared.now) (S.kinds job.site.now.catalog.shared.now) (S.takes job.site.now.catalog.shared.now) job.site.now.objects.now job.site.now.catalog.numbers.now
-        × (job.site.now.catalog.workload.now.workers ≡ job.worker.workers) × (S.home_of job.site.now.catalog.shared.now ≡ job.worker.at.home.now)
+    ghost ready = { λ job. IsWorkerAt S.Mark.at job.worker.at.home.now (S.home_of job.site.now.catalog.shared.now) job.site.now.catalog.workload.now (S.maps job.site.now.catalog.shared.now) (S.kinds job.site.now.catalog.shared.now) (S.takes job.site.now.catalog.shared.now) job.site.now.objects.now job.site.now.catalog.numbers.now job.worker.workers
         × IsReady S.Mark.at S.Mark.own S.Mark.front job.worker.at.home.now job.site.now.catalog.workload.now job.site.now.objects.now job.worker.number job.passes.items job.caller job.room.replies job.room.pairs.items };
 
     ghost gives = { λ job gone. HasGone S.Mark.at S.Mark.own S.Mark.front job.worker.at.home.now job.site.now.catalog.workload.now job.site.now.objects.now job.worker.number job.passes.items job.caller gone.passes.items gone.caller gone.replies };

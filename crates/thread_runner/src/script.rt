@@ -1,15 +1,12 @@
 //! A worker's script, call by call, and what is done before and behind it.
-ghost use Rattle.std.specs.Prelude.{◌≡◌, ℕ, ◌<◌, ◌≤◌, ◌^◌, [], ◌⊎◌, get_or, length, Some, vec_len, All, Ok, Err, IfSome, IfNone};
-ghost use Rattle.std.specs.Option.{ForSome};
-ghost use Rattle.sync_model.specs.Shared.{IsCallerAt, IsHeldBy, items_of};
-ghost use Rattle.workload.specs.Keys.{keys_in};
-ghost use Rattle.run_record.specs.Limits.{IsCallOf};
+ghost use Rattle.std.specs.Prelude.{◌≡◌, [], ◌⊎◌, get_or, IfSome, IfNone};
+ghost use Rattle.sync_model.specs.Shared.{items_of};
 ghost use Rattle.run_record.specs.Lines.{Line};
-ghost use Rattle.thread_objects.specs.Desks.{AreSeats};
 ghost use Rattle.thread_objects.specs.GivenUp.{GaveUp};
 ghost use Rattle.thread_objects.specs.Passes.{owns_of};
+ghost use Rattle.thread_runner.specs.Jobs.{IsBetween, MayCall};
 ghost use Rattle.thread_runner.specs.Replies.{is_through, misuse_in};
-ghost use Rattle.thread_runner.specs.Sites.{IsSite, AreRooms, cost_of_calls, ranges_in_calls};
+ghost use Rattle.thread_runner.specs.Sites.{IsWorkerAt};
 ghost use Rattle.thread_objects.specs.Working.{desk_with};
 ghost use Rattle.thread_runner.specs.DidLines.{DidLine, IsFresh, MadeCalls, WentThrough};
 
@@ -62,22 +59,9 @@ fn make_calls<S: Shared, C: Clock, G: Gate, R: Wait>(
     replies: &mut BoundedSeq<Reply<u32>>,
     rooms: &mut Vec<BoundedSeq<(u32, u64)>>,
 ) -> Option<Answer<Result<(), Misuse>>>
-    requires number { worker.now.number < site.now.catalog.workload.now.workers }
-    requires site { IsSite S.Mark.at worker.now.at.home.now site.now.catalog.workload.now (S.maps site.now.catalog.shared.now) (S.kinds site.now.catalog.shared.now) (S.takes site.now.catalog.shared.now) site.now.objects.now site.now.catalog.numbers.now }
-    requires homes { S.home_of site.now.catalog.shared.now ≡ worker.now.at.home.now }
-    requires workers { site.now.catalog.workload.now.workers ≡ worker.now.workers }
-    requires seats { AreSeats S.Mark.at worker.now.at.home.now worker.now.workers worker.now.number site.now.objects.now passes.old }
-    requires caller { IsCallerAt S.Mark.at S.Mark.own worker.now.at.home.now caller.old }
-    requires spare { ForSome (S.Mark.own caller.old.note) (λ holding. cost_of_calls (get_or site.now.catalog.workload.now.scripts worker.now.number []) ≤ holding.spare) }
-    requires none { items_of (S.Mark.own caller.old.note) ≡ [] }
-    requires few { length (get_or site.now.catalog.workload.now.scripts worker.now.number []) < 2 ^ 32 }
-    requires rooms { AreRooms (length (keys_in site.now.catalog.workload.now.scripts)) rooms.old.items }
-    requires enough { ranges_in_calls (get_or site.now.catalog.workload.now.scripts worker.now.number []) ≤ vec_len rooms.old }
-    requires replies { (replies.old.items ≡ []) × (length (get_or site.now.catalog.workload.now.scripts worker.now.number []) ≤ replies.old.room) }
-    ensures seats { AreSeats S.Mark.at worker.now.at.home.now worker.now.workers worker.now.number site.now.objects.now passes.new }
-    ensures caller { IsCallerAt S.Mark.at S.Mark.own worker.now.at.home.now caller.new }
-    ensures held { (c : ℕ) → IsHeldBy c (S.Mark.own caller.old.note) → IsHeldBy c (S.Mark.own caller.new.note) }
-    ensures calls { All (λ x. IsCallOf site.now.catalog.workload.now x.call) (items_of (S.Mark.own caller.new.note)) }
+    requires site { IsWorkerAt S.Mark.at worker.now.at.home.now (S.home_of site.now.catalog.shared.now) site.now.catalog.workload.now (S.maps site.now.catalog.shared.now) (S.kinds site.now.catalog.shared.now) (S.takes site.now.catalog.shared.now) site.now.objects.now site.now.catalog.numbers.now worker.now.workers }
+    requires may { MayCall S.Mark.at S.Mark.own worker.now.at.home.now site.now.catalog.workload.now site.now.objects.now worker.now.workers worker.now.number passes.old caller.old replies.old rooms.old.items }
+    ensures between { IsBetween S.Mark.at S.Mark.own worker.now.at.home.now site.now.catalog.workload.now site.now.objects.now worker.now.workers worker.now.number caller.old.note passes.new caller.new }
     ensures given_up { IfNone result (GaveUp site.now.catalog.workload.now (items_of (S.Mark.own caller.new.note))) }
     ensures made { IfSome result (λ answer. MadeCalls site.now.catalog.workload.now worker.now.number (get_or site.now.catalog.workload.now.scripts worker.now.number []) replies.new.items
         (desk_with S.Mark.own S.Mark.front (owns_of passes.old) caller.old.note) answer (desk_with S.Mark.own S.Mark.front (owns_of passes.new) caller.new.note)) }
@@ -118,22 +102,9 @@ fn go_through<S: Shared, C: Clock, G: Gate, R: Wait>(
     replies: &mut BoundedSeq<Reply<u32>>,
     rooms: &mut Vec<BoundedSeq<(u32, u64)>>,
 ) -> Option<Answer<Result<(), Misuse>>>
-    requires number { worker.now.number < site.now.catalog.workload.now.workers }
-    requires site { IsSite S.Mark.at worker.now.at.home.now site.now.catalog.workload.now (S.maps site.now.catalog.shared.now) (S.kinds site.now.catalog.shared.now) (S.takes site.now.catalog.shared.now) site.now.objects.now site.now.catalog.numbers.now }
-    requires homes { S.home_of site.now.catalog.shared.now ≡ worker.now.at.home.now }
-    requires workers { site.now.catalog.workload.now.workers ≡ worker.now.workers }
-    requires seats { AreSeats S.Mark.at worker.now.at.home.now worker.now.workers worker.now.number site.now.objects.now passes.old }
-    requires caller { IsCallerAt S.Mark.at S.Mark.own worker.now.at.home.now caller.old }
-    requires spare { ForSome (S.Mark.own caller.old.note) (λ holding. cost_of_calls (get_or site.now.catalog.workload.now.scripts worker.now.number []) ≤ holding.spare) }
-    requires none { items_of (S.Mark.own caller.old.note) ≡ [] }
-    requires few { length (get_or site.now.catalog.workload.now.scripts worker.now.number []) < 2 ^ 32 }
-    requires rooms { AreRooms (length (keys_in site.now.catalog.workload.now.scripts)) rooms.old.items }
-    requires enough { ranges_in_calls (get_or site.now.catalog.workload.now.scripts worker.now.number []) ≤ vec_len rooms.old }
-    requires replies { (replies.old.items ≡ []) × (length (get_or site.now.catalog.workload.now.scripts worker.now.number []) ≤ replies.old.room) }
-    ensures seats { AreSeats S.Mark.at worker.now.at.home.now worker.now.workers worker.now.number site.now.objects.now passes.new }
-    ensures caller { IsCallerAt S.Mark.at S.Mark.own worker.now.at.home.now caller.new }
-    ensures held { (c : ℕ) → IsHeldBy c (S.Mark.own caller.old.note) → IsHeldBy c (S.Mark.own caller.new.note) }
-    ensures calls { All (λ x. IsCallOf site.now.catalog.workload.now x.call) (items_of (S.Mark.own caller.new.note)) }
+    requires site { IsWorkerAt S.Mark.at worker.now.at.home.now (S.home_of site.now.catalog.shared.now) site.now.catalog.workload.now (S.maps site.now.catalog.shared.now) (S.kinds site.now.catalog.shared.now) (S.takes site.now.catalog.shared.now) site.now.objects.now site.now.catalog.numbers.now worker.now.workers }
+    requires may { MayCall S.Mark.at S.Mark.own worker.now.at.home.now site.now.catalog.workload.now site.now.objects.now worker.now.workers worker.now.number passes.old caller.old replies.old rooms.old.items }
+    ensures between { IsBetween S.Mark.at S.Mark.own worker.now.at.home.now site.now.catalog.workload.now site.now.objects.now worker.now.workers worker.now.number caller.old.note passes.new caller.new }
     ensures given_up { IfNone result (GaveUp site.now.catalog.workload.now (items_of (S.Mark.own caller.new.note))) }
     ensures went { IfSome result (λ answer. WentThrough site.now.catalog.workload.now worker.now.number (get_or site.now.catalog.workload.now.scripts worker.now.number []) replies.new.items
         (desk_with S.Mark.own S.Mark.front (owns_of passes.old) caller.old.note) answer (desk_with S.Mark.own S.Mark.front (owns_of passes.new) caller.new.note)) }
@@ -160,22 +131,10 @@ pub(crate) fn run_script<S: Shared, C: Clock, G: Gate, R: Wait>(
     replies: &mut BoundedSeq<Reply<u32>>,
     rooms: &mut Vec<BoundedSeq<(u32, u64)>>,
 )
-    requires number { worker.now.number < site.now.catalog.workload.now.workers }
-    requires site { IsSite S.Mark.at worker.now.at.home.now site.now.catalog.workload.now (S.maps site.now.catalog.shared.now) (S.kinds site.now.catalog.shared.now) (S.takes site.now.catalog.shared.now) site.now.objects.now site.now.catalog.numbers.now }
-    requires homes { S.home_of site.now.catalog.shared.now ≡ worker.now.at.home.now }
-    requires workers { site.now.catalog.workload.now.workers ≡ worker.now.workers }
-    requires seats { AreSeats S.Mark.at worker.now.at.home.now worker.now.workers worker.now.number site.now.objects.now passes.old }
-    requires caller { IsCallerAt S.Mark.at S.Mark.own worker.now.at.home.now caller.old }
-    requires spare { ForSome (S.Mark.own caller.old.note) (λ holding. cost_of_calls (get_or site.now.catalog.workload.now.scripts worker.now.number []) ≤ holding.spare) }
+    requires site { IsWorkerAt S.Mark.at worker.now.at.home.now (S.home_of site.now.catalog.shared.now) site.now.catalog.workload.now (S.maps site.now.catalog.shared.now) (S.kinds site.now.catalog.shared.now) (S.takes site.now.catalog.shared.now) site.now.objects.now site.now.catalog.numbers.now worker.now.workers }
+    requires may { MayCall S.Mark.at S.Mark.own worker.now.at.home.now site.now.catalog.workload.now site.now.objects.now worker.now.workers worker.now.number passes.old caller.old replies.old rooms.old.items }
     requires fresh { IsFresh worker.now.number (desk_with S.Mark.own S.Mark.front (owns_of passes.old) caller.old.note) }
-    requires few { length (get_or site.now.catalog.workload.now.scripts worker.now.number []) < 2 ^ 32 }
-    requires rooms { AreRooms (length (keys_in site.now.catalog.workload.now.scripts)) rooms.old.items }
-    requires enough { ranges_in_calls (get_or site.now.catalog.workload.now.scripts worker.now.number []) ≤ vec_len rooms.old }
-    requires replies { (replies.old.items ≡ []) × (length (get_or site.now.catalog.workload.now.scripts worker.now.number []) ≤ replies.old.room) }
-    ensures seats { AreSeats S.Mark.at worker.now.at.home.now worker.now.workers worker.now.number site.now.objects.now passes.new }
-    ensures caller { IsCallerAt S.Mark.at S.Mark.own worker.now.at.home.now caller.new }
-    ensures held { (c : ℕ) → IsHeldBy c (S.Mark.own caller.old.note) → IsHeldBy c (S.Mark.own caller.new.note) }
-    ensures calls { All (λ x. IsCallOf site.now.catalog.workload.now x.call) (items_of (S.Mark.own caller.new.note)) }
+    ensures between { IsBetween S.Mark.at S.Mark.own worker.now.at.home.now site.now.catalog.workload.now site.now.objects.now worker.now.workers worker.now.number caller.old.note passes.new caller.new }
     ensures line { ((line : Line) × DidLine site.now.catalog.workload.now worker.now.number (get_or site.now.catalog.workload.now.scripts worker.now.number []) replies.new.items
         (desk_with S.Mark.own S.Mark.front (owns_of passes.old) caller.old.note) (desk_with S.Mark.own S.Mark.front (owns_of passes.new) caller.new.note) line)
         ⊎ GaveUp site.now.catalog.workload.now (items_of (S.Mark.own caller.new.note)) }

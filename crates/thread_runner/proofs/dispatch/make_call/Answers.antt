@@ -16,26 +16,21 @@ kind_at-kind-requires g c =
 pub call_at-requires-clause-call : goal.call_at-requires-clause-call
 call_at-requires-clause-call g c =
     let plan = c.args.site.now.catalog.workload.now in
+    let worker = c.args.worker.now.number in
     let call = c.args.call.now in
-    kind_has plan c.args.worker.now.number 0 call _ c.kind_at-kind.ensures (on_object plan c.args.worker.now.number call c.requires.call c.workers-workers.ensures.valid)
-
-pub call_at-requires-clause-reference : goal.call_at-requires-clause-reference
-call_at-requires-clause-reference g c =
-    let plan = c.args.site.now.catalog.workload.now in
+    let valid = c.workers-workers.ensures.valid in
     let is = c.kind_at-kind.ensures in
-    ap (λ (k : ObjectKind). refers plan.objects k) (sym is.2) ∙ refers_at plan c.args.call.now.object is.0 c.workers-workers.ensures.valid is.1
-
-pub call_at-requires-clause-ranged : goal.call_at-requires-clause-ranged
-call_at-requires-clause-ranged g c = in_range c.args.site.now.catalog.workload.now c.args.worker.now.number c.args.call.now c.requires.call c.workers-workers.ensures.readable
-
-pub call_at-requires-clause-keys : goal.call_at-requires-clause-keys
-call_at-requires-clause-keys g c = λ name any. keys_are_known c.args.site.now.catalog.workload.now c.args.worker.now.number c.args.call.now c.requires.call name any
+    record {
+      there = is;
+      has = kind_has plan worker 0 call _ is (on_object plan worker call c.requires.call valid);
+      reference = ap (λ (k : ObjectKind). refers plan.objects k) (sym is.2) ∙ refers_at plan call.object is.0 valid is.1;
+      dormant = starts_one plan worker call c.requires.call valid;
+      ranged = in_range plan worker call c.requires.call c.workers-workers.ensures.readable;
+      keys = keys_are_known plan worker call c.requires.call;
+    }
 
 pub returns-clause-works : goal.returns-clause-works
 returns-clause-works g c = spells_if c.args.site.now.catalog.workload.now c.args.worker.now.number _ c.args.call.now _ c.kind_at-kind.ensures _ _ c.call_at.result c.call_at.ensures.works
 
 pub call_at-requires-clause-own : goal.call_at-requires-clause-own
-call_at-requires-clause-own g c = omega (arith, worker_within c.args.site.now.catalog.workload.now c.args.worker.now.number c.args.call.now c.requires.call c.workers-workers.ensures.valid, c.requires.workers)
-
-pub call_at-requires-clause-dormant : goal.call_at-requires-clause-dormant
-call_at-requires-clause-dormant g c = starts_one c.args.site.now.catalog.workload.now c.args.worker.now.number c.args.call.now c.requires.call c.workers-workers.ensures.valid
+call_at-requires-clause-own g c = omega (arith, worker_within c.args.site.now.catalog.workload.now c.args.worker.now.number c.args.call.now c.requires.call c.workers-workers.ensures.valid, c.requires.site.counted)

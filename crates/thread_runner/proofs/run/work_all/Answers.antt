@@ -57,7 +57,7 @@ start_all-requires-after_bounds g c κs within k d low =
     (subst (λ o. Ready job.worker.at.home.now job.site.now.catalog.workload.now o k) (sym objects_is)
     (subst (λ p. Ready job.worker.at.home.now p objects k) (sym plan_is)
     (subst (λ h. Ready h plan objects k) (sym each.1) ready))) in
-    (is_site, ap (λ (p : Plan). p.workers) plan_is ∙ sym each.2, ap g.S.Shared.home_of shared_is ∙ sym each.1, is_ready)
+    (record { site = is_site; homes = ap g.S.Shared.home_of shared_is ∙ sym each.1; counted = ap (λ (p : Plan). p.workers) plan_is ∙ sym each.2 }, is_ready)
 
 pub gather-requires-clause-room : goal.gather-requires-clause-room
 gather-requires-clause-room g c =
