@@ -1,4 +1,4 @@
--- What a call on guarded data did that waits at a cond.
+-- Who may reach a value that a mutex guards, and what a call on it did that waits at a cond.
 use Rattle.std.specs.Prelude.{◌≡◌, ◌≢◌, ◌⊎◌, ℕ, Result, Ok}
 use Rattle.sync_types.specs.declared.misuse.Misuse.{Misuse}
 use Rattle.sync_model.specs.declared.answer.Answer.{Answer}
@@ -11,6 +11,12 @@ use Rattle.go_sync.specs.CondCallers.{Waited}
 use Rattle.go_sync.specs.MutexCallers.{LocksSoon, Makes}
 
 module _ {C : Type 0} {clock : Ghosts C} (shows : C → ℕ → Type 0) where
+  -- what the caller did last locked the mutex, by a lock or at the end of a wait at a cond
+  abbrev pub HasLocked : MutexCaller C clock → Type 0
+  HasLocked caller =
+      ((before : MutexCaller C clock) × LocksSoon shows before (Done tt) caller)
+      ⊎ ((cond left : CondCaller C clock) × (before : MutexCaller C clock) × Waited (shows cond.clock.now) cond before (Done (Ok tt)) left caller)
+
   -- it waited at the cond any number of times, one after the other, and each time locked the mutex again
   pub data WaitsFor (cond : CondCaller C clock) (held : MutexCaller C clock) : CondCaller C clock → MutexCaller C clock → Type 0 where
     at_once : WaitsFor cond held cond held

@@ -1,6 +1,7 @@
 -- What one call of a reader/writer lock's caller did.
 use Rattle.std.specs.Prelude.{◌≡◌, ℕ, true, List}
 use Rattle.sync_model.specs.declared.answer.Answer.{Answer}
+use Rattle.sync_model.specs.declared.answer.Answer.TheVariants.{Done}
 use Rattle.rw_core.specs.Edges.{acquires, releases}
 use Rattle.rw_core.specs.RwMachine.{next}
 use Rattle.ruled_object.specs.Growth.{IsLawful}
@@ -17,3 +18,7 @@ pub record Makes {C A : Type 0} {clock : Ghosts C} (spells : List RwDeed → Ans
   pub at : new.clock ≡ old.clock
   pub did : (time : ℕ) × Did next (rw_start old.lock.now) spells (AreClocked shows) old.pass (no_front 0) answer new.pass (no_front time)
   pub lawful : IsLawful next true (λ event reply. releases reply) (λ event reply. acquires reply) (rw_start old.lock.now) new.pass
+
+-- what the caller did last locked the lock, by a call that is spelt so
+abbrev pub HasLocked : {C : Type 0} {clock : Ghosts C} → (List RwDeed → Answer (Unit {0}) → Type 0) → (C → ℕ → Type 0) → RwCaller C clock → Type 0
+HasLocked {C} {clock} spells shows caller = (before : RwCaller C clock) × Makes spells (shows before.clock.now) before (Done tt) caller

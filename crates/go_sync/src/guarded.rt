@@ -7,12 +7,14 @@ ghost use Rattle.go_locks.specs.Mutexes.{IsPassOfMutex};
 ghost use Rattle.go_sync.specs.MutexCallers.{LocksSoon, Makes};
 ghost use Rattle.std.specs.Fn.{FnOnceReturnsAtMut};
 
+mod kept;
 mod waits;
 
 use crate::mutex::{MutexCaller, MutexPasses, new_mutex};
 use go_locks::Mutex;
+use kept::Kept;
 use std::alloc::{AllocError, Global};
-use std::sync::{Mutex as Cell, Wait};
+use std::sync::Wait;
 use sync_model::{Answer, NoNote};
 use sync_outside::Clock;
 
@@ -20,7 +22,7 @@ use sync_outside::Clock;
 #[derive(Drop)]
 pub struct Guarded<T: Drop> {
     mutex: Mutex<NoNote>,
-    value: Cell<T>,
+    value: Kept<T>,
 }
 
 impl<T: Drop> Guarded<T> {
@@ -34,7 +36,7 @@ impl<T: Drop> Guarded<T> {
         Ok((
             Guarded {
                 mutex,
-                value: Cell::new(value),
+                value: Kept::new(value),
             },
             passes,
         ))
@@ -69,7 +71,7 @@ impl<T: Drop> Guarded<T> {
 #[derive(Drop)]
 pub struct GuardedCaller<'a, T: Drop, C: Clock> {
     caller: MutexCaller<'a, C>,
-    value: &'a Cell<T>,
+    value: &'a Kept<T>,
 }
 
 impl<T: Drop, C: Clock> GuardedCaller<'_, T, C> {
@@ -85,7 +87,7 @@ impl<T: Drop, C: Clock> GuardedCaller<'_, T, C> {
             return None;
         };
         let answer = {
-            let mut held = self.value.lock(rt);
+            let mut held = self.value.hold(rt, &self.caller);
             changed(&mut *held, change)
         };
         self.caller.unlock(rt);

@@ -8,11 +8,14 @@ ghost use Rattle.go_locks.specs.RwCalls.{ReadLocks, WriteLocks, Unlocks};
 ghost use Rattle.go_locks.specs.RwMutexes.{IsPassOfRwMutex};
 ghost use Rattle.go_sync.specs.RwCallers.{Makes};
 
+mod kept;
+
 use crate::guarded::changed;
 use crate::rw_mutex::{RwCaller, RwPasses, new_rw_mutex};
 use go_locks::RwMutex;
+use kept::Kept;
 use std::alloc::{AllocError, Global};
-use std::sync::{RwLock as Cell, Wait};
+use std::sync::Wait;
 use sync_model::{Answer, NoNote};
 use sync_outside::Clock;
 
@@ -20,7 +23,7 @@ use sync_outside::Clock;
 #[derive(Drop)]
 pub struct RwGuarded<T: Drop> {
     lock: RwMutex<NoNote>,
-    value: Cell<T>,
+    value: Kept<T>,
 }
 
 impl<T: Drop> RwGuarded<T> {
@@ -31,7 +34,7 @@ impl<T: Drop> RwGuarded<T> {
         ensures count { IfOk result (λ made. vec_len made.1 ≡ threads) }
     {
         let (lock, passes) = new_rw_mutex(alloc, threads)?;
-        let value = Cell::new(value);
+        let value = Kept::new(value);
         Ok((RwGuarded { lock, value }, passes))
     }
 
@@ -64,7 +67,7 @@ impl<T: Drop> RwGuarded<T> {
 #[derive(Drop)]
 pub struct RwGuardedCaller<'a, T: Drop, C: Clock> {
     caller: RwCaller<'a, C>,
-    value: &'a Cell<T>,
+    value: &'a Kept<T>,
 }
 
 impl<T: Drop, C: Clock> RwGuardedCaller<'_, T, C> {
@@ -79,7 +82,7 @@ impl<T: Drop, C: Clock> RwGuardedCaller<'_, T, C> {
             return None;
         };
         let answer = {
-            let held = self.value.read(rt);
+            let held = self.value.hold_to_read(rt, &self.caller);
             seen(&*held, look)
         };
         self.caller.r_unlock(rt);
@@ -97,7 +100,7 @@ impl<T: Drop, C: Clock> RwGuardedCaller<'_, T, C> {
             return None;
         };
         let answer = {
-            let mut held = self.value.write(rt);
+            let mut held = self.value.hold_to_write(rt, &self.caller);
             changed(&mut *held, change)
         };
         self.caller.unlock(rt);

@@ -1,12 +1,13 @@
 //! Waiting until guarded data is as it has to be.
 ghost use Rattle.std.specs.Prelude.{false, IfNone, IfSome};
 ghost use Rattle.std.specs.Fn.{FnReturnsAt, FnOnceReturnsAtMut};
-ghost use Rattle.go_sync.specs.GuardedCallers.{IsCutOff, IsUnchanged, WaitsFor, WaitsHeld};
+ghost use Rattle.go_sync.specs.GuardedCallers.{HasLocked, IsCutOff, IsUnchanged, WaitsFor, WaitsHeld};
 
+use super::kept::Kept;
 use super::{GuardedCaller, changed};
 use crate::cond::CondCaller;
 use crate::mutex::MutexCaller;
-use std::sync::{Mutex as Cell, Wait};
+use std::sync::Wait;
 use sync_model::Answer;
 use sync_outside::Clock;
 
@@ -48,12 +49,13 @@ impl<T: Drop, C: Clock> GuardedCaller<'_, T, C> {
 // What the change of a value that isn't blocked answers. The mutex is held before and after.
 fn changed_unblocked<T: Drop, A, B: Fn(&T) -> bool, F: FnOnce(&mut T) -> A, C: Clock, R: Wait>(
     rt: &R,
-    value: &Cell<T>,
+    value: &Kept<T>,
     mutex: &mut MutexCaller<C>,
     cond: &mut CondCaller<C>,
     blocked: B,
     change: F,
 ) -> Option<A>
+    requires locked { HasLocked C.shows mutex.old }
     requires blocked { B.IsAlwaysCallable blocked }
     requires change { F.IsAlwaysCallable change }
     ensures waited { IfSome result (λ answer. WaitsFor C.shows cond.old mutex.old cond.new mutex.new) }
@@ -62,7 +64,7 @@ fn changed_unblocked<T: Drop, A, B: Fn(&T) -> bool, F: FnOnce(&mut T) -> A, C: C
 {
     for _ in rt.forever() {
         {
-            let mut held = value.lock(rt);
+            let mut held = value.hold(rt, mutex);
             let now = &mut *held;
             if !is_blocked(now, &blocked) {
                 return Some(changed(now, change));
