@@ -16,7 +16,7 @@ module _ {S N E R : Type 0} (next : S → ℕ → E → S × R) (halts : Bool) (
   with_left old new calls from to es grows = record { history = grows.history; mine = grows.mine; right = grows.right; fronts = grows.fronts; number = grows.number }
 
   -- and the note that the call began with was a new one
-  grew_so : (old mid new : Pass S N E R) (first : ℕ) (to : Front) (es : List (Placed E R))
+  pub grew_so : (old mid new : Pass S N E R) (first : ℕ) (to : Front) (es : List (Placed E R))
       → IsSame old mid → first ≡ 0 → Grows next halts start mid (no_front first) es new to → Grows next halts start old (no_front 0) es new to
   grew_so old mid new first to es same fresh grows = with_left old new same.0 (no_front 0) to es (subst (λ p. Grows next halts start p (no_front 0) es new to) same.1 (subst (λ t. Grows next halts start mid (no_front t) es new to) fresh grows))
 

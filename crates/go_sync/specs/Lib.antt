@@ -10,6 +10,7 @@ pub mod MapCallers
 pub mod MapWalks
 pub mod MutexCallers
 pub mod OnceCallers
+pub mod OnceRunners
 pub mod OnceValueCallers
 pub mod PassProps
 pub mod PoolCallers

@@ -4,7 +4,7 @@ ghost use Rattle.flight_core.specs.FlightMachine.{next};
 ghost use Rattle.single_flight.specs.Flights.{start_of, IsFlightLawful, IsPassOf};
 ghost use Rattle.ruled_object.specs.Passes.{left_of};
 ghost use Rattle.go_sync.specs.FlightCallers.{Makes};
-ghost use Rattle.go_sync.specs.Flying.{Flies};
+ghost use Rattle.go_sync.specs.Flying.{Flies, MayLand};
 ghost use Rattle.go_sync.specs.Made.{Made};
 ghost use Rattle.go_sync.specs.Renewing.{IsSame};
 
@@ -30,7 +30,8 @@ fn ready(flights: &Flights, pass: &mut FlightPass)
 
 impl<C: Clock> FlightCaller<'_, C> {
     /// x/sync's `Group.Do`: calls the function where no call of the key is under way, and else waits for the one that is. It
-    /// answers what the function came to, and whether that was given to more than one caller.
+    /// answers what the function came to, and whether that was given to more than one caller. The function is called only where its
+    /// condition holds once the caller is known to lead the flight (`MayLand`).
     #[tactic(auto, using(crate::proofs::Renewed::made_again))]
     pub fn fly<F: FnOnce() -> i64 + Drop, R: Wait>(
         &mut self,
@@ -38,7 +39,7 @@ impl<C: Clock> FlightCaller<'_, C> {
         key: u32,
         work: F,
     ) -> Answer<(i64, bool)>
-        requires { F.pre work }
+        requires { (leader : _) → MayLand self.old.flights.now key self.old.pass leader → F.pre work }
         ensures { Makes (Flies (F.post work) key) self.old result self.new }
     {
         ready(self.flights, &mut self.pass);
@@ -55,7 +56,7 @@ fn flown<F: FnOnce() -> i64 + Drop, C: Clock, R: Wait>(
     key: u32,
     work: F,
 ) -> Answer<(i64, bool)>
-    requires work { F.pre work }
+    requires work { (leader : _) → MayLand flights.now key pass.old leader → F.pre work }
     requires pass { IsPassOf flights.now pass.old × (0 < left_of pass.old) }
     ensures pass { IsPassOf flights.now pass.new }
     ensures made { Made next true (start_of flights.now) (Flies (F.post work) key) pass.old result pass.new }

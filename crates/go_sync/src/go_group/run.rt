@@ -1,6 +1,8 @@
 //! What a worker does that waits to be started.
-ghost use Rattle.std.specs.Prelude.{IfSome, MatchOption};
-ghost use Rattle.go_sync.specs.GoCallers.{IsNotStarted, Ran};
+ghost use Rattle.std.specs.Prelude.{true, IfSome, MatchOption};
+ghost use Rattle.sync_model.specs.declared.answer.Answer.TheVariants.{Done};
+ghost use Rattle.go_waits.specs.StartCalls.{WaitsStart};
+ghost use Rattle.go_sync.specs.GoCallers.{IsNotStarted, Makes, Ran};
 
 use super::GoCaller;
 use std::sync::Wait;
@@ -9,9 +11,10 @@ use sync_outside::Clock;
 
 impl<C: Clock> GoCaller<'_, C> {
     /// The function's part in Go's `WaitGroup.Go`: waits until the worker is started, calls the function, and is done. `None` where nobody
-    /// is live any more who could start it, or the starts were halted.
+    /// is live any more who could start it, or the starts were halted. The function is called only where its condition holds once the
+    /// worker was told to go.
     pub fn run<A, F: FnOnce() -> A + Drop, R: Wait>(&mut self, rt: &R, function: F) -> Option<A>
-        requires { F.pre function }
+        requires { (live : _) → Makes WaitsStart self.old (Done true) live → F.pre function }
         ensures ran { MatchOption result (IsNotStarted self.old self.new) (λ _. Ran self.old self.new) }
         ensures answered { IfSome result (λ answer. F.post function answer) }
     {

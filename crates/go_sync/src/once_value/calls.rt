@@ -5,6 +5,7 @@ ghost use Rattle.go_waits.specs.OnceCalls.{Gives, RunsOnce};
 ghost use Rattle.go_waits.specs.Onces.{start_of, IsOnceLawful, IsPassOf};
 ghost use Rattle.ruled_object.specs.Passes.{left_of};
 ghost use Rattle.go_sync.specs.Made.{Made};
+ghost use Rattle.go_sync.specs.OnceRunners.{MayRun};
 ghost use Rattle.go_sync.specs.OnceValueCallers.{Makes};
 ghost use Rattle.go_sync.specs.Renewing.{IsSame};
 
@@ -30,10 +31,11 @@ fn ready<T: Copy>(once: &OnceValue<T>, pass: &mut OncePass<T, NoNote>)
 
 impl<T: Copy, C: Clock> OnceValueCaller<'_, T, C> {
     /// What the function came to: it is called where no call did before, and else the call waits for the return of the one that
-    /// did. Each caller comes with the function, of which one alone is called.
+    /// did. Each caller comes with the function, of which one alone is called: only where its condition holds once the caller is
+    /// known to run it (`MayRun`).
     #[tactic(auto, using(crate::proofs::Renewed::made_again))]
     pub fn call<F: FnOnce() -> T + Drop, R: Wait>(&mut self, rt: &R, function: F) -> Answer<T>
-        requires { F.pre function }
+        requires { (runner : _) → MayRun self.old.once.now self.old.pass runner → F.pre function }
         ensures { Makes (Gives (F.post function)) self.old result self.new }
     {
         ready(self.once, &mut self.pass);
@@ -49,7 +51,7 @@ fn kept<T: Copy, F: FnOnce() -> T + Drop, C: Clock, R: Wait>(
     pass: &mut OncePass<T, NoNote>,
     function: F,
 ) -> Answer<T>
-    requires function { F.pre function }
+    requires function { (runner : _) → MayRun once.now pass.old runner → F.pre function }
     requires pass { IsPassOf once.now pass.old × (0 < left_of pass.old) }
     ensures pass { IsPassOf once.now pass.new }
     ensures made { Made next true (start_of once.now) (Gives (F.post function)) pass.old result pass.new }

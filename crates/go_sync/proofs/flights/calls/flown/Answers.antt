@@ -6,7 +6,16 @@ use Rattle.sync_model.specs.declared.journal.Deed.TheVariants.{Event, Refused}
 use Rattle.flight_core.specs.declared.event.FlightEvent.TheVariants.{Join, Land}
 use Rattle.flight_core.specs.declared.event.FlightReply.TheVariants.{Landed, Lead}
 use Rattle.go_sync.proofs.Composed.{made_two}
+use Rattle.go_sync.proofs.Running.{may_land}
 use Rattle.go_sync.proofs.flights.calls.flown.Goals as goal
+
+pub work-value-requires : goal.work-value-requires
+work-value-requires g c =
+    let is = c.in-Done-Lead.field-0-is in
+    let begun = rw is at c.in-Done-Lead.ensures.events in
+    let stands = rw is at c.in-Done-Lead.ensures.pass in
+    let leader = c.begin.new.pass in
+    c.requires.work leader (may_land _ _ _ leader leader _ _ c.new-note.ensures (begun.0, begun.1, begun.2) stands.0.0)
 
 pub returns-in-Done-clause-made : goal.returns-in-Done-clause-made
 returns-in-Done-clause-made g c =
