@@ -61,7 +61,7 @@ entries_rise : (xs : List Step) → TimesRise xs → (n i earlier later : ℕ) �
 entries_rise [] rise n i earlier later below at_n at_i = absurd (none-some earlier at_n)
 entries_rise (x ∷ xs) rise n i earlier later below at_n at_i = by_call (call_in x.deed) (λ n i. entries_rise xs (rise_on x xs rise) n i earlier later) at_n at_i
   where
-    abbrev Rest : Type 0
+    Rest : Type 0
     Rest = (n i : ℕ) → n < i → slice_get (entry_times_of xs) n ≡ Some earlier → slice_get (entry_times_of xs) i ≡ Some later → earlier < later
 
     first : AllThere xs time → (n i : ℕ) → n < i → slice_get (x.time ∷ entry_times_of xs) n ≡ Some earlier → slice_get (x.time ∷ entry_times_of xs) i ≡ Some later → earlier < later
@@ -161,7 +161,7 @@ among_from n c before [] rise j time y at at_time = absurd (none-some y at)
 among_from n c before (x ∷ xs) rise j time y at at_time = by_call (call_in x.deed) refl
     (λ k at_k at_time. subst (λ l. IsAmong (entry_times_of l) y time) (append_assoc before (x ∷ []) xs) (among_from n c (before ++ x ∷ []) xs (subst (λ l. TimesRise l) (sym (append_assoc before (x ∷ []) xs)) rise) k time y at_k at_time)) at at_time
   where
-    abbrev Rest : Type 0
+    Rest : Type 0
     Rest = (k : ℕ) → slice_get (items_from n c (before ++ x ∷ []) xs) k ≡ Some y → slice_get (times_by c xs) k ≡ Some time → IsAmong (entry_times_of (before ++ x ∷ xs)) y time
 
     first : (did : Made) → call_in x.deed ≡ Some did → Rest → (k : ℕ) → slice_get (item_at n before x.knew did ∷ items_from n c (before ++ x ∷ []) xs) k ≡ Some y → slice_get (x.time ∷ times_by c xs) k ≡ Some time → IsAmong (entry_times_of (before ++ x ∷ xs)) y time
@@ -181,7 +181,7 @@ pub times_sized : (n c : ℕ) (before xs : List Step) → length (times_by c xs)
 times_sized n c before [] = refl
 times_sized n c before (x ∷ xs) = by_call (call_in x.deed) (times_sized n c (before ++ x ∷ []) xs)
   where
-    abbrev Rest : Type 0
+    Rest : Type 0
     Rest = length (times_by c xs) ≡ length (items_from n c (before ++ x ∷ []) xs)
 
     by_caller : (did : Made) (b : Bool) → AllThere xs time → length (cond b (x.time ∷ times_by c xs) (times_by c xs)) ≡ length (cond b (item_at n before x.knew did ∷ items_from n c (before ++ x ∷ []) xs) (items_from n c (before ++ x ∷ []) xs))
