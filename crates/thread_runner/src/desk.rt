@@ -15,6 +15,7 @@ ghost use Rattle.thread_objects.specs.Kinds.{HasWord};
 ghost use Rattle.thread_objects.specs.Passes.{IsSeatAt, owns_of};
 ghost use Rattle.thread_objects.specs.Working.{Works, desk_at, desk_with};
 
+use call_loop::{Eager, Lazy};
 use protocols::{CondStage, GroupStage, MutexStage};
 use std::sync::Wait;
 use sync_model::{Answer, Note};
@@ -41,7 +42,7 @@ fn part_of_mutex<N: Note, C: Clock, R: Wait>(
 {
     match object {
         AnyObject::Mutex(object) => match pass {
-            AnyPass::Mutex(pass) => part(rt, worker, object, pass, note, stage),
+            AnyPass::Mutex(pass) => part(rt, worker, object, pass, note, stage, &Lazy),
             _ => unreachable!(),
         },
         _ => unreachable!(),
@@ -89,7 +90,7 @@ fn part_of_cond<N: Note, C: Clock, R: Wait>(
 {
     match object {
         AnyObject::Cond(object) => match pass {
-            AnyPass::Cond(pass) => part(rt, worker, object, pass, note, stage),
+            AnyPass::Cond(pass) => part(rt, worker, object, pass, note, stage, &Eager),
             _ => unreachable!(),
         },
         _ => unreachable!(),
@@ -137,7 +138,7 @@ fn part_of_group<N: Note, C: Clock, R: Wait>(
 {
     match object {
         AnyObject::WaitGroup(object) => match pass {
-            AnyPass::WaitGroup(pass) => part(rt, worker, object, pass, note, stage),
+            AnyPass::WaitGroup(pass) => part(rt, worker, object, pass, note, stage, &Eager),
             _ => unreachable!(),
         },
         _ => unreachable!(),

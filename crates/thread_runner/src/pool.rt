@@ -18,6 +18,7 @@ ghost use Rattle.thread_runner.specs.PoolParts.{ArePartsAt};
 ghost use Rattle.thread_runner.specs.Replies.{pool_done};
 ghost use Rattle.thread_objects.specs.Working.{Works, desk_at, desk_with};
 
+use call_loop::Eager;
 use protocols::{PoolOutcome, PoolStage};
 use script_calls::Reply;
 use std::sync::Wait;
@@ -89,7 +90,7 @@ fn part_of_pool<N: Note, C: Clock, R: Wait>(
 {
     match object {
         AnyObject::PoolPart(object) => match pass {
-            AnyPass::PoolPart(pass) => part(rt, worker, object, pass, note, stage),
+            AnyPass::PoolPart(pass) => part(rt, worker, object, pass, note, stage, &Eager),
             _ => unreachable!(),
         },
         _ => unreachable!(),
