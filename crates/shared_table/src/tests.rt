@@ -80,7 +80,8 @@ fn look_over_a_clear<R: Wait, L: Ledger>(
     requires clearer { IsNoteOf table.now clearer.old × IsSome (own_by clearer.old) }
 {
     let mut steps = Steps::<L>::new(rt, blank);
-    let node = table.words.enter(seat, 0, key, Stamp::first(), &mut steps);
+    let told = Stamp::first();
+    let node = table.words.enter(seat, 0, key, told, &mut steps);
     if !clear_one(rt, table, clearer) {
         return None;
     }
