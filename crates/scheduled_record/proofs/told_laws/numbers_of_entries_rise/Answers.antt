@@ -20,5 +20,5 @@ returns c plan worker place other object t u x y valid before at_t at_u is_t is_
     ap (λ (l : List Made). slice_get l k) (sym (lines.lists plan worker valid)) ∙ (slice_get-map (λ (v : ToldAct). v.act.made) (told_of plan worker) k ∙ (ap (option_map (λ (v : ToldAct). v.act.made)) at ∙ ap Some is)) in
     let number : (k : ℕ) (v : ToldAct) (e : ObjectEntry) → slice_get (told_of plan worker) k ≡ Some v → v.act.made ≡ Entered object e → slice_get (journal_of r object) e.knew ≡ Some e = λ k v e at is.
     subst (λ (made : Made). IsNumbered r (number_of made) made) is (lines.numbers plan worker k v valid at) in
-    let rises : x.knew < y.knew = later_number (journal_of r object) (order.journals object) x y (number place t x at_t is_t) (number other u y at_u is_u) (order.lists worker place other object object x y before (item place t x at_t is_t) (item other u y at_u is_u)) in
+    let rises : x.knew < y.knew = later_number (journal_of r object) (order.journals object) x y (number place t x at_t is_t) (number other u y at_u is_u) (order.lists worker place other (Entered object x) (Entered object y) before (item place t x at_t is_t) (item other u y at_u is_u)) in
     subst (λ (made : Made). number_of made < number_of u.act.made) (sym is_t) (subst (λ (made : Made). x.knew < number_of made) (sym is_u) rises)
