@@ -31,23 +31,22 @@ HasTime xs time = (i : ℕ) × (x : Step) × (slice_get xs i ≡ Some x) × (x.t
 later_one : (x : Step) (xs : List Step) (time : ℕ) → HasTime xs time → HasTime (x ∷ xs) time
 later_one x xs time (i, y, at, is) = (suc i, y, at, is)
 
--- each of the entries' numbers is one of the journal
-abbrev AllThere : List Step → ℕ → Type 0
-AllThere xs time = (k : ℕ) → slice_get (entry_times_of xs) k ≡ Some time → HasTime xs time
-
 entry_there : (xs : List Step) (n time : ℕ) → slice_get (entry_times_of xs) n ≡ Some time → HasTime xs time
 entry_there [] n time at = absurd (none-some time at)
 entry_there (x ∷ xs) n time at = by_call (call_in x.deed) (λ k e. entry_there xs k time e) at
   where
-    first : AllThere xs time → (k : ℕ) → slice_get (x.time ∷ entry_times_of xs) k ≡ Some time → HasTime (x ∷ xs) time
+    Rest : Type 0
+    Rest = (k : ℕ) → slice_get (entry_times_of xs) k ≡ Some time → HasTime xs time
+
+    first : Rest → (k : ℕ) → slice_get (x.time ∷ entry_times_of xs) k ≡ Some time → HasTime (x ∷ xs) time
     first rest zero e = (0, x, refl, same_Some x.time time e)
     first rest (suc k) e = later_one x xs time (rest k e)
 
-    by_entry : (b : Bool) → AllThere xs time → slice_get (cond b (x.time ∷ entry_times_of xs) (entry_times_of xs)) n ≡ Some time → HasTime (x ∷ xs) time
+    by_entry : (b : Bool) → Rest → slice_get (cond b (x.time ∷ entry_times_of xs) (entry_times_of xs)) n ≡ Some time → HasTime (x ∷ xs) time
     by_entry true rest e = first rest n e
     by_entry false rest e = later_one x xs time (rest n e)
 
-    by_call : (found : Option Made) → AllThere xs time → slice_get (numbered x.time found (entry_times_of xs)) n ≡ Some time → HasTime (x ∷ xs) time
+    by_call : (found : Option Made) → Rest → slice_get (numbered x.time found (entry_times_of xs)) n ≡ Some time → HasTime (x ∷ xs) time
     by_call None rest e = later_one x xs time (rest n e)
     by_call (Some did) rest e = by_entry did.1.entry rest e
 
@@ -64,16 +63,16 @@ entries_rise (x ∷ xs) rise n i earlier later below at_n at_i = by_call (call_i
     Rest : Type 0
     Rest = (n i : ℕ) → n < i → slice_get (entry_times_of xs) n ≡ Some earlier → slice_get (entry_times_of xs) i ≡ Some later → earlier < later
 
-    first : AllThere xs time → (n i : ℕ) → n < i → slice_get (x.time ∷ entry_times_of xs) n ≡ Some earlier → slice_get (x.time ∷ entry_times_of xs) i ≡ Some later → earlier < later
+    first : Rest → (n i : ℕ) → n < i → slice_get (x.time ∷ entry_times_of xs) n ≡ Some earlier → slice_get (x.time ∷ entry_times_of xs) i ≡ Some later → earlier < later
     first rest n zero below at_n at_i = absurd (omega arith)
     first rest zero (suc i) below at_n at_i = let is = same_Some x.time earlier at_n in let past = past_first x xs later rise (entry_there xs i later at_i) in omega arith
     first rest (suc n) (suc i) below at_n at_i = rest n i (omega arith) at_n at_i
 
-    by_entry : (b : Bool) → AllThere xs time → slice_get (cond b (x.time ∷ entry_times_of xs) (entry_times_of xs)) n ≡ Some earlier → slice_get (cond b (x.time ∷ entry_times_of xs) (entry_times_of xs)) i ≡ Some later → earlier < later
+    by_entry : (b : Bool) → Rest → slice_get (cond b (x.time ∷ entry_times_of xs) (entry_times_of xs)) n ≡ Some earlier → slice_get (cond b (x.time ∷ entry_times_of xs) (entry_times_of xs)) i ≡ Some later → earlier < later
     by_entry true rest a b = first rest n i below a b
     by_entry false rest a b = rest n i below a b
 
-    by_call : (found : Option Made) → AllThere xs time → slice_get (numbered x.time found (entry_times_of xs)) n ≡ Some earlier → slice_get (numbered x.time found (entry_times_of xs)) i ≡ Some later → earlier < later
+    by_call : (found : Option Made) → Rest → slice_get (numbered x.time found (entry_times_of xs)) n ≡ Some earlier → slice_get (numbered x.time found (entry_times_of xs)) i ≡ Some later → earlier < later
     by_call None rest a b = rest n i below a b
     by_call (Some did) rest a b = by_entry did.1.entry rest a b
 
@@ -168,7 +167,7 @@ among_from n c before (x ∷ xs) rise j time y at at_time = by_call (call_in x.d
     first did made rest zero at at_time = subst (λ (p : Item × ℕ). IsAmong (entry_times_of (before ++ x ∷ xs)) p.0 p.1) (λ i. (same_Some (item_at n before x.knew did) y at i, same_Some x.time time at_time i)) (among_at n before x xs did made rise)
     first did made rest (suc k) at at_time = rest k at at_time
 
-    by_caller : (did : Made) → call_in x.deed ≡ Some did → (b : Bool) → AllThere xs time → slice_get (cond b (item_at n before x.knew did ∷ items_from n c (before ++ x ∷ []) xs) (items_from n c (before ++ x ∷ []) xs)) j ≡ Some y
+    by_caller : (did : Made) → call_in x.deed ≡ Some did → (b : Bool) → Rest → slice_get (cond b (item_at n before x.knew did ∷ items_from n c (before ++ x ∷ []) xs) (items_from n c (before ++ x ∷ []) xs)) j ≡ Some y
         → slice_get (cond b (x.time ∷ times_by c xs) (times_by c xs)) j ≡ Some time → IsAmong (entry_times_of (before ++ x ∷ xs)) y time
     by_caller did made true rest at at_time = first did made rest j at at_time
     by_caller did made false rest at at_time = rest j at at_time
@@ -184,11 +183,11 @@ times_sized n c before (x ∷ xs) = by_call (call_in x.deed) (times_sized n c (b
     Rest : Type 0
     Rest = length (times_by c xs) ≡ length (items_from n c (before ++ x ∷ []) xs)
 
-    by_caller : (did : Made) (b : Bool) → AllThere xs time → length (cond b (x.time ∷ times_by c xs) (times_by c xs)) ≡ length (cond b (item_at n before x.knew did ∷ items_from n c (before ++ x ∷ []) xs) (items_from n c (before ++ x ∷ []) xs))
+    by_caller : (did : Made) (b : Bool) → Rest → length (cond b (x.time ∷ times_by c xs) (times_by c xs)) ≡ length (cond b (item_at n before x.knew did ∷ items_from n c (before ++ x ∷ []) xs) (items_from n c (before ++ x ∷ []) xs))
     by_caller did true rest = ap suc rest
     by_caller did false rest = rest
 
-    by_call : (found : Option Made) → AllThere xs time → length (timed c x found (times_by c xs)) ≡ length (listed n c before x found (items_from n c (before ++ x ∷ []) xs))
+    by_call : (found : Option Made) → Rest → length (timed c x found (times_by c xs)) ≡ length (listed n c before x found (items_from n c (before ++ x ∷ []) xs))
     by_call None rest = rest
     by_call (Some did) rest = by_caller did (x.caller == c) rest
 
