@@ -40,12 +40,14 @@ impl Plain {
         let mut nothing = NoNote::at(mark.stamp.same());
         mark.spare -= cost;
         mark.done = one_more(mark.done);
-        let answer = self
+        match self
             .object
-            .call(rt, &(), &mut mark.pass, &mut nothing, event);
-        mark.stamp = nothing.time();
-        match answer {
-            Answer::Done(Some(answered)) => answered,
+            .call(rt, &(), &mut mark.pass, &mut nothing, event)
+        {
+            Answer::Done(Some(answered)) => {
+                mark.stamp = nothing.time();
+                answered
+            }
             Answer::Done(None) => unreachable!(),
             Answer::Halted(_) => unreachable!(),
         }

@@ -33,19 +33,19 @@ pub returns-clause-home : goal.returns-clause-home
 returns-clause-home g c home is =
     let object = c.args.self.now.object in
     let old : Mark = c.args.mark.now in
-    let new : Mark = record { pass = c.call-answer.new.pass; callers = old.callers; spare = old.spare - c.args.cost; stamp = c.time-mark.result; done = c.one_more-mark.result } in
+    let new : Mark = record { pass = c.call.new.pass; callers = old.callers; spare = old.spare - c.args.cost; stamp = c.time-mark.result; done = c.one_more-mark.result } in
     let at_self = c.requires.mark.0 in
     let had = held_there old c.requires.mark.1 in
     let kept = at_self.keeps had.0 had.1 in
     let was_pass = c.passes_and_copies.ensures.is_pass object old.pass had.0 at_self.pass had.1 in
-    let is_pass = c.passes_and_copies.ensures.holds object new.pass c.call-answer.ensures.pass.0 in
+    let is_pass = c.passes_and_copies.ensures.holds object new.pass c.call.ensures.pass.0 in
     let entry = c.in-Done-Some.ensures.entry in
     let adds = entry.1 in
     let answered = c.in-Done-Some.answered in
     let deed = entry.2 ∙ ap (λ f. Did c.args.event f) (c.in-Done-Some.field-0-is) in
     let n = old.callers in
     let who = number_of old.pass in
-    let number = c.call-answer.ensures.pass.1.0 in
+    let number = c.call.ensures.pass.1.0 in
     let seen = seen_by old.pass in
     let same = adds_same who seen adds.between entry.0 _ _ adds.mine (adds.all ∙ ap (λ l. by who l) adds.history) adds.caller (was_pass.1 ∙ kept.own_is) in
     let asked : items_of (own_by old) ≡ items_by n who seen = ap (λ o. items_of (holding old o)) had.1 in
@@ -69,11 +69,11 @@ returns-clause-called g c =
     let object = c.args.self.now.object in
     let start = start_of object in
     let old : Mark = c.args.mark.now in
-    let new : Mark = record { pass = c.call-answer.new.pass; callers = old.callers; spare = old.spare - c.args.cost; stamp = c.time-mark.result; done = c.one_more-mark.result } in
+    let new : Mark = record { pass = c.call.new.pass; callers = old.callers; spare = old.spare - c.args.cost; stamp = c.time-mark.result; done = c.one_more-mark.result } in
     let is = c.requires.mark.0 in
     let had = held_there old c.requires.mark.1 in
     let was_pass = c.passes_and_copies.ensures.is_pass object old.pass had.0 is.pass had.1 in
-    let is_pass = c.passes_and_copies.ensures.holds object new.pass c.call-answer.ensures.pass.0 in
+    let is_pass = c.passes_and_copies.ensures.holds object new.pass c.call.ensures.pass.0 in
     let entry = c.in-Done-Some.ensures.entry in
     let adds = entry.1 in
     let answered = c.in-Done-Some.answered in
@@ -87,9 +87,8 @@ returns-clause-called g c =
     let left = old.spare - c.args.cost in
     let spent : left + c.args.cost ≡ old.spare = omega arith in
     let whole = (seen_by old.pass ++ adds.between) ++ entry.0 ∷ [] in
-    let at : entry.0.time ≡ c.call-answer.new.note.stamp.time = ap (λ (f : Front). f.time) entry.3 in
-    let rising = c.call-answer.ensures.makes.grows.fronts in
-    let was = c.same-arg-1.ensures in
+    let at : entry.0.time ≡ c.call.new.note.stamp.time = ap (λ (f : Front). f.time) entry.3 in
+    let rising = c.call.ensures.makes.grows.fronts in
     let first = rising.0.1 in
     let then = rising.1.1 in
     let later : old.stamp.time < entry.0.time = omega arith in
@@ -101,7 +100,7 @@ returns-clause-called g c =
       same = adds_same who (seen_by old.pass) adds.between entry.0 _ _ adds.mine (adds.all ∙ ap (λ l. by who l) adds.history) adds.caller (was_pass.1 ∙ (is.keeps had.0 had.1).own_is);
       follows = subst (λ l. Follows next false start None l) adds.history adds.follows;
     } in
-    let number = c.call-answer.ensures.pass.1.0 in
+    let number = c.call.ensures.pass.1.0 in
     let from : state_of own_by front_by seen_of old ≡ state_at n who old.spare old.stamp.time (seen_by old.pass) = λ i. record (state_of own_by front_by seen_of old) { own = ap (holding old) had.1 i } in
     let to : state_of own_by front_by seen_of new ≡ state_at n who left entry.0.time whole =
     (λ i. record (state_of own_by front_by seen_of new) { own = ap (holding new) is_pass.1 i }) ∙ (λ i. state_at n (number i) left (told i) (adds.history i)) in
