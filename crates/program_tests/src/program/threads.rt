@@ -1,9 +1,12 @@
 //! Runs with threads.
 
 use crate::program::rows::{Row, STEP, TWO_CALLS, comes_out, matches_row, run_by, run_through};
+use std::alloc::{AllocError, Global};
+use std::sync::Wait;
 use std::sync::atomic::{AtomicU64, Ordering};
 use std::test::Fail;
-use sync_outside::{Clock, HoldGate, OpenGate, RefuseStart, ThreadSpawner};
+use std::thread::{self, Threads};
+use sync_outside::{Clock, Gate, HoldGate, OpenGate, RefuseStart, ThreadSpawner};
 
 const RUN: Row = Row {
     words: "gosync run w.txt",
@@ -192,37 +195,66 @@ impl Clock for ReadClock {
     }
 }
 
-// A lock reads the clock that was handed in, in a run of a file and in one of a seed.
+/// At so many looks a worker that is held back goes on.
+const LOOKS: u32 = 1_000_000;
+
+// Holds worker 0 before its call 2 until the clock was read.
+#[derive(Drop)]
+struct ReadGate<'a> {
+    clock: &'a ReadClock,
+}
+
+impl<'a> Gate for ReadGate<'a> {
+    fn before<R: Wait>(&self, _rt: &R, worker: u32, index: u32) {
+        if worker != 0 || index != 2 {
+            return;
+        }
+        for _ in 0..LOOKS {
+            if self.clock.reads.load(Ordering::SeqCst) > 0 {
+                return;
+            }
+            thread::yield_now();
+        }
+    }
+
+    fn after<R: Wait>(&self, _rt: &R, _worker: u32, _index: u32) {}
+}
+
+// Runs a row by a clock that counts its reads, and tells whether it came out and whether the clock was read.
+fn reads_clock<R: Threads + Wait + Sync>(
+    rt: &R,
+    alloc: Global,
+    row: &Row,
+) -> Result<(bool, bool), AllocError> {
+    let clock = ReadClock {
+        reads: AtomicU64::new(0),
+    };
+    let gate = ReadGate { clock: &clock };
+    let mut spawner = ThreadSpawner::new();
+    let ran = run_by(rt, alloc, row.text, 1_000, row, &clock, &mut spawner, &gate)?;
+    Ok((
+        matches_row(&ran, row),
+        clock.reads.load(Ordering::SeqCst) > 0,
+    ))
+}
+
+// A lock that has to wait reads the clock that was handed in. One that is had at once reads none.
 #[test]
 fn a_run_reads_its_own_clock(rt: HostRuntime) -> Result<(), Fail> {
-    let locked = Row {
-        text: "workers 1\nmutex m\nworker 0\nlock m\nunlock m\n",
-        report: "0.0 lock m -> ok\n0.1 unlock m -> ok\n",
+    let at_once = Row {
+        text: "workers 1\nmutex m\nrwmutex w\nworker 0\nlock m\nlock w\n",
+        report: "0.0 lock m -> ok\n0.1 lock w -> ok\n",
         ..RUN
     };
-    let made = Row {
-        words: "gosync make 7",
-        report: LINES,
+    let waits = Row {
+        text: "workers 2\nmutex m\nwaitgroup g 1\nworker 0\nlock m\ndone g\nunlock m\nworker 1\nwait g\nlock m\n",
+        report: "0.0 lock m -> ok\n0.1 done g -> ok\n0.2 unlock m -> ok\n1.0 wait g -> ok\n1.1 lock m -> ok\n",
         ..RUN
     };
-    for row in &[locked, made] {
-        let clock = ReadClock {
-            reads: AtomicU64::new(0),
-        };
-        let mut spawner = ThreadSpawner::new();
-        let ran = run_by(
-            &rt,
-            rt.alloc(),
-            row.text,
-            1_000,
-            row,
-            &clock,
-            &mut spawner,
-            &OpenGate,
-        )?;
-        assert!(rt; matches_row(&ran, row));
-        assert!(rt; clock.reads.load(Ordering::SeqCst) > 0);
-    }
+    let first = reads_clock(&rt, rt.alloc(), &at_once)?;
+    assert!(rt; first == (true, false));
+    let second = reads_clock(&rt, rt.alloc(), &waits)?;
+    assert!(rt; second == (true, true));
     Ok(())
 }
 
