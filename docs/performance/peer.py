@@ -9,7 +9,7 @@ each text anew, with their output dropped. Prints a table in Markdown with a row
 4 and 8 workers: the least time of each program, in milliseconds, from before the process is made until it has ended, and what gosync's is
 of Go's. Before that it looks whether both write the same calls of each text.
 
---whole prints all that there is, as docs/PERFORMANCE.md has it: --large, --dry and --instructions, with 12 turns. That takes some five
+--whole prints all that there is, as docs/PERFORMANCE.md has it: --large, --dry and --instructions, with 12 turns. That takes one to two
 minutes on a machine that does nothing else.
 
 --large adds what gosync takes of Go's time where its memory lies in large pages, as the wrapper ./gosync lets it (GLIBC_TUNABLES).
