@@ -22,7 +22,7 @@ own_leads_on s c key event n (lands own value below at_c) ends is = absurd (fals
 own_leads_on s c key event n (leaves value below at_c) ends is = let clash : Landed value ≡ Leads key = sym at_c ∙ is in cc
 own_leads_on s c key event n (still of may) ends is = is
 
-other_leads_on : (s : FlightState) (c d key : ℕ) (event : FlightEvent) (n : FlightState × FlightReply) → c ≢ d → Moves s d event n → place_of s c ≡ Leads key → place_of n.0 c ≡ Leads key
+pub other_leads_on : (s : FlightState) (c d key : ℕ) (event : FlightEvent) (n : FlightState × FlightReply) → c ≢ d → Moves s d event n → place_of s c ≡ Leads key → place_of n.0 c ≡ Leads key
 other_leads_on s c d key event n ne (led own below at_d none) is = set_there s.places c d (Leads own) ne ∙ is
 other_leads_on s c d key event n ne (queued own below at_d flies) is = set_there s.places c d (Waits own) ne ∙ is
 other_leads_on s c d key event n ne (lands own value below at_d) is = map_there own value (set s.places d Out) c ∙ ap (landed own value) (set_there s.places c d Out ne ∙ is)
@@ -44,11 +44,11 @@ ends_not s c e log follows ends own = ap (flight_releases e.event) follows.0 ∙
 leads_first : (s : FlightState) (c key : ℕ) (e : FlightEntry) (log : Log) → Follows next s (e ∷ log) → EndsNone c (e ∷ log) → place_of s c ≡ Leads key → place_of (next s e.caller e.event).0 c ≡ Leads key
 leads_first s c key e log follows ends is = leads_on s c e.caller key e.event (next s e.caller e.event) (moves s e.caller e.event) (ends_not s c e log follows ends) is
 
-leads_through : (s : FlightState) (c key : ℕ) (log : Log) → Follows next s log → EndsNone c log → place_of s c ≡ Leads key → place_of (after next s log) c ≡ Leads key
+pub leads_through : (s : FlightState) (c key : ℕ) (log : Log) → Follows next s log → EndsNone c log → place_of s c ≡ Leads key → place_of (after next s log) c ≡ Leads key
 leads_through s c key [] follows ends is = is
 leads_through s c key (e ∷ log) follows ends is = leads_through (next s e.caller e.event).0 c key log follows.1 ends.1 (leads_first s c key e log follows ends is)
 
-led_leads : (s : FlightState) (c key : ℕ) (event : FlightEvent) (n : FlightState × FlightReply) → Moves s c event n → event ≡ Join key → n.1 ≡ reply.Lead → place_of n.0 c ≡ Leads key
+pub led_leads : (s : FlightState) (c key : ℕ) (event : FlightEvent) (n : FlightState × FlightReply) → Moves s c event n → event ≡ Join key → n.1 ≡ reply.Lead → place_of n.0 c ≡ Leads key
 led_leads s c key event n (led own below is none) join same = let e : own ≡ key = cc in set_here s.places c (Leads own) below ∙ ap Leads e
 led_leads s c key event n (queued own below is flies) join same = cc
 led_leads s c key event n (lands own value below is) join same = cc
@@ -235,7 +235,7 @@ landing_tells s c key shared event n (leaves value below at_c) same is = cc
 landing_tells s c key shared event n (still of may) same is = cc
 
 -- each part of a log follows the machine, the later one from the state that the earlier one leads to
-abbrev ComesApart : (FlightState → ℕ → FlightEvent → FlightState × FlightReply) → Type 0
+abbrev pub ComesApart : (FlightState → ℕ → FlightEvent → FlightState × FlightReply) → Type 0
 ComesApart n = (s : FlightState) (earlier later : Log) → Follows n s (earlier ++ later) → Follows n s earlier × Follows n (after n s earlier) later
 
 pub tells-joined : ComesApart next → (callers c key : ℕ) (value : ℤ) (shared : Bool) (before between rest : Log) → EndsNone c between

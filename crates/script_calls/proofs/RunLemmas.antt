@@ -201,6 +201,7 @@ module _ {K L : Type 0} (rename : K → L) where
   says_renamed (replies.OnceFunc code) = refl
   says_renamed (replies.OnceValue value) = refl
   says_renamed (replies.Pool reply) = refl
+  says_renamed (replies.Flown value shared) = refl
   says_renamed (replies.Var reply) = refl
 
   pub passed_renamed : (call : Call) (reply : Reply K) → passed_over call (with_keys_renamed rename reply) ≡ passed_over call reply

@@ -18,6 +18,7 @@ with_keys_renamed rename (replies.Once reply) = replies.Once reply
 with_keys_renamed rename (replies.OnceFunc code) = replies.OnceFunc code
 with_keys_renamed rename (replies.OnceValue value) = replies.OnceValue value
 with_keys_renamed rename (replies.Pool reply) = replies.Pool reply
+with_keys_renamed rename (replies.Flown value shared) = replies.Flown value shared
 with_keys_renamed rename (replies.Var reply) = replies.Var reply
 
 -- whether a reply shows at most so many pairs; only that of a `range` shows any
@@ -31,6 +32,7 @@ has_pairs_to most (replies.Once reply) = true
 has_pairs_to most (replies.OnceFunc code) = true
 has_pairs_to most (replies.OnceValue value) = true
 has_pairs_to most (replies.Pool reply) = true
+has_pairs_to most (replies.Flown value shared) = true
 has_pairs_to most (replies.Var reply) = true
 
 -- what a run leaves behind

@@ -1,6 +1,6 @@
--- Which replies each call may have, by the table of `sync` and `sync/atomic`.
+-- Which replies each call may have, by the tables of `sync`, `sync/atomic` and `golang.org/x/sync`.
 use Rattle.std.specs.Prelude.{Bool, true, false}
-use Rattle.sync_types.specs.Replies.{map_form, atomic_form, mutex_form, rw_mutex_form, pool_form}
+use Rattle.sync_types.specs.Replies.{map_form, atomic_form, mutex_form, rw_mutex_form, pool_form, sema_form}
 use Rattle.sync_types.specs.declared.atomic_object.AtomicReply.TheVariants.{Compared}
 use Rattle.script_calls.specs.declared.call.ComposedCall.TheVariants.{IfEqual, WaitFor, Go}
 use Rattle.script_calls.specs.declared.call.Operation.{Operation}
@@ -32,6 +32,8 @@ is_reply_to operations.Once (replies.Once reply) = true
 is_reply_to operations.OnceFunc (replies.OnceFunc code) = true
 is_reply_to operations.OnceValue (replies.OnceValue value) = true
 is_reply_to (operations.Pool call) (replies.Pool reply) = pool_form call reply
+is_reply_to (operations.Sema call) (replies.Lock reply) = sema_form call reply
+is_reply_to (operations.Fly key) (replies.Flown value shared) = true
 is_reply_to (operations.Var call) (replies.Var reply) = var_form call reply
 is_reply_to (operations.Composed (IfEqual value passes)) (replies.Atomic (Compared equal)) = true
 is_reply_to (operations.Composed (WaitFor atomic value tries)) (replies.Atomic (Compared equal)) = true

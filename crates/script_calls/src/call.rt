@@ -8,6 +8,7 @@ use sync_types::map_object::{MapCall, MapReply};
 use sync_types::name::Name;
 use sync_types::once_call::DoReply;
 use sync_types::pool_call::{PoolCall, PoolCallReply};
+use sync_types::sema_call::SemaCall;
 use sync_types::seq::Seq;
 use sync_types::wait_call::{CondCall, WaitGroupCall};
 
@@ -44,6 +45,11 @@ pub enum Operation {
     OnceValue,
     /// A call on a pool.
     Pool(PoolCall),
+    /// A call on a weighted semaphore.
+    Sema(SemaCall),
+    /// `Do` on a group of flights, for this key: the first to come leads a flight, which runs the group's function. Whoever
+    /// comes for that key meanwhile joins the flight.
+    Fly(Name),
     /// A call on a plain variable.
     Var(VarCall),
     /// A call that is made of other calls.
@@ -99,7 +105,7 @@ pub enum Reply<K> {
     Pairs(Seq<(K, u64)>),
     /// The reply of an atomic.
     Atomic(AtomicReply),
-    /// The reply of a mutex or a reader/writer mutex.
+    /// The reply of a mutex, a reader/writer mutex or a weighted semaphore.
     Lock(LockReply),
     /// A call on a cond or a wait group returned, a `go` too.
     Returned,
@@ -111,6 +117,8 @@ pub enum Reply<K> {
     OnceValue(u64),
     /// The reply of a pool.
     Pool(PoolCallReply),
+    /// The value of a flight, and whether more than one call received it.
+    Flown(i64, bool),
     /// The reply of a plain variable.
     Var(VarReply),
 }

@@ -18,6 +18,8 @@ use Rattle.sync_types.specs.declared.pool_call.PoolCall.{PoolCall}
 use Rattle.sync_types.specs.declared.pool_call.PoolCall.TheVariants as pool_calls
 use Rattle.sync_types.specs.declared.pool_call.PoolCallReply.{PoolCallReply}
 use Rattle.sync_types.specs.declared.pool_call.PoolCallReply.TheVariants as pool_replies
+use Rattle.sync_types.specs.declared.sema_call.SemaCall.{SemaCall}
+use Rattle.sync_types.specs.declared.sema_call.SemaCall.TheVariants as sema_calls
 
 -- the forms of a map's replies: nothing more, a value or none, a value and whether it was there, and whether a value was the old one
 abbrev pub is_map_done : MapReply → Bool
@@ -90,6 +92,11 @@ rw_mutex_form rw_calls.TryLock reply = is_tried reply
 rw_mutex_form rw_calls.RLock reply = is_lock_done reply
 rw_mutex_form rw_calls.RUnlock reply = is_lock_done reply
 rw_mutex_form rw_calls.TryRLock reply = is_tried reply
+
+abbrev pub sema_form : SemaCall → LockReply → Bool
+sema_form (sema_calls.Acquire weight) reply = is_lock_done reply
+sema_form (sema_calls.TryAcquire weight) reply = is_tried reply
+sema_form (sema_calls.Release weight) reply = is_lock_done reply
 
 -- a put and a sweep say nothing more; a get answers an item that was put, or a new one
 abbrev pub is_pool_done : PoolCallReply → Bool

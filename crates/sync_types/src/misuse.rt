@@ -1,7 +1,7 @@
 //! How a program can misuse an object, with Go's texts.
 ghost use Rattle.std.specs.Prelude.{◌≡◌};
 
-/// A misuse that ends a run: a fatal error or a panic of Go's package sync.
+/// A misuse that ends a run: a fatal error or a panic of Go's packages `sync` and `golang.org/x/sync/semaphore`.
 #[derive(Clone, Copy, Debug, PartialEq, Eq)]
 pub enum Misuse {
     /// `Mutex.Unlock` of a mutex that isn't locked.
@@ -14,6 +14,8 @@ pub enum Misuse {
     NegativeWaitGroupCounter,
     /// A `WaitGroup` that is used again before an earlier `Wait` has returned.
     WaitGroupReused,
+    /// A release of a weighted semaphore of more than is held.
+    SemaphoreOverReleased,
 }
 
 impl Misuse {
@@ -31,6 +33,7 @@ impl Misuse {
             Misuse::WaitGroupReused => {
                 "panic: sync: WaitGroup is reused before previous Wait has returned"
             }
+            Misuse::SemaphoreOverReleased => "panic: semaphore: released more than held",
         }
     }
 }

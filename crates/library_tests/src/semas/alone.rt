@@ -4,7 +4,7 @@ use crate::made::{Made, knows};
 use std::test::Fail;
 use sync_types::Misuse;
 
-const TOO_MUCH: Made = Made::Misused(Misuse::NegativeWaitGroupCounter);
+const TOO_MUCH: Made = Made::Misused(Misuse::SemaphoreOverReleased);
 
 // Of a semaphore of size 3. The tries are those of x/sync's own test.
 const CALLS: [(Call, Made); 12] = [
