@@ -14,21 +14,19 @@ use Rattle.workload.specs.declared.object.Declared.{Declared}
 use Rattle.workload.specs.declared.object.ObjectKind.{ObjectKind}
 use Rattle.workload.specs.declared.object.ObjectKind.TheVariants as kinds
 use Rattle.workload.specs.declared.object.ObjectLine.{ObjectLine}
-use Rattle.workload.specs.declared.object.ObjectWord.{ObjectWord}
-use Rattle.workload.specs.declared.object.ObjectWord.TheVariants as words
-use Rattle.workload.specs.Plan.{word_of, has_operation, has_call, second_of, may_hold}
+use Rattle.workload.specs.Plan.{has_call, second_of, may_hold}
 use Rattle.workload.specs.Draft.{Draft, declared, names_second, tries_of}
 use Rattle.workload.proofs.Passing.{both}
 use Rattle.workload.proofs.DraftLemmas.{found_at}
 
 -- no object alone has a `waitfor`
-not_alone : (word : ObjectWord) (a : ℕ) (v : Number) (n : ℕ) → has_operation word (operations.Composed (WaitFor a v n)) ≡ true → ⊥
-not_alone words.Map a v n h = cc
-not_alone word a v n h = cc
+not_alone : (kind : ObjectKind) (a : ℕ) (v : Number) (n : ℕ) → has_call kind (operations.Composed (WaitFor a v n)) ≡ true → ⊥
+not_alone kinds.Map a v n h = cc
+not_alone kind a v n h = cc
 
 -- an operation that an object has alone names no second one, and makes no waits
 pub alone_second : (kind : ObjectKind) (o : Operation) → has_call kind o ≡ true → (second_of o ≡ None) × (tries_of o ≡ 0)
-alone_second kind (operations.Composed (WaitFor a v n)) h = absurd (not_alone (word_of kind) a v n h)
+alone_second kind (operations.Composed (WaitFor a v n)) h = absurd (not_alone kind a v n h)
 alone_second kind o h = (refl, refl)
 
 -- so there is no second name

@@ -13,6 +13,8 @@ use Rattle.sync_types.specs.declared.wait_call.WaitGroupCall.{WaitGroupCall}
 use Rattle.sync_types.specs.declared.wait_call.WaitGroupCall.TheVariants as group_calls
 use Rattle.sync_types.specs.declared.pool_call.PoolCall.{PoolCall}
 use Rattle.sync_types.specs.declared.pool_call.PoolCall.TheVariants as pool_calls
+use Rattle.sync_types.specs.declared.sema_call.SemaCall.{SemaCall}
+use Rattle.sync_types.specs.declared.sema_call.SemaCall.TheVariants as sema_calls
 use Rattle.script_calls.specs.declared.call.VarCall.{VarCall}
 use Rattle.script_calls.specs.declared.call.VarCall.TheVariants as var_calls
 use Rattle.sync_types.specs.declared.atomic_object.AtomicKind.{AtomicKind}
@@ -26,13 +28,13 @@ use Rattle.script_calls.specs.declared.call.ComposedCall.{ComposedCall}
 use Rattle.script_calls.specs.declared.call.ComposedCall.TheVariants.{IfEqual, WaitFor, Go}
 use Rattle.workload.specs.declared.keyword.Verb.{Verb}
 use Rattle.workload.specs.declared.keyword.Verb.TheVariants as verbs
-use Rattle.workload.specs.declared.limits.TheConstants.{MAX_AMOUNT, MAX_PASSES, MAX_TRIES}
+use Rattle.workload.specs.declared.limits.TheConstants.{MAX_AMOUNT, MAX_PASSES, MAX_SIZE, MAX_TRIES}
 use Rattle.sync_types.specs.declared.value.TheConstants.{MAX_VALUE}
 use Rattle.script_calls.specs.declared.call.Operation.TheVariants as operations
 use Rattle.workload.specs.declared.object.ObjectWord.TheVariants as words
 use Rattle.workload.specs.Plan.{is_amount, has_operation}
-use Rattle.workload.specs.NumberWords.{is_amount_word, is_passes, is_passes_word, is_tries, is_tries_word, number_word, number_of, is_number, is_number_to, is_signed_word, is_number_between, is_number_word}
-use Rattle.workload.specs.CallWords.{map_verb, map_operands, atomic_verb, atomic_operands, group_verb, group_operands, pool_verb, pool_operands, var_verb, var_operands, composed_verb, composed_operands}
+use Rattle.workload.specs.NumberWords.{is_amount_word, is_passes, is_passes_word, is_tries, is_tries_word, is_weight, is_weight_word, number_word, number_of, is_number, is_number_to, is_signed_word, is_number_between, is_number_word}
+use Rattle.workload.specs.CallWords.{map_verb, map_operands, atomic_verb, atomic_operands, group_verb, group_operands, pool_verb, pool_operands, sema_verb, sema_weight, var_verb, var_operands, composed_verb, composed_operands}
 use Rattle.workload.specs.Draft.{is_map_call, is_group_call, is_pool_call, is_var_call, is_composed_call, is_value}
 use Rattle.workload.proofs.Passing.{both, pair}
 use Rattle.workload.proofs.Numbers.{decimal-number_of, number_of-decimal, is_number-decimal}
@@ -264,7 +266,7 @@ amount_passes (pos n) h =
     digits_between MAX_AMOUNT MAX_AMOUNT (decimal n) (unsigned_passes MAX_AMOUNT n most (omega arith))
 amount_passes (negsuc n) h = signed_passes MAX_AMOUNT (negsuc n) (omega arith) h
 
--- ---- calls of wait groups and pools
+-- ---- calls of wait groups, pools and semaphores
 
 -- the call of a wait group of this word with these operands
 abbrev pub group_call_at : Verb → List (List ℕ) → Option WaitGroupCall
@@ -289,6 +291,33 @@ pub pool_call_spelled : (c : PoolCall) → is_pool_call c ≡ true → pool_call
 pool_call_spelled (pool_calls.Put v) h = ap (λ (n : ℕ). Some (pool_calls.Put n)) (value_back v h)
 pool_call_spelled pool_calls.Get h = refl
 pool_call_spelled pool_calls.Sweep h = refl
+
+-- a weight that a semaphore of this size may have is spelled as one
+pub weight_pass : (most n : ℕ) → is_weight most n ≡ true → n < 2 ^ 64 → is_weight_word most (decimal n) ≡ true
+weight_pass most n h small = rw (is_number-decimal n small, number_of-decimal n small) h
+
+-- a word that is one
+pub weight_said : (most : ℕ) (word : List ℕ) → most ≤ MAX_SIZE → is_weight_word most word ≡ true → (is_weight most (number_of word) ≡ true) × (decimal (number_of word) ≡ word)
+weight_said most word fits h =
+    let parts = both (is_number word) (is_weight most (number_of word)) h in
+    let least = leb-true (number_of word) most (both (nat_lt 0 (number_of word)) (nat_le (number_of word) most) parts.1).1 in
+    (parts.1, decimal-number_of word parts.0 (omega arith))
+
+-- no weight is long
+pub weight_small : (n : ℕ) → is_weight MAX_SIZE n ≡ true → n < 2 ^ 64
+weight_small n h = omega (arith, leb-true n MAX_SIZE (both (nat_lt 0 n) (nat_le n MAX_SIZE) h).1)
+
+-- the call of a semaphore of this word with these operands
+abbrev pub sema_call_at : Verb → List (List ℕ) → Option SemaCall
+sema_call_at verbs.Acquire (w ∷ []) = Some (sema_calls.Acquire (number_of w))
+sema_call_at verbs.TryAcquire (w ∷ []) = Some (sema_calls.TryAcquire (number_of w))
+sema_call_at verbs.Release (w ∷ []) = Some (sema_calls.Release (number_of w))
+sema_call_at verb words = None
+
+pub sema_call_spelled : (c : SemaCall) → is_weight MAX_SIZE (sema_weight c) ≡ true → sema_call_at (sema_verb c) (decimal (sema_weight c) ∷ []) ≡ Some c
+sema_call_spelled (sema_calls.Acquire w) h = ap (λ (n : ℕ). Some (sema_calls.Acquire n)) (number_of-decimal w (weight_small w h))
+sema_call_spelled (sema_calls.TryAcquire w) h = ap (λ (n : ℕ). Some (sema_calls.TryAcquire n)) (number_of-decimal w (weight_small w h))
+sema_call_spelled (sema_calls.Release w) h = ap (λ (n : ℕ). Some (sema_calls.Release n)) (number_of-decimal w (weight_small w h))
 
 -- the call of a plain variable of this word with these operands
 abbrev pub var_call_at : Verb → List (List ℕ) → Option VarCall

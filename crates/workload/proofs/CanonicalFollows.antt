@@ -42,14 +42,14 @@ use Rattle.workload.proofs.FollowOn.{FollowOn, follow_append, follow_to}
 -- ---- objects
 
 -- what an object needs that may be declared
-record Joins (others : List ObjectLine) (o : ObjectLine) : Type 0 where
-  name : is_name o.name ≡ true
-  new : is_some (declared_from 0 o.name others) ≡ false
-  reference : refers others o.kind ≡ true
-  kind : is_kind o.kind ≡ true
-  room : nat_lt (count_of (word_of o.kind) others) (limit_of (word_of o.kind)) ≡ true
+pub record Joins (others : List ObjectLine) (o : ObjectLine) : Type 0 where
+  pub name : is_name o.name ≡ true
+  pub new : is_some (declared_from 0 o.name others) ≡ false
+  pub reference : refers others o.kind ≡ true
+  pub kind : is_kind o.kind ≡ true
+  pub room : nat_lt (count_of (word_of o.kind) others) (limit_of (word_of o.kind)) ≡ true
 
-joins : (others : List ObjectLine) (o : ObjectLine) → may_join others o ≡ true → Joins others o
+pub joins : (others : List ObjectLine) (o : ObjectLine) → may_join others o ≡ true → Joins others o
 joins others o e =
     let room = nat_lt (count_of (word_of o.kind) others) (limit_of (word_of o.kind)) in
     let new = not (is_some (declared_from 0 o.name others)) in
@@ -76,6 +76,8 @@ same_limit words.Once words.Once os e = (refl, refl)
 same_limit words.OnceFunc words.OnceFunc os e = (refl, refl)
 same_limit words.OnceValue words.OnceValue os e = (refl, refl)
 same_limit words.Pool words.Pool os e = (refl, refl)
+same_limit words.Sema words.Sema os e = (refl, refl)
+same_limit words.Flight words.Flight os e = (refl, refl)
 same_limit words.Var words.Var os e = (refl, refl)
 same_limit v w os e = absurd cc
 
@@ -113,14 +115,14 @@ limits_kept w (o ∷ os) others within h =
 abbrev counts : List ObjectLine → ℕ
 counts os =
     count_of words.Map os + (count_of (words.Atomic types.Bool) os + (count_of words.Mutex os + (count_of words.RwMutex os + (count_of words.Cond os
-    + (count_of words.WaitGroup os + (count_of words.Once os + (count_of words.OnceFunc os + (count_of words.OnceValue os + (count_of words.Pool os + count_of words.Var os)))))))))
+    + (count_of words.WaitGroup os + (count_of words.Once os + (count_of words.OnceFunc os + (count_of words.OnceValue os + (count_of words.Pool os + (count_of words.Sema os + (count_of words.Flight os + count_of words.Var os)))))))))))
 
 abbrev one_if : ObjectWord → ObjectWord → ℕ
 one_if v w = cond (count_together v w) 1 0
 
 one_word : (w : ObjectWord)
     → one_if words.Map w + (one_if (words.Atomic types.Bool) w + (one_if words.Mutex w + (one_if words.RwMutex w + (one_if words.Cond w
-    + (one_if words.WaitGroup w + (one_if words.Once w + (one_if words.OnceFunc w + (one_if words.OnceValue w + (one_if words.Pool w + one_if words.Var w))))))))) ≡ 1
+    + (one_if words.WaitGroup w + (one_if words.Once w + (one_if words.OnceFunc w + (one_if words.OnceValue w + (one_if words.Pool w + (one_if words.Sema w + (one_if words.Flight w + one_if words.Var w))))))))))) ≡ 1
 one_word words.Map = refl
 one_word (words.Atomic k) = refl
 one_word words.Mutex = refl
@@ -131,6 +133,8 @@ one_word words.Once = refl
 one_word words.OnceFunc = refl
 one_word words.OnceValue = refl
 one_word words.Pool = refl
+one_word words.Sema = refl
+one_word words.Flight = refl
 one_word words.Var = refl
 
 -- each object counts with one word
@@ -150,13 +154,15 @@ words_counted (o ∷ os) =
       with_one words.OnceFunc,
       with_one words.OnceValue,
       with_one words.Pool,
+      with_one words.Sema,
+      with_one words.Flight,
       with_one words.Var,
       one_word (word_of o.kind),
       words_counted os,
     )
 
 -- there are at most 16 maps, 64 atomics, and 32 objects of each other word
-pub few_objects : (os : List ObjectLine) → may_declare [] os ≡ true → length os ≤ 368
+pub few_objects : (os : List ObjectLine) → may_declare [] os ≡ true → length os ≤ 432
 few_objects os h =
     let few = λ (w : ObjectWord). limits_kept w os [] (omega arith) h in
     omega (
@@ -172,6 +178,8 @@ few_objects os h =
       few words.OnceFunc,
       few words.OnceValue,
       few words.Pool,
+      few words.Sema,
+      few words.Flight,
       few words.Var,
     )
 

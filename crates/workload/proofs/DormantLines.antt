@@ -8,7 +8,7 @@ use Rattle.std.proofs.lemmas.Bool.{eqb-true, eqb-false, ltb-true}
 use Rattle.std.proofs.lemmas.Fmt.{decimal_injective}
 use Rattle.std.proofs.lemmas.List.{length-set, length-replicate}
 use Rattle.std.proofs.lemmas.Slice.Eq.{bytes_eq-Decides}
-use Rattle.workload.specs.declared.keyword.Dialect.TheVariants.{Plain}
+use Rattle.workload.specs.declared.keyword.Dialect.{Dialect}
 use Rattle.workload.specs.declared.keyword.Keyword.{Keyword}
 use Rattle.workload.specs.declared.keyword.Keyword.TheVariants as keywords
 use Rattle.workload.specs.declared.limits.TheConstants.{MAX_WORKERS}
@@ -21,9 +21,10 @@ use Rattle.workload.specs.CallWords.{verb_of}
 use Rattle.workload.specs.Words.{spelled, first_spelled, arguments_of}
 use Rattle.workload.specs.Draft.{Draft, started, with_line, may_follow}
 use Rattle.workload.specs.Dormant.{begins_dormant, names_dormant}
-use Rattle.workload.specs.Reads.{ReadsOn, Reads}
+use Rattle.workload.specs.Reads.{ReadsIn}
 use Rattle.workload.proofs.Follows.{dormant_follows}
 use Rattle.workload.proofs.Keywords.{same_keyword}
+use Rattle.workload.proofs.Says.{SaysOn, on_says}
 
 -- ---- truth values
 
@@ -97,47 +98,47 @@ dormant_stay d (lines.Call n r c) = refl
 abbrev any_line : (List (List ℕ) → Bool) → List (List ℕ) → Bool
 any_line p texts = list_any (λ text. p (words_of text)) texts
 
-told : (workers : ℕ) (q : Plan → Bool) (p : List (List ℕ) → Bool) → Tells workers q p → (texts : List (List ℕ)) (d : Draft) (plan : Plan) → d.plan.workers ≡ workers → length d.plan.dormant ≡ workers → ReadsOn Plain texts (Some d) plan
+told : (workers : ℕ) (q : Plan → Bool) (p : List (List ℕ) → Bool) → Tells workers q p → (texts : List (List ℕ)) (d : Draft) (plan : Plan) → d.plan.workers ≡ workers → length d.plan.dormant ≡ workers → SaysOn texts (Some d) plan
     → q plan ≡ (q d.plan || any_line p texts)
 told workers q p t [] d plan count long h = ap q h ∙ or_none (q d.plan) false refl
 told workers q p t (text ∷ texts) d plan count long h =
     elim (is_significant (words_of text)) as (λ b. is_significant (words_of text) ≡ b → q plan ≡ (q d.plan || any_line p (text ∷ texts))) [
       | true ↦ λ says.
-          let said = h.1.continues says in
-          let rest = told workers q p t texts (with_line d said.0) plan (workers_stay d said.0 ∙ count) (dormant_stay d said.0 ∙ long) (subst (λ (x : Option Draft). ReadsOn Plain texts x plan) said.3 h.2) in
+          let said = h.1.says says in
+          let rest = told workers q p t texts (with_line d said.0) plan (workers_stay d said.0 ∙ count) (dormant_stay d said.0 ∙ long) (subst (λ (x : Option Draft). SaysOn texts x plan) said.3 h.2) in
           let here = t.line d said.0 count long said.1 ∙ ap (λ (ws : List (List ℕ)). q d.plan || p ws) (sym said.2) in
           rest ∙ ap (λ (b : Bool). b || any_line p texts) here ∙ or_moved (q d.plan) (p (words_of text)) (any_line p texts)
       | false ↦ λ silent.
-          let rest = told workers q p t texts d plan count long (subst (λ (x : Option Draft). ReadsOn Plain texts x plan) (h.1.silent silent) h.2) in
+          let rest = told workers q p t texts d plan count long (subst (λ (x : Option Draft). SaysOn texts x plan) (h.1.silent silent) h.2) in
           rest ∙ ap (λ (b : Bool). q d.plan || (b || any_line p texts)) (sym (t.silent (words_of text) silent))
     ] refl
 
 -- a draft's workers are those of the workload
-workers_kept : (texts : List (List ℕ)) (d : Draft) (plan : Plan) → ReadsOn Plain texts (Some d) plan → plan.workers ≡ d.plan.workers
+workers_kept : (texts : List (List ℕ)) (d : Draft) (plan : Plan) → SaysOn texts (Some d) plan → plan.workers ≡ d.plan.workers
 workers_kept [] d plan h = ap (λ (x : Plan). x.workers) h
 workers_kept (text ∷ texts) d plan h =
     elim (is_significant (words_of text)) as (λ b. is_significant (words_of text) ≡ b → plan.workers ≡ d.plan.workers) [
       | true ↦ λ says.
-          let said = h.1.continues says in
-          workers_kept texts (with_line d said.0) plan (subst (λ (x : Option Draft). ReadsOn Plain texts x plan) said.3 h.2) ∙ workers_stay d said.0
-      | false ↦ λ silent. workers_kept texts d plan (subst (λ (x : Option Draft). ReadsOn Plain texts x plan) (h.1.silent silent) h.2)
+          let said = h.1.says says in
+          workers_kept texts (with_line d said.0) plan (subst (λ (x : Option Draft). SaysOn texts x plan) said.3 h.2) ∙ workers_stay d said.0
+      | false ↦ λ silent. workers_kept texts d plan (subst (λ (x : Option Draft). SaysOn texts x plan) (h.1.silent silent) h.2)
     ] refl
 
-told_all : (q : Plan → Bool) (p : List (List ℕ) → Bool) (texts : List (List ℕ)) (plan : Plan) → ((words : List (List ℕ)) → is_significant words ≡ false → p words ≡ false) → (plan.workers ≤ MAX_WORKERS → Tells plan.workers q p) → ReadsOn Plain texts None plan
+told_all : (q : Plan → Bool) (p : List (List ℕ) → Bool) (texts : List (List ℕ)) (plan : Plan) → ((words : List (List ℕ)) → is_significant words ≡ false → p words ≡ false) → (plan.workers ≤ MAX_WORKERS → Tells plan.workers q p) → SaysOn texts None plan
     → q plan ≡ any_line p texts
 told_all q p [] plan quiet t h = absurd h
 told_all q p (text ∷ texts) plan quiet t h =
     elim (is_significant (words_of text)) as (λ b. is_significant (words_of text) ≡ b → q plan ≡ any_line p (text ∷ texts)) [
       | true ↦ λ says.
-          let said = h.1.continues says in
-          let behind = subst (λ (x : Option Draft). ReadsOn Plain texts x plan) said.4 h.2 in
+          let said = h.1.says says in
+          let behind = subst (λ (x : Option Draft). SaysOn texts x plan) said.4 h.2 in
           let workers = workers_kept texts (started said.0) plan behind in
           let tells = subst (λ (n : ℕ). Tells n q p) workers (t (omega (arith, said.2, workers))) in
           let rest = told said.0 q p tells texts (started said.0) plan refl (length-replicate said.0 false) behind in
           let here = ap p said.3 ∙ tells.first in
           rest ∙ ap (λ (b : Bool). b || any_line p texts) (tells.begins ∙ sym here)
       | false ↦ λ silent.
-          told_all q p texts plan quiet t (subst (λ (x : Option Draft). ReadsOn Plain texts x plan) (h.1.silent silent) h.2)
+          told_all q p texts plan quiet t (subst (λ (x : Option Draft). SaysOn texts x plan) (h.1.silent silent) h.2)
           ∙ ap (λ (b : Bool). b || any_line p texts) (sym (quiet (words_of text) silent))
     ] refl
 
@@ -175,8 +176,8 @@ line_names d (lines.Dormant i) worker few inside long follows =
           get_or-set_other d.plan.dormant i worker true false (λ e. differ (sym e)) ∙ or_none (get_or d.plan.dormant worker false) _ number
     ] refl
 
-pub named_by_lines : (bytes : List ℕ) (plan : Plan) (worker : ℕ) → Reads bytes plan → worker < plan.workers → is_dormant plan worker ≡ list_any (λ line. names_dormant worker (words_of line)) (lines_of bytes)
-named_by_lines bytes plan worker h inside =
+pub named_by_lines : (dialect : Dialect) (bytes : List ℕ) (plan : Plan) (worker : ℕ) → ReadsIn dialect bytes plan → worker < plan.workers → is_dormant plan worker ≡ list_any (λ line. names_dormant worker (words_of line)) (lines_of bytes)
+named_by_lines dialect bytes plan worker h inside =
     told_all (λ p. is_dormant p worker) (names_dormant worker) (lines_of bytes) plan (silent_names worker)
     (λ few. record {
       silent = silent_names worker;
@@ -184,7 +185,7 @@ named_by_lines bytes plan worker h inside =
       begins = no_worker plan.workers worker;
       line = λ d l count long follows. line_names d l worker (omega (arith, few, count)) (omega (arith, inside, count)) (omega (arith, long, count)) follows;
     })
-    h.lines
+    (on_says dialect (lines_of bytes) None plan h.lines)
 
 -- ---- any worker
 
@@ -206,8 +207,8 @@ line_begins d (lines.Dormant i) long follows =
     let below = ltb-true i d.plan.workers (dormant_follows d i follows).worker_is in
     one_waits d.plan.dormant i (omega (arith, below, long)) ∙ or_all (has_dormant d.plan) _ refl
 
-pub begun_by_lines : (bytes : List ℕ) (plan : Plan) → Reads bytes plan → has_dormant plan ≡ list_any (λ line. begins_dormant (words_of line)) (lines_of bytes)
-begun_by_lines bytes plan h =
+pub begun_by_lines : (dialect : Dialect) (bytes : List ℕ) (plan : Plan) → ReadsIn dialect bytes plan → has_dormant plan ≡ list_any (λ line. begins_dormant (words_of line)) (lines_of bytes)
+begun_by_lines dialect bytes plan h =
     told_all has_dormant begins_dormant (lines_of bytes) plan silent_begins
     (λ few. record {
       silent = silent_begins;
@@ -215,7 +216,7 @@ begun_by_lines bytes plan h =
       begins = nobody plan.workers;
       line = λ d l count long follows. line_begins d l (omega (arith, long, count)) follows;
     })
-    h.lines
+    (on_says dialect (lines_of bytes) None plan h.lines)
 
 -- nobody waits where each worker doesn't, and the other way round
 pub nobody_waits : (waiting : List Bool) (worker : ℕ) → list_any (λ waits. waits) waiting ≡ false → get_or waiting worker false ≡ false

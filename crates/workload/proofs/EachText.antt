@@ -1,11 +1,11 @@
 -- Each text is read or refused.
 use Rattle.std.proofs.Common.{◌≡◌, ℕ, ℤ, ◌+◌, ◌-◌, ◌≤◌, max, Bool, true, false, cond, eqb, ◌&&◌, not, List, [], ◌∷◌, ◌++◌, map, length, Option, Some, None, refl, sym, ap, subst, ◌∙◌, arith, inl, inr, ◌⊎◌}
-use Rattle.std.specs.Prelude.{nat_lt, nat_le, is_some, slice_get, codes, count_by}
+use Rattle.std.specs.Prelude.{nat_lt, nat_le, is_some, slice_get, codes, count_by, MatchOption}
 use Rattle.std.specs.List.{list_all, flat_map, AllByRecursion}
 use Rattle.std.specs.Fmt.{decimal, signed_decimal}
 use Rattle.std.specs.Option.{option_to_list, option_map_or}
 use Rattle.std.specs.Str.{bytes_eq}
-use Rattle.std.proofs.lemmas.Bool.{eqb-true, eq-eqb, ltb-true, leb-true, lt-ltb, cases_lt}
+use Rattle.std.proofs.lemmas.Bool.{eqb-true, eq-eqb, ltb-true, leb-true, le-leb, lt-ltb, cases_lt}
 use Rattle.std.proofs.lemmas.Slice.Eq.{bytes_eq-Decides}
 use Rattle.std.proofs.lemmas.List.{length-map}
 use Rattle.sync_types.specs.Name.{is_name}
@@ -22,6 +22,7 @@ use Rattle.sync_types.specs.declared.atomic_object.AtomicCall.TheVariants as ato
 use Rattle.sync_types.specs.declared.wait_call.CondCall.TheVariants as cond_calls
 use Rattle.sync_types.specs.declared.wait_call.WaitGroupCall.TheVariants as group_calls
 use Rattle.sync_types.specs.declared.pool_call.PoolCall.TheVariants as pool_calls
+use Rattle.sync_types.specs.declared.sema_call.SemaCall.TheVariants as sema_calls
 use Rattle.sync_types.specs.declared.lock_call.MutexCall.TheVariants as mutex_calls
 use Rattle.sync_types.specs.declared.lock_call.RwMutexCall.TheVariants as rw_mutex_calls
 use Rattle.sync_types.specs.SequentialAtomic.{has_bits, is_of}
@@ -33,7 +34,7 @@ use Rattle.workload.specs.declared.keyword.Verb.{Verb}
 use Rattle.workload.specs.declared.keyword.Verb.TheVariants as verbs
 use Rattle.workload.specs.declared.keyword.Operand.{Operand}
 use Rattle.workload.specs.declared.keyword.Operand.TheVariants as operands
-use Rattle.workload.specs.declared.limits.TheConstants.{MAX_ACCESSES, MAX_AMOUNT, MAX_CODE, MAX_RANGES, MAX_TURNS, MAX_WORKERS, MAX_INPUT}
+use Rattle.workload.specs.declared.limits.TheConstants.{MAX_ACCESSES, MAX_AMOUNT, MAX_CODE, MAX_RANGES, MAX_SIZE, MAX_TURNS, MAX_WORKERS, MAX_INPUT}
 use Rattle.sync_types.specs.declared.value.TheConstants.{MAX_VALUE}
 use Rattle.workload.specs.declared.object.Declared.{Declared}
 use Rattle.workload.specs.declared.object.ObjectKind.{ObjectKind}
@@ -52,22 +53,23 @@ use Rattle.workload.specs.Plan.{Plan, is_dormant, word_of, reference_of, is_targ
 use Rattle.workload.specs.Lines.{lines_of, words_of, is_short, is_clean, is_significant}
 use Rattle.workload.specs.KeywordWords.{keyword_word, keyword_at, verb_word}
 use Rattle.workload.specs.Dialect.{knows, keyword_in}
-use Rattle.workload.specs.NumberWords.{number_word, is_number, is_number_to, is_amount_word, is_passes, number_of}
+use Rattle.workload.specs.NumberWords.{number_word, is_number, is_number_to, is_amount_word, is_passes, is_weight, is_weight_word, number_of}
 use Rattle.workload.specs.CallWords.{verb_of, operands_of}
 use Rattle.workload.specs.Words.{spelled, keyword_of, kind_parameters, turn_word}
 use Rattle.workload.specs.Draft.{Draft, started, with_line, declared, may_follow, names_object, names_reference, is_kind, is_operation, is_value, is_item, is_range, operation_keys, names_second, may_start, tries_of, count_of, limit_of, range_count, is_access, access_count}
-use Rattle.workload.specs.Checks.{Check, first_failing, form_words, parameter_words, keys_among, map_form, bits_form, atomic_form, mutex_form, rw_mutex_form, cond_form, group_form, pool_form, var_form, form_of, parameters_of, parameters_checks, reference_checks, is_mutex, is_int64, is_atomic, awaited_number, wait_for_words, call_form, operand_checks, tries_among, ranges_in, accesses_in, limit_checks, form_checks, object_checks, worker_checks, start_checks, item_checks, line_checks, first_checks, word_checks, reason_of}
+use Rattle.workload.specs.Checks.{Check, first_failing, form_words, parameter_words, keys_among, map_form, bits_form, atomic_form, mutex_form, rw_mutex_form, cond_form, group_form, pool_form, sema_form, flight_form, var_form, parameters_of, parameters_checks, reference_checks, is_mutex, is_int64, is_atomic, awaited_number, wait_for_words, call_form, operand_checks, tries_among, ranges_in, accesses_in, limit_checks, form_checks, object_checks, worker_checks, start_checks, item_checks, line_checks, first_checks, word_checks, reason_of}
 use Rattle.workload.specs.Reads.{Continues, IsRead, ReadsOn, ReadsIn, FirstFault, IsRefusedIn}
-use Rattle.workload.proofs.Passing.{both, pair}
+use Rattle.workload.proofs.Passing.{both, pair, all_append}
+use Rattle.workload.proofs.Follows.{object_follows}
+use Rattle.workload.proofs.GoCalls.{all_get}
 use Rattle.workload.proofs.Keywords.{keyword_from, same_keyword, known_at}
-use Rattle.workload.proofs.CallWords.{number_read, number_said, signed_of, amount_said, passes_said, tries_said}
-use Rattle.workload.proofs.CallForms.{plain_form, call_passes, ranges_of, accesses_of}
+use Rattle.workload.proofs.CallWords.{number_read, number_said, signed_of, amount_said, passes_said, tries_said, weight_said}
+use Rattle.workload.proofs.CallForms.{alone_form, plain_form, call_passes, ranges_of, accesses_of}
 use Rattle.workload.proofs.Started.{alone_start, start_from}
 use Rattle.workload.proofs.Awaits.{alone_second}
 use Rattle.workload.proofs.DraftLemmas.{found_at}
 use Rattle.workload.proofs.FirstFailing.{PassesWith, form_passes}
 use Rattle.workload.proofs.Numbers.{decimal-number_of}
-use Rattle.workload.proofs.OneReading.{IsSmall, read_small}
 use Rattle.workload.proofs.Refuted.{something}
 
 -- ---- checks that all pass
@@ -96,6 +98,43 @@ number_words word is small = decimal-number_of word is (omega arith)
 
 not_both_ways : {X : Type 0} {b : Bool} → b ≡ true → b ≡ false → X
 not_both_ways t f = absurd cc
+
+-- ---- drafts
+
+-- a draft of at most 32 workers, whose objects have their numbers in range
+record IsFit (d : Draft) : Type 0 where
+  workers : d.plan.workers ≤ MAX_WORKERS
+  objects : list_all (λ object. is_kind object.kind) d.plan.objects ≡ true
+
+abbrev AreFit : Option Draft → Type 0
+AreFit draft = MatchOption draft (Unit {0}) IsFit
+
+one_fits : (d : Draft) (l : Line) → IsFit d → may_follow d l ≡ true → IsFit (with_line d l)
+one_fits d (lines.Object o to) h f = record {
+  workers = h.workers;
+  objects = all_append (λ (x : ObjectLine). is_kind x.kind) d.plan.objects (o ∷ []) h.objects (pair (is_kind o.kind) true (object_follows d o to f).kind refl);
+}
+one_fits d (lines.Dormant w) h f = record { workers = h.workers; objects = h.objects }
+one_fits d (lines.Worker w) h f = record { workers = h.workers; objects = h.objects }
+one_fits d (lines.Schedule ts) h f = record { workers = h.workers; objects = h.objects }
+one_fits d (lines.Call n r c) h f = record { workers = h.workers; objects = h.objects }
+
+said_fits : (dialect : Dialect) (before : Option Draft) (words : List (List ℕ)) (after : Option Draft) → AreFit before → Continues dialect before words after → AreFit after
+said_fits dialect None words after fits h = subst AreFit (sym h.4) (record { workers = h.2; objects = refl })
+said_fits dialect (Some d) words after fits h = subst AreFit (sym h.3) (one_fits d h.0 fits h.1)
+
+read_fits : (dialect : Dialect) (before : Option Draft) (line : List ℕ) (after : Option Draft) → AreFit before → IsRead dialect before line after → AreFit after
+read_fits dialect before line after fits h =
+    elim (is_significant (words_of line)) as (λ b. is_significant (words_of line) ≡ b → AreFit after) [
+      | true ↦ λ t. said_fits dialect before (words_of line) after fits (h.continues t)
+      | false ↦ λ f. subst AreFit (sym (h.silent f)) fits
+    ] refl
+
+-- what a name finds has its numbers in range
+found_fits : (d : Draft) (name : List ℕ) (found : Declared) → IsFit d → declared d name ≡ Some found → is_kind found.kind ≡ true
+found_fits d name found h is =
+    let there = found_at 0 name d.plan.objects found is in
+    subst (λ (k : ObjectKind). is_kind k ≡ true) there.3 (all_get (λ (x : ObjectLine). is_kind x.kind) d.plan.objects (found.place - 0) there.0 h.objects there.2)
 
 -- ---- lines
 
@@ -189,6 +228,16 @@ bounded_said d most (word ∷ []) small h =
     (number_of word, parts.1, ap (λ (w : List ℕ). w ∷ []) (sym (number_words word parts.0 (omega arith))))
 bounded_said d most (word ∷ other ∷ words) small h = absurd (omega (arith, eqb-true (length (word ∷ other ∷ words)) 1 (all_pass ((eqb (length (word ∷ other ∷ words)) 1, WrongNumberOfWords) ∷ parameters_checks d (parameters.Number most ∷ []) (word ∷ other ∷ words)) h).0))
 
+-- a size alone
+size_said : (d : Draft) (words : List (List ℕ)) → first_failing ((eqb (length words) 1, WrongNumberOfWords) ∷ parameters_checks d (parameters.Size ∷ []) words) ≡ None
+    → (n : ℕ) × (is_weight MAX_SIZE n ≡ true) × (words ≡ decimal n ∷ [])
+size_said d [] h = absurd cc
+size_said d (word ∷ []) h =
+    let all = all_pass ((true, WrongNumberOfWords) ∷ (is_weight_word MAX_SIZE word, BadNumber) ∷ []) h in
+    let said = weight_said MAX_SIZE word (omega arith) all.1.0 in
+    (number_of word, said.0, ap (λ (w : List ℕ). w ∷ []) (sym said.1))
+size_said d (word ∷ other ∷ words) h = absurd (omega (arith, eqb-true (length (word ∷ other ∷ words)) 1 (all_pass ((eqb (length (word ∷ other ∷ words)) 1, WrongNumberOfWords) ∷ parameters_checks d (parameters.Size ∷ []) (word ∷ other ∷ words)) h).0))
+
 -- the name of an object whose kind passes a test
 reference_said : (d : Draft) (test : ObjectKind → Bool) (name : List ℕ) → first_failing (reference_checks d test name) ≡ None → (found : Declared) × (is_name name ≡ true) × (declared d name ≡ Some found) × (test found.kind ≡ true)
 reference_said d test name h =
@@ -203,8 +252,8 @@ mutex_target : (k : ObjectKind) (place : ℕ) → is_mutex k ≡ true → is_tar
 mutex_target kinds.Mutex place h = refl
 mutex_target k place h = absurd cc
 
-int64_target : (k : ObjectKind) (place : ℕ) (z : ℤ) → is_int64 k ≡ true → is_target (kinds.Once place z) k ≡ true
-int64_target (kinds.Atomic types.Int64) place z h = refl
+int64_target : (k : ObjectKind) (place : ℕ) (z : ℤ) → is_int64 k ≡ true → (is_target (kinds.Once place z) k ≡ true) × (is_target (kinds.Flight place z) k ≡ true)
+int64_target (kinds.Atomic types.Int64) place z h = (refl, refl)
 int64_target k place z h = absurd cc
 
 -- a name that is declared so is that of what an object refers to
@@ -220,19 +269,39 @@ cond_said d (name ∷ []) h =
     (kinds.Cond place, Some name, refl, named, refl, refl)
 cond_said d (name ∷ other ∷ words) h = absurd (omega (arith, eqb-true (length (name ∷ other ∷ words)) 1 (all_pass (parameter_words d object_words.Cond (name ∷ other ∷ words)) h).0))
 
-once_said : (d : Draft) (words : List (List ℕ)) → first_failing (parameter_words d object_words.Once words) ≡ None → KindSaid d object_words.Once words
-once_said d [] h = absurd cc
-once_said d (name ∷ []) h = absurd cc
-once_said d (name ∷ amount ∷ []) h =
+-- what a once and a group of flights add, and to which int64
+record AddsTo (d : Draft) (words : List (List ℕ)) : Type 0 where
+  name : List ℕ
+  found : Declared
+  amount : ℤ
+  named : is_name name ≡ true
+  is : declared d name ≡ Some found
+  int64 : is_int64 found.kind ≡ true
+  fits : is_amount amount ≡ true
+  said : words ≡ name ∷ signed_decimal amount ∷ []
+
+adds_to : (d : Draft) (words : List (List ℕ)) → first_failing ((eqb (length words) 2, WrongNumberOfWords) ∷ parameters_checks d (parameters.Int64 ∷ parameters.Amount ∷ []) words) ≡ None → AddsTo d words
+adds_to d [] h = absurd cc
+adds_to d (name ∷ []) h = absurd cc
+adds_to d (name ∷ amount ∷ []) h =
     let amounts : List Check = (is_amount_word amount, BadNumber) ∷ [] in
     let parts = both_pass (reference_checks d is_int64 name) amounts h in
     let to = reference_said d is_int64 name parts.0 in
-    let said = amount_said amount (all_pass amounts parts.1).0 in
-    let place = to.0.place in
-    let z = signed_of amount in
-    let named = names_it d (kinds.Once place z) name to.0 refl to.1 to.2 (int64_target to.0.kind place z to.3) in
-    (kinds.Once place z, Some name, refl, named, said.0, ap (λ (w : List ℕ). name ∷ w ∷ []) (sym said.1))
-once_said d (name ∷ amount ∷ other ∷ words) h = absurd (omega (arith, eqb-true (length (name ∷ amount ∷ other ∷ words)) 2 (all_pass (parameter_words d object_words.Once (name ∷ amount ∷ other ∷ words)) h).0))
+    let spelled = amount_said amount (all_pass amounts parts.1).0 in
+    record { name = name; found = to.0; amount = signed_of amount; named = to.1; is = to.2; int64 = to.3; fits = spelled.0; said = ap (λ (w : List ℕ). name ∷ w ∷ []) (sym spelled.1) }
+adds_to d (name ∷ amount ∷ other ∷ words) h = absurd (omega (arith, eqb-true (length (name ∷ amount ∷ other ∷ words)) 2 (all_pass ((eqb (length (name ∷ amount ∷ other ∷ words)) 2, WrongNumberOfWords) ∷ parameters_checks d (parameters.Int64 ∷ parameters.Amount ∷ []) (name ∷ amount ∷ other ∷ words)) h).0))
+
+once_said : (d : Draft) (words : List (List ℕ)) → first_failing (parameter_words d object_words.Once words) ≡ None → KindSaid d object_words.Once words
+once_said d words h =
+    let to = adds_to d words h in
+    let kind = kinds.Once to.found.place to.amount in
+    (kind, Some to.name, refl, names_it d kind to.name to.found refl to.named to.is (int64_target to.found.kind to.found.place to.amount to.int64).0, to.fits, to.said)
+
+flight_said : (d : Draft) (words : List (List ℕ)) → first_failing (parameter_words d object_words.Flight words) ≡ None → KindSaid d object_words.Flight words
+flight_said d words h =
+    let to = adds_to d words h in
+    let kind = kinds.Flight to.found.place to.amount in
+    (kind, Some to.name, refl, names_it d kind to.name to.found refl to.named to.is (int64_target to.found.kind to.found.place to.amount to.int64).1, to.fits, to.said)
 
 parameters_said : (d : Draft) (word : ObjectWord) (ws : List (List ℕ)) → first_failing (parameter_words d word ws) ≡ None → KindSaid d word ws
 parameters_said d object_words.Map ws h = (kinds.Map, None, refl, refl, refl, no_words_said ws h)
@@ -245,6 +314,8 @@ parameters_said d object_words.Once ws h = once_said d ws h
 parameters_said d object_words.OnceFunc ws h = let n = bounded_said d MAX_CODE ws (omega arith) h in (kinds.OnceFunc n.0, None, refl, refl, n.1, n.2)
 parameters_said d object_words.OnceValue ws h = let n = bounded_said d MAX_VALUE ws (omega arith) h in (kinds.OnceValue n.0, None, refl, refl, n.1, n.2)
 parameters_said d object_words.Pool ws h = (kinds.Pool, None, refl, refl, refl, no_words_said ws h)
+parameters_said d object_words.Sema ws h = let n = size_said d ws h in (kinds.Sema n.0, None, refl, refl, n.1, n.2)
+parameters_said d object_words.Flight ws h = flight_said d ws h
 parameters_said d object_words.Var ws h = (kinds.Var, None, refl, refl, refl, no_words_said ws h)
 
 -- a check that passes before others that do
@@ -442,24 +513,50 @@ pool_spelled d verbs.Get words h = (operations.Pool pool_calls.Get, refl, sym (n
 pool_spelled d verbs.Sweep words h = (operations.Pool pool_calls.Sweep, refl, sym (none_said d words h), refl, refl)
 pool_spelled d verb words h = something h
 
+weight_alone_said : (d : Draft) (most : ℕ) (words : List (List ℕ)) → most ≤ MAX_SIZE → first_failing (form_words d (Some (operands.Weight most ∷ [])) words) ≡ None → (n : ℕ) × (is_weight most n ≡ true) × (words ≡ decimal n ∷ [])
+weight_alone_said d most [] fits h = absurd cc
+weight_alone_said d most (w ∷ []) fits h =
+    let all = all_pass (form_words d (Some (operands.Weight most ∷ [])) (w ∷ [])) h in
+    let said = weight_said most w fits all.1.0 in
+    (number_of w, said.0, ap (λ (x : List ℕ). x ∷ []) (sym said.1))
+weight_alone_said d most (w ∷ other ∷ words) fits h = absurd (omega (arith, eqb-true (length (w ∷ other ∷ words)) 1 (all_pass (form_words d (Some (operands.Weight most ∷ [])) (w ∷ other ∷ words)) h).0))
+
+-- a weight of a semaphore is no more than the greatest size
+weight_fits : (size n : ℕ) → size ≤ MAX_SIZE → is_weight size n ≡ true → is_weight MAX_SIZE n ≡ true
+weight_fits size n fits h =
+    let parts = both (nat_lt 0 n) (nat_le n size) h in
+    pair (nat_lt 0 n) (nat_le n MAX_SIZE) parts.0 (le-leb n MAX_SIZE (omega (arith, fits, leb-true n size parts.1)))
+
+sema_spelled : (d : Draft) (size : ℕ) (verb : Verb) (words : List (List ℕ)) → size ≤ MAX_SIZE → first_failing (form_words d (sema_form size verb) words) ≡ None → Spelled (kinds.Sema size) verb words
+sema_spelled d size verbs.Acquire words fits h = let said = weight_alone_said d size words fits h in (operations.Sema (sema_calls.Acquire said.0), refl, sym said.2, said.1, weight_fits size said.0 fits said.1)
+sema_spelled d size verbs.TryAcquire words fits h = let said = weight_alone_said d size words fits h in (operations.Sema (sema_calls.TryAcquire said.0), refl, sym said.2, said.1, weight_fits size said.0 fits said.1)
+sema_spelled d size verbs.Release words fits h = let said = weight_alone_said d size words fits h in (operations.Sema (sema_calls.Release said.0), refl, sym said.2, said.1, weight_fits size said.0 fits said.1)
+sema_spelled d size verb words fits h = something h
+
+flight_spelled : (d : Draft) (a : ℕ) (z : ℤ) (verb : Verb) (words : List (List ℕ)) → first_failing (form_words d (flight_form verb) words) ≡ None → Spelled (kinds.Flight a z) verb words
+flight_spelled d a z verbs.Fly words h = let said = key_said d words h in (operations.Fly said.0, refl, sym said.2, refl, said.1)
+flight_spelled d a z verb words h = something h
+
 var_spelled : (d : Draft) (verb : Verb) (words : List (List ℕ)) → first_failing (form_words d (var_form verb) words) ≡ None → Spelled kinds.Var verb words
 var_spelled d verbs.Read words h = (operations.Var var_calls.Read, refl, sym (none_said d words h), refl, refl)
 var_spelled d verbs.Write words h = let said = item_alone_said d words h in (operations.Var (var_calls.Write said.0), refl, sym said.2, refl, said.1)
 var_spelled d verb words h = something h
 
-spelled_on : (d : Draft) (kind : ObjectKind) (verb : Verb) (words : List (List ℕ)) → first_failing (form_words d (form_of verb (word_of kind)) words) ≡ None → Spelled kind verb words
-spelled_on d kinds.Map verb words h = map_spelled d verb words h
-spelled_on d (kinds.Atomic kind) verb words h = atomic_spelled d kind verb words h
-spelled_on d kinds.Mutex verb words h = mutex_spelled d verb words h
-spelled_on d kinds.RwMutex verb words h = rw_mutex_spelled d verb words h
-spelled_on d (kinds.Cond m) verb words h = cond_spelled d m verb words h
-spelled_on d (kinds.WaitGroup n) verb words h = group_spelled d n verb words h
-spelled_on d (kinds.Once a z) verbs.Do words h = (operations.Once, refl, sym (none_said d words h), refl, refl)
-spelled_on d (kinds.OnceFunc n) verbs.Call words h = (operations.OnceFunc, refl, sym (none_said d words h), refl, refl)
-spelled_on d (kinds.OnceValue n) verbs.Value words h = (operations.OnceValue, refl, sym (none_said d words h), refl, refl)
-spelled_on d kinds.Pool verb words h = pool_spelled d verb words h
-spelled_on d kinds.Var verb words h = var_spelled d verb words h
-spelled_on d kind verb words h = something h
+spelled_on : (d : Draft) (kind : ObjectKind) (verb : Verb) (words : List (List ℕ)) → is_kind kind ≡ true → first_failing (form_words d (alone_form verb kind) words) ≡ None → Spelled kind verb words
+spelled_on d kinds.Map verb words fits h = map_spelled d verb words h
+spelled_on d (kinds.Atomic kind) verb words fits h = atomic_spelled d kind verb words h
+spelled_on d kinds.Mutex verb words fits h = mutex_spelled d verb words h
+spelled_on d kinds.RwMutex verb words fits h = rw_mutex_spelled d verb words h
+spelled_on d (kinds.Cond m) verb words fits h = cond_spelled d m verb words h
+spelled_on d (kinds.WaitGroup n) verb words fits h = group_spelled d n verb words h
+spelled_on d (kinds.Once a z) verbs.Do words fits h = (operations.Once, refl, sym (none_said d words h), refl, refl)
+spelled_on d (kinds.OnceFunc n) verbs.Call words fits h = (operations.OnceFunc, refl, sym (none_said d words h), refl, refl)
+spelled_on d (kinds.OnceValue n) verbs.Value words fits h = (operations.OnceValue, refl, sym (none_said d words h), refl, refl)
+spelled_on d kinds.Pool verb words fits h = pool_spelled d verb words h
+spelled_on d (kinds.Sema n) verb words fits h = sema_spelled d n verb words (leb-true n MAX_SIZE (both (nat_lt 0 n) (nat_le n MAX_SIZE) fits).1) h
+spelled_on d (kinds.Flight a z) verb words fits h = flight_spelled d a z verb words h
+spelled_on d kinds.Var verb words fits h = var_spelled d verb words h
+spelled_on d kind verb words fits h = something h
 
 -- the call with its second name, if it has one
 abbrev SpelledAmong : Draft → ObjectKind → Verb → List (List ℕ) → Type 0
@@ -472,9 +569,9 @@ alone_among objects (kinds.Cond m) (operations.Composed (WaitFor a v n)) h = abs
 alone_among objects (kinds.WaitGroup n) (operations.Composed (Go w)) h = absurd cc
 alone_among objects kind o h = h
 
-alone_spelled : (d : Draft) (kind : ObjectKind) (verb : Verb) (words : List (List ℕ)) → first_failing (form_words d (form_of verb (word_of kind)) words) ≡ None → SpelledAmong d kind verb words
-alone_spelled d kind verb words h =
-    let said = spelled_on d kind verb words h in
+alone_spelled : (d : Draft) (kind : ObjectKind) (verb : Verb) (words : List (List ℕ)) → is_kind kind ≡ true → first_failing (form_words d (alone_form verb kind) words) ≡ None → SpelledAmong d kind verb words
+alone_spelled d kind verb words fits h =
+    let said = spelled_on d kind verb words fits h in
     let second : names_second d said.0 None ≡ true = rw (alone_second kind said.0 said.3).0 refl in
     (None, said.0, said.1, said.2, alone_among d.plan.objects kind said.0 said.3, second, alone_start d kind said.0 said.3, said.4)
 
@@ -533,28 +630,28 @@ go_spelled d n (word ∷ []) few h =
     (None, operations.Composed (Go (number_of word)), refl, ap (λ (w : List ℕ). w ∷ []) number.1, refl, refl, may, lt-ltb (number_of word) MAX_WORKERS (omega (arith, ltb-true (number_of word) d.plan.workers number.0)))
 go_spelled d n (word ∷ other ∷ words) few h = absurd (omega (arith, eqb-true (length (word ∷ other ∷ words)) 1 (all_pass (form_words d (Some (operands.Worker ∷ [])) (word ∷ other ∷ words)) h).0))
 
-spelled_among : (d : Draft) (kind : ObjectKind) (verb : Verb) (words : List (List ℕ)) → d.plan.workers ≤ MAX_WORKERS → first_failing (form_words d (call_form d verb (word_of kind) words) words) ≡ None → SpelledAmong d kind verb words
-spelled_among d (kinds.Cond m) verbs.WaitFor words few h = wait_spelled d m words h
-spelled_among d (kinds.WaitGroup n) verbs.Go words few h = go_spelled d n words few h
-spelled_among d kind verb words few h =
-    alone_spelled d kind verb words (subst (λ (f : Option (List Operand)). first_failing (form_words d f words) ≡ None) (plain_form d verb (word_of kind) words (λ v w. cc) (λ v w. cc)) h)
+spelled_among : (d : Draft) (kind : ObjectKind) (verb : Verb) (words : List (List ℕ)) → d.plan.workers ≤ MAX_WORKERS → is_kind kind ≡ true → first_failing (form_words d (call_form d verb kind words) words) ≡ None → SpelledAmong d kind verb words
+spelled_among d (kinds.Cond m) verbs.WaitFor words few fits h = wait_spelled d m words h
+spelled_among d (kinds.WaitGroup n) verbs.Go words few fits h = go_spelled d n words few h
+spelled_among d kind verb words few fits h =
+    alone_spelled d kind verb words fits (subst (λ (f : Option (List Operand)). first_failing (form_words d f words) ≡ None) (plain_form d verb kind words (λ v w. cc) (λ v w. cc)) h)
 
 -- the checks of the operands alone
 operands_pass : (d : Draft) (verb : Verb) (form : Option (List Operand)) (words : List (List ℕ)) → first_failing (form_checks d verb form words) ≡ None → first_failing (form_words d form words) ≡ None
 operands_pass d verb form words h = (both_pass (form_words d form words) (limit_checks d (keys_among form words) (ranges_in verb) (tries_among form words) (accesses_in verb)) h).0
 
-kind_said : (d : Draft) (name : List ℕ) (place : ℕ) (kind : ObjectKind) → declared d name ≡ Some (record { place = place; kind = kind }) → d.plan.workers ≤ MAX_WORKERS → is_some d.current ≡ true → is_name name ≡ true → (verb : Verb) (words : List (List ℕ))
-    → first_failing (form_checks d verb (call_form d verb (word_of kind) words) words) ≡ None → CallSaid d name verb words
-kind_said d name place kind at few current named verb words h =
-    let form = call_form d verb (word_of kind) words in
-    let said = spelled_among d kind verb words few (operands_pass d verb form words h) in
+kind_said : (d : Draft) (name : List ℕ) (place : ℕ) (kind : ObjectKind) → declared d name ≡ Some (record { place = place; kind = kind }) → IsFit d → is_some d.current ≡ true → is_name name ≡ true → (verb : Verb) (words : List (List ℕ))
+    → first_failing (form_checks d verb (call_form d verb kind words) words) ≡ None → CallSaid d name verb words
+kind_said d name place kind at fits current named verb words h =
+    let form = call_form d verb kind words in
+    let said = spelled_among d kind verb words fits.workers (found_fits d name (record { place = place; kind = kind }) fits at) (operands_pass d verb form words h) in
     let o = said.1 in
     let c : Call = record { object = place; operation = o } in
     let keys = operation_keys o in
     let tries = tries_of o in
     let passes : PassesWith d form words keys tries =
-    subst (λ (ws : List (List ℕ)). PassesWith d (call_form d verb (word_of kind) ws) ws keys tries) said.3
-    (subst (λ (v : Verb). PassesWith d (call_form d v (word_of kind) (option_to_list said.0 ++ operands_of o)) (option_to_list said.0 ++ operands_of o) keys tries) said.2 (call_passes d kind said.0 o said.4 said.5 said.6 said.7)) in
+    subst (λ (ws : List (List ℕ)). PassesWith d (call_form d verb kind ws) ws keys tries) said.3
+    (subst (λ (v : Verb). PassesWith d (call_form d v kind (option_to_list said.0 ++ operands_of o)) (option_to_list said.0 ++ operands_of o) keys tries) said.2 (call_passes d kind said.0 o said.4 said.5 said.6 said.7)) in
     let limits = all_pass (limit_checks d keys (ranges_in verb) tries (accesses_in verb)) (sym (form_passes d verb form words keys tries passes) ∙ h) in
     let on : names_object d.plan.objects (declared d name) c ≡ true = rw at (pair (eqb place place) (has_among d.plan.objects kind o) (eq-eqb place place refl) said.4) in
     let many : ranges_in verb ≡ count_by is_range (c ∷ []) = ap ranges_in (sym said.2) ∙ sym (ranges_of o) in
@@ -563,13 +660,13 @@ kind_said d name place kind at few current named verb words h =
     let accesses : nat_le (access_count d.plan.scripts + count_by is_access (c ∷ [])) MAX_ACCESSES ≡ true = ap (λ (n : ℕ). nat_le (access_count d.plan.scripts + n) MAX_ACCESSES) (sym plain) ∙ limits.1.1.1.1.0 in
     (said.0, c, said.2, said.3, rw (current, named, on, said.5, said.7, said.6, limits.0, limits.1.0, ranges, limits.1.1.1.0, accesses) refl)
 
-call_said : (d : Draft) (verb : Verb) (words : List (List ℕ)) → d.plan.workers ≤ MAX_WORKERS → first_failing (line_checks d (Some (keywords.Call verb)) words) ≡ None → Said d (keyword_word (keywords.Call verb) ∷ words)
-call_said d verb [] few h = absurd (no_words d.current h)
+call_said : (d : Draft) (verb : Verb) (words : List (List ℕ)) → IsFit d → first_failing (line_checks d (Some (keywords.Call verb)) words) ≡ None → Said d (keyword_word (keywords.Call verb) ∷ words)
+call_said d verb [] fits h = absurd (no_words d.current h)
   where
     no_words : (current : Option ℕ) → first_failing ((is_some current, CallOutsideWorker) ∷ (false, WrongNumberOfWords) ∷ []) ≡ None → ⊥
     no_words None h = cc
     no_words (Some w) h = cc
-call_said d verb (name ∷ words) few h =
+call_said d verb (name ∷ words) fits h =
     let one = both_pass ((is_some d.current, CallOutsideWorker) ∷ (is_name name, BadName) ∷ []) (object_checks d (declared d name) verb words) h in
     let front = all_pass ((is_some d.current, CallOutsideWorker) ∷ (is_name name, BadName) ∷ []) one.0 in
     found_said (declared d name) refl front.0 front.1.0 one.1
@@ -577,17 +674,17 @@ call_said d verb (name ∷ words) few h =
     found_said : (o : Option Declared) → declared d name ≡ o → is_some d.current ≡ true → is_name name ≡ true → first_failing (object_checks d o verb words) ≡ None → Said d (keyword_word (keywords.Call verb) ∷ name ∷ words)
     found_said None is current named h = absurd cc
     found_said (Some found) is current named h =
-        let said = kind_said d name found.place found.kind is few current named verb words h in
+        let said = kind_said d name found.place found.kind is fits current named verb words h in
         (lines.Call name said.0 said.1, said.4, ap (λ (v : Verb). verb_word v ∷ name ∷ words) (sym said.2) ∙ ap (λ (ws : List (List ℕ)). verb_word (verb_of said.1.operation) ∷ name ∷ ws) (sym said.3))
 
-line_said : (d : Draft) (word : List ℕ) (k : Option Keyword) (words : List (List ℕ)) → d.plan.workers ≤ MAX_WORKERS → keyword_at word ≡ k → first_failing (line_checks d k words) ≡ None → Said d (word ∷ words)
-line_said d word None words few is h = absurd cc
-line_said d word (Some keywords.Workers) words few is h = absurd cc
-line_said d word (Some (keywords.Object kind)) words few is h = said_as d word (keywords.Object kind) words is (object_said d kind words h)
-line_said d word (Some keywords.Dormant) words few is h = said_as d word keywords.Dormant words is (dormant_said d words few h)
-line_said d word (Some keywords.Worker) words few is h = said_as d word keywords.Worker words is (worker_said d words few h)
-line_said d word (Some keywords.Schedule) words few is h = said_as d word keywords.Schedule words is (schedule_said d words few h)
-line_said d word (Some (keywords.Call verb)) words few is h = said_as d word (keywords.Call verb) words is (call_said d verb words few h)
+line_said : (d : Draft) (word : List ℕ) (k : Option Keyword) (words : List (List ℕ)) → IsFit d → keyword_at word ≡ k → first_failing (line_checks d k words) ≡ None → Said d (word ∷ words)
+line_said d word None words fits is h = absurd cc
+line_said d word (Some keywords.Workers) words fits is h = absurd cc
+line_said d word (Some (keywords.Object kind)) words fits is h = said_as d word (keywords.Object kind) words is (object_said d kind words h)
+line_said d word (Some keywords.Dormant) words fits is h = said_as d word keywords.Dormant words is (dormant_said d words fits.workers h)
+line_said d word (Some keywords.Worker) words fits is h = said_as d word keywords.Worker words is (worker_said d words fits.workers h)
+line_said d word (Some keywords.Schedule) words fits is h = said_as d word keywords.Schedule words is (schedule_said d words fits.workers h)
+line_said d word (Some (keywords.Call verb)) words fits is h = said_as d word (keywords.Call verb) words is (call_said d verb words fits h)
 
 first_said : (dialect : Dialect) (word : List ℕ) (words : List (List ℕ)) → first_failing (first_checks word words) ≡ None → (after : Option Draft) × Continues dialect None (word ∷ words) after
 first_said dialect word [] h = absurd (no_words (bytes_eq word (codes "workers")) h)
@@ -616,10 +713,10 @@ first_said dialect word (number ∷ other ∷ words) h = absurd (too_many (bytes
     too_many true h = cc
     too_many false h = cc
 
-words_said : (dialect : Dialect) (before : Option Draft) (words : List (List ℕ)) → IsSmall before → is_significant words ≡ true → first_failing (word_checks dialect before words) ≡ None → (after : Option Draft) × Continues dialect before words after
-words_said dialect before [] small says h = absurd cc
-words_said dialect None (word ∷ words) small says h = first_said dialect word words h
-words_said dialect (Some d) (word ∷ words) small says h = at (keyword_in dialect word) refl h
+words_said : (dialect : Dialect) (before : Option Draft) (words : List (List ℕ)) → AreFit before → is_significant words ≡ true → first_failing (word_checks dialect before words) ≡ None → (after : Option Draft) × Continues dialect before words after
+words_said dialect before [] fits says h = absurd cc
+words_said dialect None (word ∷ words) fits says h = first_said dialect word words h
+words_said dialect (Some d) (word ∷ words) fits says h = at (keyword_in dialect word) refl h
   where
     heads : (x y : List ℕ) (xs ys : List (List ℕ)) → x ∷ xs ≡ y ∷ ys → x ≡ y
     heads x y xs ys e = cc
@@ -628,19 +725,19 @@ words_said dialect (Some d) (word ∷ words) small says h = at (keyword_in diale
     at None is h = absurd cc
     at (Some k) is h =
         let known = known_at dialect word k is in
-        let said = line_said d word (Some k) words small known.0 h in
+        let said = line_said d word (Some k) words fits known.0 h in
         let same = same_keyword (keyword_of said.0) k (sym (heads word _ words _ said.2) ∙ keyword_from word k known.0) in
         (Some (with_line d said.0), (said.0, said.1, said.2, refl, ap (knows dialect) same ∙ known.1))
 
 -- a line that passes all its checks is read
-line_reads : (dialect : Dialect) (before : Option Draft) (line : List ℕ) → IsSmall before → reason_of dialect before line ≡ None → (after : Option Draft) × IsRead dialect before line after
-line_reads dialect before line small h =
+line_reads : (dialect : Dialect) (before : Option Draft) (line : List ℕ) → AreFit before → reason_of dialect before line ≡ None → (after : Option Draft) × IsRead dialect before line after
+line_reads dialect before line fits h =
     let front : List Check = (is_short line, LineTooLong) ∷ (is_clean line, BadByte) ∷ [] in
     let one = both_pass front (cond (is_significant (words_of line)) (word_checks dialect before (words_of line)) []) h in
     let good = all_pass front one.0 in
     elim (is_significant (words_of line)) as (λ b. is_significant (words_of line) ≡ b → first_failing (cond b (word_checks dialect before (words_of line)) []) ≡ None → (after : Option Draft) × IsRead dialect before line after) [
       | true ↦ λ t e.
-          let said = words_said dialect before (words_of line) small t e in
+          let said = words_said dialect before (words_of line) fits t e in
           (said.0, record { short = good.0; clean = good.1.0; silent = λ f. not_both_ways t f; continues = λ _. said.1 })
       | false ↦ λ f e. (before, record { short = good.0; clean = good.1.0; silent = λ _. refl; continues = λ t. not_both_ways t f })
     ] refl one.1
@@ -648,15 +745,15 @@ line_reads dialect before line small h =
 abbrev IsReadOrRefused : Dialect → List (List ℕ) → Option Draft → ℕ → Type 0
 IsReadOrRefused dialect lines before next = ((plan : Plan) × ReadsOn dialect lines before plan) ⊎ ((line : ℕ) × (reason : Reason) × FirstFault dialect lines before next line reason)
 
-lines_end : (dialect : Dialect) (lines : List (List ℕ)) (before : Option Draft) (next : ℕ) → IsSmall before → IsReadOrRefused dialect lines before next
-lines_end dialect [] None next small = inr (max 1 (next - 1), NoWorkersLine, (refl, refl))
-lines_end dialect [] (Some d) next small = inl (d.plan, refl)
-lines_end dialect (line ∷ lines) before next small =
+lines_end : (dialect : Dialect) (lines : List (List ℕ)) (before : Option Draft) (next : ℕ) → AreFit before → IsReadOrRefused dialect lines before next
+lines_end dialect [] None next fits = inr (max 1 (next - 1), NoWorkersLine, (refl, refl))
+lines_end dialect [] (Some d) next fits = inl (d.plan, refl)
+lines_end dialect (line ∷ lines) before next fits =
     elim (reason_of dialect before line) as (λ r. reason_of dialect before line ≡ r → IsReadOrRefused dialect (line ∷ lines) before next) [
       | Some reason ↦ λ is. inr (next, reason, inl (refl, is))
       | None ↦ λ is.
-          let read = line_reads dialect before line small is in
-          elim (lines_end dialect lines read.0 (next + 1) (read_small dialect before line read.0 small read.1)) [
+          let read = line_reads dialect before line fits is in
+          elim (lines_end dialect lines read.0 (next + 1) (read_fits dialect before line read.0 fits read.1)) [
             | inl rest ↦ inl (rest.0, (read.0, read.1, rest.1))
             | inr fault ↦ inr (fault.0, fault.1, inr (read.0, read.1, fault.2))
           ]

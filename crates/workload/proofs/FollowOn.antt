@@ -5,7 +5,6 @@ use Rattle.std.specs.Fmt.{decimal}
 use Rattle.std.proofs.lemmas.Bool.{le-leb}
 use Rattle.std.proofs.lemmas.List.{length-append}
 use Rattle.sync_types.specs.declared.atomic_object.AtomicKind.TheVariants as types
-use Rattle.workload.specs.declared.keyword.Dialect.TheVariants.{Races}
 use Rattle.workload.specs.declared.keyword.Keyword.{Keyword}
 use Rattle.workload.specs.declared.keyword.Keyword.TheVariants as keywords
 use Rattle.workload.specs.declared.keyword.Verb.TheVariants as verbs
@@ -16,9 +15,9 @@ use Rattle.workload.specs.Lines.{lines_of, words_of, is_clean, is_significant}
 use Rattle.workload.specs.KeywordWords.{keyword_word}
 use Rattle.workload.specs.Words.{spelled, first_spelled, keyword_of, arguments_of}
 use Rattle.workload.specs.Draft.{Draft, started, with_line, may_follow}
-use Rattle.workload.specs.Reads.{Continues, IsRead, ReadsOn}
 use Rattle.workload.specs.Canonical.{text_line, lines_text}
 use Rattle.workload.proofs.OneReading.{line_small}
+use Rattle.workload.proofs.Says.{Says, IsSaid, SaysOn}
 use Rattle.workload.proofs.LineTexts.{words_of-join, is_clean-join, lines_of-line, FitsLine, IsNarrow, line_fits, filled_pair}
 
 -- the lines may follow one another, from one draft to another
@@ -50,6 +49,8 @@ significant (keywords.Object words.Once) rest = refl
 significant (keywords.Object words.OnceFunc) rest = refl
 significant (keywords.Object words.OnceValue) rest = refl
 significant (keywords.Object words.Pool) rest = refl
+significant (keywords.Object words.Sema) rest = refl
+significant (keywords.Object words.Flight) rest = refl
 significant (keywords.Object words.Var) rest = refl
 significant keywords.Dormant rest = refl
 significant keywords.Worker rest = refl
@@ -86,35 +87,39 @@ significant (keywords.Call verbs.Sweep) rest = refl
 significant (keywords.Call verbs.IfEqual) rest = refl
 significant (keywords.Call verbs.WaitFor) rest = refl
 significant (keywords.Call verbs.Go) rest = refl
+significant (keywords.Call verbs.Acquire) rest = refl
+significant (keywords.Call verbs.TryAcquire) rest = refl
+significant (keywords.Call verbs.Release) rest = refl
+significant (keywords.Call verbs.Fly) rest = refl
 significant (keywords.Call verbs.Read) rest = refl
 significant (keywords.Call verbs.Write) rest = refl
 
 not_silent : {X : Type 0} (b : Bool) → b ≡ true → b ≡ false → X
 not_silent b t f = absurd cc
 
--- a line of words that fit is read as what the words say
-line_reads : (before after : Option Draft) (word : List ℕ) (words : List (List ℕ)) → FitsLine (word ∷ words) → is_significant (word ∷ words) ≡ true → Continues Races before (word ∷ words) after → IsRead Races before (join_with_byte 32 (word ∷ words)) after
-line_reads before after word words fits says h =
+-- a line of words that fit says what the words say
+line_says : (before after : Option Draft) (word : List ℕ) (words : List (List ℕ)) → FitsLine (word ∷ words) → is_significant (word ∷ words) ≡ true → Says before (word ∷ words) after → IsSaid before (join_with_byte 32 (word ∷ words)) after
+line_says before after word words fits says h =
     let cut = words_of-join word words fits.all in
     let speaks : is_significant (words_of (join_with_byte 32 (word ∷ words))) ≡ true = ap is_significant cut ∙ says in
     record {
       short = le-leb (length (join_with_byte 32 (word ∷ words))) MAX_LINE fits.short;
       clean = is_clean-join (word ∷ words) fits.all;
       silent = λ quiet. not_silent _ speaks quiet;
-      continues = λ t. subst (λ (ws : List (List ℕ)). Continues Races before ws after) (sym cut) h;
+      says = λ t. subst (λ (ws : List (List ℕ)). Says before ws after) (sym cut) h;
     }
 
 text_cut : (words : List (List ℕ)) (rest : List ℕ) → is_clean (join_with_byte 32 words) ≡ true → lines_of (text_line words ++ rest) ≡ join_with_byte 32 words ∷ lines_of rest
 text_cut words rest clean = ap lines_of (append_assoc (join_with_byte 32 words) (10 ∷ []) rest) ∙ lines_of-line (join_with_byte 32 words) rest clean
 
--- the text of lines that follow one another is read as them, in race texts
-pub reads_text : (ls : List Line) (d e : Draft) → d.plan.workers ≤ MAX_WORKERS → FollowOn d ls e → ReadsOn Races (lines_of (lines_text ls)) (Some d) e.plan
-reads_text [] d e few f = ap (λ (x : Draft). x.plan) f
-reads_text (l ∷ ls) d e few f =
+-- the text of lines that follow one another says them
+pub says_text : (ls : List Line) (d e : Draft) → d.plan.workers ≤ MAX_WORKERS → FollowOn d ls e → SaysOn (lines_of (lines_text ls)) (Some d) e.plan
+says_text [] d e few f = ap (λ (x : Draft). x.plan) f
+says_text (l ∷ ls) d e few f =
     let fits = line_fits d l few f.0 f.1 in
-    let read = line_reads (Some d) (Some (with_line d l)) (keyword_word (keyword_of l)) (arguments_of l) fits (significant (keyword_of l) (arguments_of l)) (l, f.0, refl, refl, refl) in
-    let rest = reads_text ls (with_line d l) e (line_small d l few) f.2 in
-    subst (λ (texts : List (List ℕ)). ReadsOn Races texts (Some d) e.plan) (sym (text_cut (spelled l) (lines_text ls) (is_clean-join (spelled l) fits.all))) (Some (with_line d l), read, rest)
+    let said = line_says (Some d) (Some (with_line d l)) (keyword_word (keyword_of l)) (arguments_of l) fits (significant (keyword_of l) (arguments_of l)) (l, f.0, refl, refl) in
+    let rest = says_text ls (with_line d l) e (line_small d l few) f.2 in
+    subst (λ (texts : List (List ℕ)). SaysOn texts (Some d) e.plan) (sym (text_cut (spelled l) (lines_text ls) (is_clean-join (spelled l) fits.all))) (Some (with_line d l), said, rest)
 
 -- and isn't long
 pub text_length : (ls : List Line) (d e : Draft) → d.plan.workers ≤ MAX_WORKERS → FollowOn d ls e → length (lines_text ls) ≤ 201 * length ls
@@ -128,11 +133,11 @@ first_fits : (workers : ℕ) → workers ≤ MAX_WORKERS → FitsLine (first_spe
 first_fits workers few = filled_pair workers (omega arith)
 
 -- behind the first line
-pub reads_all : (workers : ℕ) (ls : List Line) (e : Draft) → 0 < workers → workers ≤ MAX_WORKERS → FollowOn (started workers) ls e → ReadsOn Races (lines_of (text_line (first_spelled workers) ++ lines_text ls)) None e.plan
-reads_all workers ls e some few f =
+pub says_all : (workers : ℕ) (ls : List Line) (e : Draft) → 0 < workers → workers ≤ MAX_WORKERS → FollowOn (started workers) ls e → SaysOn (lines_of (text_line (first_spelled workers) ++ lines_text ls)) None e.plan
+says_all workers ls e some few f =
     let fits = first_fits workers few in
-    let read = line_reads None (Some (started workers)) _ (decimal workers ∷ []) fits refl (workers, some, few, refl, refl) in
-    subst (λ (texts : List (List ℕ)). ReadsOn Races texts None e.plan) (sym (text_cut (first_spelled workers) (lines_text ls) (is_clean-join (first_spelled workers) fits.all))) (Some (started workers), read, reads_text ls (started workers) e few f)
+    let said = line_says None (Some (started workers)) _ (decimal workers ∷ []) fits refl (workers, some, few, refl, refl) in
+    subst (λ (texts : List (List ℕ)). SaysOn texts None e.plan) (sym (text_cut (first_spelled workers) (lines_text ls) (is_clean-join (first_spelled workers) fits.all))) (Some (started workers), said, says_text ls (started workers) e few f)
 
 pub all_length : (workers : ℕ) (ls : List Line) (e : Draft) → workers ≤ MAX_WORKERS → FollowOn (started workers) ls e → length (text_line (first_spelled workers) ++ lines_text ls) ≤ 201 * (length ls + 1)
 all_length workers ls e few f =

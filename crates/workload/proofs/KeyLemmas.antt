@@ -162,6 +162,8 @@ operation_few operations.Once = omega arith
 operation_few operations.OnceFunc = omega arith
 operation_few operations.OnceValue = omega arith
 operation_few (operations.Pool call) = omega arith
+operation_few (operations.Sema call) = omega arith
+operation_few (operations.Fly key) = omega arith
 operation_few (operations.Var call) = omega arith
 operation_few (operations.Composed call) = omega arith
 

@@ -16,10 +16,12 @@ pub mod CallForms
 mod CallWords
 mod Awaits
 mod FirstFailing
+mod Says
 pub mod OneReading
 pub mod SameLine
 pub mod Started
 mod GoCalls
+mod XSyncCalls
 pub mod NoReason
 mod Eights
 pub mod LineTexts

@@ -34,7 +34,7 @@ use Rattle.sync_types.specs.declared.map_object.MapCall.{MapCall}
 use Rattle.sync_types.specs.declared.map_object.MapCall.TheVariants as map_calls
 use Rattle.workload.specs.declared.keyword.Verb.{Verb}
 use Rattle.workload.specs.declared.keyword.Verb.TheVariants as verbs
-use Rattle.workload.specs.declared.limits.TheConstants.{MAX_AMOUNT, MAX_CODE, MAX_LINE, MAX_PASSES, MAX_TRIES, MAX_WORKERS}
+use Rattle.workload.specs.declared.limits.TheConstants.{MAX_AMOUNT, MAX_CODE, MAX_LINE, MAX_PASSES, MAX_SIZE, MAX_TRIES, MAX_WORKERS}
 use Rattle.sync_types.specs.declared.value.TheConstants.{MAX_VALUE}
 use Rattle.workload.specs.declared.object.ObjectKind.{ObjectKind}
 use Rattle.workload.specs.declared.object.ObjectKind.TheVariants as kinds
@@ -46,8 +46,8 @@ use Rattle.workload.specs.declared.line.Line.TheVariants as lines
 use Rattle.workload.specs.declared.turn.Turn.{Turn}
 use Rattle.workload.specs.declared.turn.Turn.TheVariants as turns
 use Rattle.workload.specs.KeywordWords.{object_word, verb_word}
-use Rattle.workload.specs.NumberWords.{number_word, is_tries}
-use Rattle.workload.specs.CallWords.{group_operands, pool_operands, var_operands, composed_operands, verb_of, operands_of, map_values, map_operands, atomic_operands}
+use Rattle.workload.specs.NumberWords.{number_word, is_tries, is_weight}
+use Rattle.workload.specs.CallWords.{group_operands, pool_operands, sema_weight, var_operands, composed_operands, verb_of, operands_of, map_values, map_operands, atomic_operands}
 use Rattle.workload.specs.Words.{spelled, first_spelled, kind_parameters, turn_word}
 use Rattle.workload.specs.Plan.{word_of, is_amount, has_call, has_among}
 use Rattle.workload.specs.declared.object.Declared.{Declared}
@@ -319,9 +319,19 @@ wait_operands_fit k v n on h =
     let second = one_decimal n MAX_TRIES (both (nat_lt 0 n) (nat_le n MAX_TRIES) h).1 (omega arith) in
     (pair (is_word (number_word v)) (list_all is_word (decimal n ∷ [])) first.0 second.0, omega (arith, first.1, second.1))
 
+one_weight : (n : ℕ) → is_weight MAX_SIZE n ≡ true → (list_all is_word (decimal n ∷ []) ≡ true) × (widths (decimal n ∷ []) ≤ 21)
+one_weight n h = one_decimal n MAX_SIZE (both (nat_lt 0 n) (nat_le n MAX_SIZE) h).1 (omega arith)
+
+one_key : (k : List ℕ) → is_name k ≡ true → (list_all is_word (k ∷ []) ≡ true) × (widths (k ∷ []) ≤ 80)
+one_key k h =
+    let word = name_is_word k h in
+    (pair (is_word k) true word.0 refl, omega (arith, word.1))
+
 parameters_fit : (k : ObjectKind) → is_kind k ≡ true → (list_all is_word (kind_parameters k) ≡ true) × (widths (kind_parameters k) ≤ 21)
 parameters_fit (kinds.WaitGroup n) h = one_decimal n MAX_AMOUNT h (omega arith)
 parameters_fit (kinds.Once a z) h = one_amount z h
+parameters_fit (kinds.Sema n) h = one_weight n h
+parameters_fit (kinds.Flight a z) h = one_amount z h
 parameters_fit (kinds.OnceFunc n) h = one_decimal n MAX_CODE h (omega arith)
 parameters_fit (kinds.OnceValue n) h = one_decimal n MAX_VALUE h (omega arith)
 parameters_fit k h = (refl, omega arith)
@@ -348,6 +358,8 @@ alone_fit kind operations.Once on h = (refl, omega arith)
 alone_fit kind operations.OnceFunc on h = (refl, omega arith)
 alone_fit kind operations.OnceValue on h = (refl, omega arith)
 alone_fit kind (operations.Pool c) on h = pool_operands_fit c h
+alone_fit kind (operations.Sema c) on h = let one = one_weight (sema_weight c) h in (one.0, omega (arith, one.1))
+alone_fit kind (operations.Fly k) on h = one_key k h
 alone_fit kind (operations.Var c) on h = var_operands_fit c h
 alone_fit (kinds.Atomic k) (operations.Composed c) on h = composed_operands_fit k c on h
 alone_fit kind (operations.Atomic c) on h = absurd cc
@@ -403,6 +415,10 @@ verb_fits verbs.Sweep = (refl, omega arith)
 verb_fits verbs.IfEqual = (refl, omega arith)
 verb_fits verbs.WaitFor = (refl, omega arith)
 verb_fits verbs.Go = (refl, omega arith)
+verb_fits verbs.Acquire = (refl, omega arith)
+verb_fits verbs.TryAcquire = (refl, omega arith)
+verb_fits verbs.Release = (refl, omega arith)
+verb_fits verbs.Fly = (refl, omega arith)
 verb_fits verbs.Read = (refl, omega arith)
 verb_fits verbs.Write = (refl, omega arith)
 
@@ -434,6 +450,8 @@ object_word_fits words.Once = (refl, omega arith)
 object_word_fits words.OnceFunc = (refl, omega arith)
 object_word_fits words.OnceValue = (refl, omega arith)
 object_word_fits words.Pool = (refl, omega arith)
+object_word_fits words.Sema = (refl, omega arith)
+object_word_fits words.Flight = (refl, omega arith)
 object_word_fits words.Var = (refl, omega arith)
 
 -- a schedule line of at most eight items, and any other line

@@ -11,7 +11,7 @@ use Rattle.sync_types.specs.declared.atomic_object.AtomicKind.TheVariants as typ
 use Rattle.workload.specs.declared.keyword.Dialect.{Dialect}
 use Rattle.workload.specs.declared.keyword.Keyword.{Keyword}
 use Rattle.workload.specs.declared.keyword.Keyword.TheVariants as keywords
-use Rattle.workload.specs.declared.limits.TheConstants.{MAX_ACCESSES, MAX_AMOUNT, MAX_CODE, MAX_RANGES, MAX_TURNS, MAX_WORKERS}
+use Rattle.workload.specs.declared.limits.TheConstants.{MAX_ACCESSES, MAX_AMOUNT, MAX_CODE, MAX_RANGES, MAX_SIZE, MAX_TURNS, MAX_WORKERS}
 use Rattle.sync_types.specs.declared.value.TheConstants.{MAX_VALUE}
 use Rattle.workload.specs.declared.object.Declared.{Declared}
 use Rattle.workload.specs.declared.object.ObjectKind.{ObjectKind}
@@ -36,7 +36,7 @@ use Rattle.workload.proofs.Passing.{both}
 use Rattle.workload.proofs.Follows.{object_follows, dormant_follows, schedule_follows, CallFollows, call_follows}
 use Rattle.workload.proofs.Numbers.{is_number-decimal, number_of-decimal}
 use Rattle.workload.proofs.FirstFailing.{passes_first, form_passes}
-use Rattle.workload.proofs.CallWords.{amount_passes}
+use Rattle.workload.proofs.CallWords.{amount_passes, weight_pass, weight_small}
 use Rattle.workload.proofs.References.{Refers, some_reference, no_reference}
 use Rattle.workload.proofs.CallForms.{value_passes, call_passes, ranges_of, accesses_of}
 use Rattle.workload.proofs.Keywords.{keyword_in-keyword_word}
@@ -73,13 +73,13 @@ items_all_pass workers (t ∷ ts) few p =
     passes_first (item_checks workers (turn_word t)) (flat_map (item_checks workers) (map turn_word ts)) (item_passes workers t few parts.0) ∙ items_all_pass workers ts few parts.1
 
 form_of_call : (d : Draft) (found : Declared) (n : List ℕ) (r : Option (List ℕ)) (c : Call) → has_among d.plan.objects found.kind c.operation ≡ true → CallFollows d n r c
-    → first_failing (form_checks d (verb_of c.operation) (call_form d (verb_of c.operation) (word_of found.kind) (option_to_list r ++ operands_of c.operation)) (option_to_list r ++ operands_of c.operation)) ≡ None
+    → first_failing (form_checks d (verb_of c.operation) (call_form d (verb_of c.operation) found.kind (option_to_list r ++ operands_of c.operation)) (option_to_list r ++ operands_of c.operation)) ≡ None
 form_of_call d found n r c on h =
     let verb = verb_of c.operation in
     let words = option_to_list r ++ operands_of c.operation in
     let few : nat_le (range_count d.plan.scripts + ranges_in verb) MAX_RANGES ≡ true = ap (λ (n : ℕ). nat_le (range_count d.plan.scripts + n) MAX_RANGES) (sym (ranges_of c.operation)) ∙ h.ranges in
     let plain : nat_le (access_count d.plan.scripts + accesses_in verb) MAX_ACCESSES ≡ true = ap (λ (n : ℕ). nat_le (access_count d.plan.scripts + n) MAX_ACCESSES) (sym (accesses_of c.operation)) ∙ h.accesses in
-    form_passes d verb (call_form d verb (word_of found.kind) words) words (keys_of c) (tries_of c.operation) (call_passes d found.kind r c.operation on h.second h.start h.call) ∙ rw (h.room, h.keys, few, h.tries, plain) refl
+    form_passes d verb (call_form d verb found.kind words) words (keys_of c) (tries_of c.operation) (call_passes d found.kind r c.operation on h.second h.start h.call) ∙ rw (h.room, h.keys, few, h.tries, plain) refl
 
 object_passes : (d : Draft) (o : Option Declared) (n : List ℕ) (r : Option (List ℕ)) (c : Call) → declared d n ≡ o → names_object d.plan.objects o c ≡ true → CallFollows d n r c
     → first_failing (line_checks d (Some (keywords.Call (verb_of c.operation))) (n ∷ option_to_list r ++ operands_of c.operation)) ≡ None
@@ -112,6 +112,10 @@ int64_is : (k : ObjectKind) (place : ℕ) (z : ℤ) → is_target (kinds.Once pl
 int64_is (kinds.Atomic types.Int64) place z h = refl
 int64_is k place z h = absurd cc
 
+int64_flown : (k : ObjectKind) (place : ℕ) (z : ℤ) → is_target (kinds.Flight place z) k ≡ true → is_int64 k ≡ true
+int64_flown (kinds.Atomic types.Int64) place z h = refl
+int64_flown k place z h = absurd cc
+
 parameters_pass : (d : Draft) (k : ObjectKind) (r : Option (List ℕ)) → names_reference d k r ≡ true → is_kind k ≡ true → Fits d (word_of k) (option_to_list r ++ kind_parameters k)
 parameters_pass d (kinds.Cond place) r named h =
     let to = some_reference d (kinds.Cond place) place r refl named in
@@ -124,6 +128,13 @@ parameters_pass d (kinds.Once place z) r named h =
       refl,
       passes_first (reference_checks d is_int64 to.name) ((is_amount_word (signed_decimal z), BadNumber) ∷ []) passes ∙ rw (amount_passes z h) refl,
     )
+parameters_pass d (kinds.Flight place z) r named h =
+    let to = some_reference d (kinds.Flight place z) place r refl named in
+    let passes = reference_passes d (kinds.Flight place z) place r is_int64 to (int64_flown to.found.kind place z to.target) in
+    subst (λ (x : Option (List ℕ)). Fits d words.Flight (option_to_list x ++ signed_decimal z ∷ [])) (sym to.is) (
+      refl,
+      passes_first (reference_checks d is_int64 to.name) ((is_amount_word (signed_decimal z), BadNumber) ∷ []) passes ∙ rw (amount_passes z h) refl,
+    )
 parameters_pass d (kinds.WaitGroup n) r named h = plain_fits d (kinds.WaitGroup n) r refl named (refl, rw (number_fits n MAX_AMOUNT h (omega arith)) refl)
 parameters_pass d (kinds.OnceFunc n) r named h = plain_fits d (kinds.OnceFunc n) r refl named (refl, rw (number_fits n MAX_CODE h (omega arith)) refl)
 parameters_pass d (kinds.OnceValue n) r named h = plain_fits d (kinds.OnceValue n) r refl named (refl, rw (number_fits n MAX_VALUE h (omega arith)) refl)
@@ -132,6 +143,7 @@ parameters_pass d (kinds.Atomic k) r named h = plain_fits d (kinds.Atomic k) r r
 parameters_pass d kinds.Mutex r named h = plain_fits d kinds.Mutex r refl named (refl, refl)
 parameters_pass d kinds.RwMutex r named h = plain_fits d kinds.RwMutex r refl named (refl, refl)
 parameters_pass d kinds.Pool r named h = plain_fits d kinds.Pool r refl named (refl, refl)
+parameters_pass d (kinds.Sema n) r named h = plain_fits d (kinds.Sema n) r refl named (refl, rw (weight_pass MAX_SIZE n h (weight_small n h)) refl)
 parameters_pass d kinds.Var r named h = plain_fits d kinds.Var r refl named (refl, refl)
 
 line_passes : (d : Draft) (l : Line) → d.plan.workers ≤ MAX_WORKERS → may_follow d l ≡ true → first_failing (line_checks d (Some (keyword_of l)) (arguments_of l)) ≡ None

@@ -29,7 +29,9 @@ rank words.Once = 6
 rank words.OnceFunc = 7
 rank words.OnceValue = 8
 rank words.Pool = 9
-rank words.Var = 10
+rank words.Sema = 10
+rank words.Flight = 11
+rank words.Var = 12
 
 -- of two kinds whose words have other numbers
 pub other_kinds : {A : Type 0} (x y : ObjectWord) → eqb (rank x) (rank y) ≡ false → x ≡ y → A

@@ -22,6 +22,7 @@ use Rattle.sync_types.specs.declared.wait_call.CondCall.TheVariants as cond_call
 use Rattle.sync_types.specs.declared.wait_call.WaitGroupCall.{WaitGroupCall}
 use Rattle.sync_types.specs.declared.wait_call.WaitGroupCall.TheVariants as group_calls
 use Rattle.sync_types.specs.declared.pool_call.PoolCall.{PoolCall}
+use Rattle.sync_types.specs.declared.sema_call.SemaCall.{SemaCall}
 use Rattle.script_calls.specs.declared.call.VarCall.{VarCall}
 use Rattle.sync_types.specs.declared.lock_call.MutexCall.{MutexCall}
 use Rattle.sync_types.specs.declared.lock_call.MutexCall.TheVariants as mutex_calls
@@ -30,7 +31,7 @@ use Rattle.sync_types.specs.declared.lock_call.RwMutexCall.TheVariants as rw_mut
 use Rattle.sync_types.specs.SequentialAtomic.{is_of, is_atomic_call}
 use Rattle.workload.specs.declared.keyword.Verb.{Verb}
 use Rattle.workload.specs.declared.keyword.Verb.TheVariants as verbs
-use Rattle.workload.specs.declared.limits.TheConstants.{MAX_AMOUNT, MAX_CODE, MAX_WORKERS}
+use Rattle.workload.specs.declared.limits.TheConstants.{MAX_AMOUNT, MAX_CODE, MAX_SIZE, MAX_WORKERS}
 use Rattle.sync_types.specs.declared.value.TheConstants.{MAX_VALUE}
 use Rattle.workload.specs.declared.object.Declared.{Declared}
 use Rattle.workload.specs.declared.object.ObjectKind.{ObjectKind}
@@ -42,8 +43,8 @@ use Rattle.workload.specs.declared.turn.Turn.{Turn}
 use Rattle.workload.specs.declared.turn.Turn.TheVariants as turns
 use Rattle.workload.specs.Plan.{word_of, is_amount, reference_of, has_call, has_among}
 use Rattle.workload.specs.KeywordWords.{keyword_word}
-use Rattle.workload.specs.NumberWords.{is_number, is_tries, number_of, number_word}
-use Rattle.workload.specs.CallWords.{verb_of, map_verb, atomic_verb, mutex_verb, rw_mutex_verb, cond_verb, group_verb, pool_verb, var_verb, composed_verb, operands_of, map_operands, atomic_operands, group_operands, pool_operands, var_operands, composed_operands}
+use Rattle.workload.specs.NumberWords.{is_number, is_tries, is_weight, number_of, number_word}
+use Rattle.workload.specs.CallWords.{verb_of, map_verb, atomic_verb, mutex_verb, rw_mutex_verb, cond_verb, group_verb, pool_verb, sema_verb, sema_weight, var_verb, composed_verb, operands_of, map_operands, atomic_operands, group_operands, pool_operands, var_operands, composed_operands}
 use Rattle.workload.specs.Words.{keyword_of, arguments_of, spelled, kind_parameters, turn_word}
 use Rattle.workload.specs.Draft.{Draft, declared, may_follow, names_object, names_second, is_call, is_operation, is_map_call, is_group_call, is_pool_call, is_var_call, is_composed_call, is_kind, names_reference, is_item}
 use Rattle.workload.proofs.Passing.{both}
@@ -51,7 +52,7 @@ use Rattle.workload.proofs.Follows.{object_follows, dormant_follows, schedule_fo
 use Rattle.workload.proofs.References.{Refers, some_reference, no_reference}
 use Rattle.workload.proofs.Numbers.{is_number-decimal}
 use Rattle.workload.proofs.Keywords.{same_keyword}
-use Rattle.workload.proofs.CallWords.{map_call_at, map_call_spelled, atomic_call_at, atomic_call_spelled, signed_of, amount_spelled, group_call_at, group_call_spelled, pool_call_at, pool_call_spelled, var_call_at, var_call_spelled, composed_call_at, composed_call_spelled, number_read, number_spelled, tries_back}
+use Rattle.workload.proofs.CallWords.{map_call_at, map_call_spelled, atomic_call_at, atomic_call_spelled, signed_of, amount_spelled, group_call_at, group_call_spelled, pool_call_at, pool_call_spelled, sema_call_at, sema_call_spelled, weight_small, var_call_at, var_call_spelled, composed_call_at, composed_call_spelled, number_read, number_spelled, tries_back}
 use Rattle.workload.proofs.Refuted.{no, not_both, something, other_kinds}
 use Rattle.workload.proofs.Awaits.{Awaits, awaits, alone_second, no_second}
 
@@ -140,6 +141,9 @@ same_group_call c d p q v e = some_is c d (sym (group_call_spelled c p) ∙ ap (
 same_pool_call : (c d : PoolCall) → is_pool_call c ≡ true → is_pool_call d ≡ true → pool_verb c ≡ pool_verb d → pool_operands c ≡ pool_operands d → c ≡ d
 same_pool_call c d p q v e = some_is c d (sym (pool_call_spelled c p) ∙ ap (λ (x : Verb). pool_call_at x (pool_operands c)) v ∙ ap (pool_call_at (pool_verb d)) e ∙ pool_call_spelled d q)
 
+same_sema_call : (c d : SemaCall) → is_weight MAX_SIZE (sema_weight c) ≡ true → is_weight MAX_SIZE (sema_weight d) ≡ true → sema_verb c ≡ sema_verb d → decimal (sema_weight c) ∷ [] ≡ decimal (sema_weight d) ∷ [] → c ≡ d
+same_sema_call c d p q v e = some_is c d (sym (sema_call_spelled c p) ∙ ap (λ (x : Verb). sema_call_at x (decimal (sema_weight c) ∷ [])) v ∙ ap (sema_call_at (sema_verb d)) e ∙ sema_call_spelled d q)
+
 same_var_call : (c d : VarCall) → is_var_call c ≡ true → is_var_call d ≡ true → var_verb c ≡ var_verb d → var_operands c ≡ var_operands d → c ≡ d
 same_var_call c d p q v e = some_is c d (sym (var_call_spelled c p) ∙ ap (λ (x : Verb). var_call_at x (var_operands c)) v ∙ ap (var_call_at (var_verb d)) e ∙ var_call_spelled d q)
 
@@ -217,6 +221,9 @@ same_alone (kinds.Once a z) operations.Once operations.Once on_c on_d p q v e = 
 same_alone (kinds.OnceFunc n) operations.OnceFunc operations.OnceFunc on_c on_d p q v e = refl
 same_alone (kinds.OnceValue n) operations.OnceValue operations.OnceValue on_c on_d p q v e = refl
 same_alone kinds.Pool (operations.Pool c) (operations.Pool d) on_c on_d p q v e = ap (λ (x : PoolCall). operations.Pool x) (same_pool_call c d p q v e)
+same_alone (kinds.Sema n) (operations.Sema c) (operations.Sema d) on_c on_d p q v e = ap (λ (x : SemaCall). operations.Sema x) (same_sema_call c d p q v e)
+same_alone (kinds.Sema n) (operations.Sema c) b on_c on_d p q v e = no on_d
+same_alone (kinds.Flight i z) (operations.Fly k) (operations.Fly l) on_c on_d p q v e = ap (λ (x : List ℕ). operations.Fly x) (heads k l [] [] e).0
 same_alone kinds.Var (operations.Var c) (operations.Var d) on_c on_d p q v e = ap (λ (x : VarCall). operations.Var x) (same_var_call c d p q v e)
 same_alone (kinds.Atomic k) (operations.Composed c) (operations.Composed d) on_c on_d p q v e = ap (λ (x : ComposedCall). operations.Composed x) (same_composed_call k c d on_c on_d p q v e)
 same_alone (kinds.Atomic k) (operations.Atomic c) (operations.Composed d) on_c on_d p q v e = absurd (no_test c d v)
@@ -317,6 +324,9 @@ same_call d (Some found) b c r s on_b on_c f g p q v e =
 number_is : (most m n : ℕ) → nat_le m most ≡ true → nat_le n most ≡ true → most < 2 ^ 64 → decimal m ∷ [] ≡ decimal n ∷ [] → m ≡ n
 number_is most m n p q small e = decimal_injective m n (omega (arith, leb-true m most p)) (omega (arith, leb-true n most q)) (heads (decimal m) (decimal n) [] [] e).0
 
+size_is : (m n : ℕ) → is_weight MAX_SIZE m ≡ true → is_weight MAX_SIZE n ≡ true → decimal m ∷ [] ≡ decimal n ∷ [] → m ≡ n
+size_is m n p q e = decimal_injective m n (weight_small m p) (weight_small n q) (heads (decimal m) (decimal n) [] [] e).0
+
 amount_is : (y z : ℤ) → is_amount y ≡ true → is_amount z ≡ true → signed_decimal y ∷ [] ≡ signed_decimal z ∷ [] → y ≡ z
 amount_is y z p q e = sym (amount_spelled y p) ∙ ap signed_of (heads (signed_decimal y) (signed_decimal z) [] [] e).0 ∙ amount_spelled z q
 
@@ -340,9 +350,11 @@ plain (kinds.WaitGroup m) (kinds.WaitGroup n) none p q w e = ap (λ (x : ℕ). k
 plain (kinds.OnceFunc m) (kinds.OnceFunc n) none p q w e = ap (λ (x : ℕ). kinds.OnceFunc x) (number_is MAX_CODE m n p q (omega arith) e)
 plain (kinds.OnceValue m) (kinds.OnceValue n) none p q w e = ap (λ (x : ℕ). kinds.OnceValue x) (number_is MAX_VALUE m n p q (omega arith) e)
 plain kinds.Pool kinds.Pool none p q w e = refl
+plain (kinds.Sema m) (kinds.Sema n) none p q w e = ap (λ (x : ℕ). kinds.Sema x) (size_is m n p q e)
 plain kinds.Var kinds.Var none p q w e = refl
 plain (kinds.Cond m) l none p q w e = something none
 plain (kinds.Once a z) l none p q w e = something none
+plain (kinds.Flight a z) l none p q w e = something none
 plain k l none p q w e = other_kinds (word_of k) (word_of l) refl w
 
 plain_kind : (d : Draft) (k l : ObjectKind) (r s : Option (List ℕ)) → reference_of k ≡ None → reference_of l ≡ None → names_reference d k r ≡ true → names_reference d l s ≡ true → is_kind k ≡ true → is_kind l ≡ true → word_of k ≡ word_of l
@@ -361,6 +373,9 @@ same_kind d (kinds.Cond i) (kinds.Cond j) r s f g p q w e =
 same_kind d (kinds.Once i y) (kinds.Once j z) r s f g p q w e =
     let alike = named_alike d (kinds.Once i y) (kinds.Once j z) i j r s (signed_decimal y ∷ []) (signed_decimal z ∷ []) (some_reference d (kinds.Once i y) i r refl f) (some_reference d (kinds.Once j z) j s refl g) e in
     (ap (λ (n : ℕ). kinds.Once n y) alike.0 ∙ ap (λ (x : ℤ). kinds.Once j x) (amount_is y z p q alike.2), alike.1)
+same_kind d (kinds.Flight i y) (kinds.Flight j z) r s f g p q w e =
+    let alike = named_alike d (kinds.Flight i y) (kinds.Flight j z) i j r s (signed_decimal y ∷ []) (signed_decimal z ∷ []) (some_reference d (kinds.Flight i y) i r refl f) (some_reference d (kinds.Flight j z) j s refl g) e in
+    (ap (λ (n : ℕ). kinds.Flight n y) alike.0 ∙ ap (λ (x : ℤ). kinds.Flight j x) (amount_is y z p q alike.2), alike.1)
 same_kind d kinds.Map kinds.Map r s f g p q w e = plain_kind d kinds.Map kinds.Map r s refl refl f g p q w e
 same_kind d (kinds.Atomic k) (kinds.Atomic l) r s f g p q w e = plain_kind d (kinds.Atomic k) (kinds.Atomic l) r s refl refl f g p q w e
 same_kind d kinds.Mutex kinds.Mutex r s f g p q w e = plain_kind d kinds.Mutex kinds.Mutex r s refl refl f g p q w e
@@ -369,6 +384,7 @@ same_kind d (kinds.WaitGroup m) (kinds.WaitGroup n) r s f g p q w e = plain_kind
 same_kind d (kinds.OnceFunc m) (kinds.OnceFunc n) r s f g p q w e = plain_kind d (kinds.OnceFunc m) (kinds.OnceFunc n) r s refl refl f g p q w e
 same_kind d (kinds.OnceValue m) (kinds.OnceValue n) r s f g p q w e = plain_kind d (kinds.OnceValue m) (kinds.OnceValue n) r s refl refl f g p q w e
 same_kind d kinds.Pool kinds.Pool r s f g p q w e = plain_kind d kinds.Pool kinds.Pool r s refl refl f g p q w e
+same_kind d (kinds.Sema m) (kinds.Sema n) r s f g p q w e = plain_kind d (kinds.Sema m) (kinds.Sema n) r s refl refl f g p q w e
 same_kind d kinds.Var kinds.Var r s f g p q w e = plain_kind d kinds.Var kinds.Var r s refl refl f g p q w e
 same_kind d k l r s f g p q w e = other_kinds (word_of k) (word_of l) refl w
 

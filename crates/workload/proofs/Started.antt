@@ -12,9 +12,8 @@ use Rattle.script_calls.specs.declared.call.Operation.{Operation}
 use Rattle.script_calls.specs.declared.call.Operation.TheVariants as operations
 use Rattle.script_calls.specs.Starts.{started_by, starts, start_count}
 use Rattle.workload.specs.declared.object.ObjectKind.{ObjectKind}
-use Rattle.workload.specs.declared.object.ObjectWord.{ObjectWord}
-use Rattle.workload.specs.declared.object.ObjectWord.TheVariants as words
-use Rattle.workload.specs.Plan.{is_dormant, has_operation, has_call, starts_dormant, word_of}
+use Rattle.workload.specs.declared.object.ObjectKind.TheVariants as kinds
+use Rattle.workload.specs.Plan.{is_dormant, has_call, starts_dormant}
 use Rattle.workload.specs.Draft.{Draft, may_start}
 use Rattle.workload.specs.Index.{marked}
 use Rattle.workload.proofs.Passing.{both, all_mono}
@@ -38,13 +37,13 @@ pub start_from : (d : Draft) (worker : ℕ) → MayStart d worker → may_begin 
 start_from d worker m = rw (m.inside, m.waits, m.new) refl
 
 -- no object alone has a `go`
-pub no_go_alone : (word : ObjectWord) (worker : ℕ) → has_operation word (operations.Composed (Go worker)) ≡ true → ⊥
-no_go_alone words.Map worker h = cc
-no_go_alone word worker h = cc
+pub no_go_alone : (kind : ObjectKind) (worker : ℕ) → has_call kind (operations.Composed (Go worker)) ≡ true → ⊥
+no_go_alone kinds.Map worker h = cc
+no_go_alone kind worker h = cc
 
 -- so an operation that one has alone starts no worker
 pub alone_start : (d : Draft) (kind : ObjectKind) (o : Operation) → has_call kind o ≡ true → may_start d o ≡ true
-alone_start d kind (operations.Composed (Go worker)) h = absurd (no_go_alone (word_of kind) worker h)
+alone_start d kind (operations.Composed (Go worker)) h = absurd (no_go_alone kind worker h)
 alone_start d kind o h = refl
 
 -- ---- counts

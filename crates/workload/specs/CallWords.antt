@@ -21,6 +21,8 @@ use Rattle.sync_types.specs.declared.wait_call.WaitGroupCall.{WaitGroupCall}
 use Rattle.sync_types.specs.declared.wait_call.WaitGroupCall.TheVariants as group_calls
 use Rattle.sync_types.specs.declared.pool_call.PoolCall.{PoolCall}
 use Rattle.sync_types.specs.declared.pool_call.PoolCall.TheVariants as pool_calls
+use Rattle.sync_types.specs.declared.sema_call.SemaCall.{SemaCall}
+use Rattle.sync_types.specs.declared.sema_call.SemaCall.TheVariants as sema_calls
 use Rattle.script_calls.specs.declared.call.VarCall.{VarCall}
 use Rattle.script_calls.specs.declared.call.VarCall.TheVariants as var_calls
 use Rattle.sync_types.specs.SequentialMap.{map_key}
@@ -77,6 +79,11 @@ pool_verb (pool_calls.Put item) = verbs.Put
 pool_verb pool_calls.Get = verbs.Get
 pool_verb pool_calls.Sweep = verbs.Sweep
 
+abbrev pub sema_verb : SemaCall → Verb
+sema_verb (sema_calls.Acquire weight) = verbs.Acquire
+sema_verb (sema_calls.TryAcquire weight) = verbs.TryAcquire
+sema_verb (sema_calls.Release weight) = verbs.Release
+
 abbrev pub var_verb : VarCall → Verb
 var_verb var_calls.Read = verbs.Read
 var_verb (var_calls.Write value) = verbs.Write
@@ -98,6 +105,8 @@ verb_of operations.Once = verbs.Do
 verb_of operations.OnceFunc = verbs.Call
 verb_of operations.OnceValue = verbs.Value
 verb_of (operations.Pool call) = pool_verb call
+verb_of (operations.Sema call) = sema_verb call
+verb_of (operations.Fly key) = verbs.Fly
 verb_of (operations.Var call) = var_verb call
 verb_of (operations.Composed call) = composed_verb call
 
@@ -140,6 +149,12 @@ pool_operands (pool_calls.Put item) = decimal item ∷ []
 pool_operands pool_calls.Get = []
 pool_operands pool_calls.Sweep = []
 
+-- the weight of a call on a semaphore
+abbrev pub sema_weight : SemaCall → ℕ
+sema_weight (sema_calls.Acquire weight) = weight
+sema_weight (sema_calls.TryAcquire weight) = weight
+sema_weight (sema_calls.Release weight) = weight
+
 abbrev pub var_operands : VarCall → List (List ℕ)
 var_operands var_calls.Read = []
 var_operands (var_calls.Write value) = decimal value ∷ []
@@ -161,5 +176,7 @@ operands_of operations.Once = []
 operands_of operations.OnceFunc = []
 operands_of operations.OnceValue = []
 operands_of (operations.Pool call) = pool_operands call
+operands_of (operations.Sema call) = decimal (sema_weight call) ∷ []
+operands_of (operations.Fly key) = key ∷ []
 operands_of (operations.Var call) = var_operands call
 operands_of (operations.Composed call) = composed_operands call

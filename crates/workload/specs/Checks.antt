@@ -8,7 +8,7 @@ use Rattle.script_calls.specs.Starts.{start_count}
 use Rattle.sync_types.specs.declared.atomic_object.AtomicKind.{AtomicKind}
 use Rattle.sync_types.specs.declared.atomic_object.AtomicKind.TheVariants as types
 use Rattle.sync_types.specs.SequentialAtomic.{has_bits}
-use Rattle.workload.specs.declared.limits.TheConstants.{MAX_ACCESSES, MAX_ALL_TRIES, MAX_AMOUNT, MAX_CALLS, MAX_CODE, MAX_KEYS, MAX_RANGES, MAX_TURNS, MAX_WORKERS}
+use Rattle.workload.specs.declared.limits.TheConstants.{MAX_ACCESSES, MAX_ALL_TRIES, MAX_AMOUNT, MAX_CALLS, MAX_CODE, MAX_KEYS, MAX_RANGES, MAX_SIZE, MAX_TURNS, MAX_WORKERS}
 use Rattle.sync_types.specs.declared.value.TheConstants.{MAX_VALUE}
 use Rattle.workload.specs.declared.keyword.Dialect.{Dialect}
 use Rattle.workload.specs.declared.keyword.Keyword.{Keyword}
@@ -30,7 +30,7 @@ use Rattle.workload.specs.Lines.{is_short, is_clean, words_of, is_significant}
 use Rattle.workload.specs.KeywordWords.{keyword_word}
 use Rattle.workload.specs.Dialect.{keyword_in}
 use Rattle.workload.specs.Plan.{word_of, is_dormant}
-use Rattle.workload.specs.NumberWords.{is_number, is_number_to, is_amount_word, is_passes_word, is_tries_word, is_number_word, number_of}
+use Rattle.workload.specs.NumberWords.{is_number, is_number_to, is_amount_word, is_passes_word, is_tries_word, is_weight_word, is_number_word, number_of}
 use Rattle.workload.specs.Draft.{Draft, declared, limit_of, count_of, call_count, key_count, range_count, try_count, access_count}
 
 -- whether a check passes, and the reason that it fails for
@@ -123,13 +123,25 @@ pool_form verbs.Get = Some []
 pool_form verbs.Sweep = Some []
 pool_form verb = None
 
+-- the operands of a call of a semaphore of a size: a weight that it may have
+abbrev pub sema_form : ℕ → Verb → Option (List Operand)
+sema_form size verbs.Acquire = Some (operands.Weight size ∷ [])
+sema_form size verbs.TryAcquire = Some (operands.Weight size ∷ [])
+sema_form size verbs.Release = Some (operands.Weight size ∷ [])
+sema_form size verb = None
+
+-- the operands of a call of flights
+abbrev pub flight_form : Verb → Option (List Operand)
+flight_form verbs.Fly = Some (operands.Key ∷ [])
+flight_form verb = None
+
 -- the operands of a call of a plain variable
 abbrev pub var_form : Verb → Option (List Operand)
 var_form verbs.Read = Some []
 var_form verbs.Write = Some (operands.Value ∷ [])
 var_form verb = None
 
--- the operands of a call on an object of a word, where such objects have the call
+-- the operands of a call on an object of a word, where such objects have the call. Those of a semaphore hang on its size
 abbrev pub form_of : Verb → ObjectWord → Option (List Operand)
 form_of verb words.Map = map_form verb
 form_of verb (words.Atomic kind) = atomic_form kind verb
@@ -141,6 +153,8 @@ form_of verb words.Once = once_form verb
 form_of verb words.OnceFunc = once_func_form verb
 form_of verb words.OnceValue = once_value_form verb
 form_of verb words.Pool = pool_form verb
+form_of verb words.Sema = None
+form_of verb words.Flight = flight_form verb
 form_of verb words.Var = var_form verb
 
 -- the kinds of object to which a name may refer
@@ -175,11 +189,12 @@ abbrev pub wait_for_words : Draft → List (List ℕ) → List Operand
 wait_for_words d [] = wait_for_form None
 wait_for_words d (word ∷ words) = wait_for_form (declared d word)
 
--- The operands of a call on an object of a word, where such objects have the call. Those of a `waitfor` hang on what the draft declares, and a `go` names a worker
-abbrev pub call_form : Draft → Verb → ObjectWord → List (List ℕ) → Option (List Operand)
-call_form d verbs.WaitFor words.Cond behind = Some (wait_for_words d behind)
-call_form d verbs.Go words.WaitGroup behind = Some (operands.Worker ∷ [])
-call_form d verb word behind = form_of verb word
+-- The operands of a call on an object, where such objects have the call. Those of a `waitfor` hang on what the draft declares, and a `go` names a worker
+abbrev pub call_form : Draft → Verb → ObjectKind → List (List ℕ) → Option (List Operand)
+call_form d verbs.WaitFor (kinds.Cond mutex) behind = Some (wait_for_words d behind)
+call_form d verbs.Go (kinds.WaitGroup start) behind = Some (operands.Worker ∷ [])
+call_form d verb (kinds.Sema size) behind = sema_form size verb
+call_form d verb kind behind = form_of verb (word_of kind)
 
 -- the form of an operand
 abbrev pub operand_check : Operand → List ℕ → Check
@@ -189,6 +204,7 @@ operand_check (operands.Number kind) word = (is_number_word kind word, BadNumber
 operand_check operands.Amount word = (is_amount_word word, BadNumber)
 operand_check operands.Passes word = (is_passes_word word, BadNumber)
 operand_check operands.Tries word = (is_tries_word word, BadNumber)
+operand_check (operands.Weight most) word = (is_weight_word most word, BadNumber)
 operand_check operands.Atomic word = (is_name word, BadName)
 operand_check operands.Worker word = (is_number word, BadNumber)
 
@@ -261,7 +277,7 @@ form_checks d verb form words = form_words d form words ++ limit_checks d (keys_
 
 abbrev pub object_checks : Draft → Option Declared → Verb → List (List ℕ) → List Check
 object_checks d None verb words = (false, UnknownName) ∷ []
-object_checks d (Some found) verb words = form_checks d verb (call_form d verb (word_of found.kind) words) words
+object_checks d (Some found) verb words = form_checks d verb (call_form d verb found.kind words) words
 
 abbrev pub call_checks : Draft → Verb → List (List ℕ) → List Check
 call_checks d verb [] = (is_some d.current, CallOutsideWorker) ∷ (false, WrongNumberOfWords) ∷ []
@@ -273,6 +289,8 @@ abbrev pub parameters_of : ObjectWord → List Parameter
 parameters_of words.Cond = parameters.Mutex ∷ []
 parameters_of words.WaitGroup = parameters.Number MAX_AMOUNT ∷ []
 parameters_of words.Once = parameters.Int64 ∷ parameters.Amount ∷ []
+parameters_of words.Sema = parameters.Size ∷ []
+parameters_of words.Flight = parameters.Int64 ∷ parameters.Amount ∷ []
 parameters_of words.OnceFunc = parameters.Number MAX_CODE ∷ []
 parameters_of words.OnceValue = parameters.Number MAX_VALUE ∷ []
 parameters_of word = []
@@ -282,6 +300,7 @@ parameter_checks d parameters.Mutex word = reference_checks d is_mutex word
 parameter_checks d parameters.Int64 word = reference_checks d is_int64 word
 parameter_checks d (parameters.Number most) word = (is_number_to most word, BadNumber) ∷ []
 parameter_checks d parameters.Amount word = (is_amount_word word, BadNumber) ∷ []
+parameter_checks d parameters.Size word = (is_weight_word MAX_SIZE word, BadNumber) ∷ []
 
 -- the words from left to right
 abbrev pub parameters_checks : Draft → List Parameter → List (List ℕ) → List Check

@@ -18,7 +18,7 @@ use Rattle.sync_types.specs.declared.pool_call.PoolCall.TheVariants as pool_call
 use Rattle.script_calls.specs.declared.call.VarCall.{VarCall}
 use Rattle.script_calls.specs.declared.call.VarCall.TheVariants as var_calls
 use Rattle.sync_types.specs.SequentialMap.{map_key}
-use Rattle.workload.specs.declared.limits.TheConstants.{MAX_ACCESSES, MAX_ALL_TRIES, MAX_AMOUNT, MAX_ATOMICS, MAX_CALLS, MAX_CODE, MAX_KEYS, MAX_MAPS, MAX_OTHERS, MAX_RANGES, MAX_TURNS, MAX_WORKERS}
+use Rattle.workload.specs.declared.limits.TheConstants.{MAX_ACCESSES, MAX_ALL_TRIES, MAX_AMOUNT, MAX_ATOMICS, MAX_CALLS, MAX_CODE, MAX_KEYS, MAX_MAPS, MAX_OTHERS, MAX_RANGES, MAX_SIZE, MAX_TURNS, MAX_WORKERS}
 use Rattle.sync_types.specs.declared.value.TheConstants.{MAX_VALUE}
 use Rattle.workload.specs.declared.object.ObjectKind.{ObjectKind}
 use Rattle.workload.specs.declared.object.ObjectKind.TheVariants as kinds
@@ -31,8 +31,8 @@ use Rattle.workload.specs.declared.line.Line.TheVariants as lines
 use Rattle.workload.specs.declared.turn.Turn.{Turn}
 use Rattle.workload.specs.declared.turn.Turn.TheVariants as turns
 use Rattle.workload.specs.Plan.{Plan, is_dormant, word_of, reference_of, second_of, is_target, is_amount, has_among}
-use Rattle.workload.specs.CallWords.{map_values}
-use Rattle.workload.specs.NumberWords.{is_passes, is_tries}
+use Rattle.workload.specs.CallWords.{map_values, sema_weight}
+use Rattle.workload.specs.NumberWords.{is_passes, is_tries, is_weight}
 
 -- the workload that the lines so far say, and the worker whose calls follow
 pub record Draft : Type 0 where
@@ -82,6 +82,8 @@ count_together words.Once words.Once = true
 count_together words.OnceFunc words.OnceFunc = true
 count_together words.OnceValue words.OnceValue = true
 count_together words.Pool words.Pool = true
+count_together words.Sema words.Sema = true
+count_together words.Flight words.Flight = true
 count_together words.Var words.Var = true
 count_together word other = false
 
@@ -91,6 +93,7 @@ count_of word objects = count_by (λ object. count_together word (word_of object
 -- the key of an operation, if it has one
 abbrev pub operation_keys : Operation → List (List ℕ)
 operation_keys (operations.Map call) = option_to_list (map_key call)
+operation_keys (operations.Fly key) = key ∷ []
 operation_keys operation = []
 
 -- the key of a call, if it has one
@@ -182,6 +185,8 @@ abbrev pub is_operation : Operation → Bool
 is_operation (operations.Map call) = is_map_call call
 is_operation (operations.WaitGroup call) = is_group_call call
 is_operation (operations.Pool call) = is_pool_call call
+is_operation (operations.Sema call) = is_weight MAX_SIZE (sema_weight call)
+is_operation (operations.Fly key) = is_name key
 is_operation (operations.Var call) = is_var_call call
 is_operation (operations.Composed call) = is_composed_call call
 is_operation operation = true
@@ -193,6 +198,8 @@ is_call call = is_operation call.operation
 abbrev pub is_kind : ObjectKind → Bool
 is_kind (kinds.WaitGroup start) = nat_le start MAX_AMOUNT
 is_kind (kinds.Once atomic delta) = is_amount delta
+is_kind (kinds.Sema size) = is_weight MAX_SIZE size
+is_kind (kinds.Flight atomic delta) = is_amount delta
 is_kind (kinds.OnceFunc code) = nat_le code MAX_CODE
 is_kind (kinds.OnceValue value) = is_value value
 is_kind kind = true

@@ -42,6 +42,7 @@ map_call_number names call = option_map_or (key_number names) (map_key call) 0
 -- the number of an operation's key; 0 for one without a key
 abbrev pub operation_number : List (List ℕ) → Operation → ℕ
 operation_number names (operations.Map call) = map_call_number names call
+operation_number names (operations.Fly key) = key_number names key
 operation_number names operation = 0
 
 -- the number of a call's key; 0 for a call without one

@@ -25,6 +25,8 @@ object_word words.Once = codes "once"
 object_word words.OnceFunc = codes "oncefunc"
 object_word words.OnceValue = codes "oncevalue"
 object_word words.Pool = codes "pool"
+object_word words.Sema = codes "sema"
+object_word words.Flight = codes "flight"
 object_word words.Var = codes "var"
 
 -- the word of a call
@@ -61,6 +63,10 @@ verb_word verbs.Sweep = codes "sweep"
 verb_word verbs.IfEqual = codes "ifeq"
 verb_word verbs.WaitFor = codes "waitfor"
 verb_word verbs.Go = codes "go"
+verb_word verbs.Acquire = codes "acquire"
+verb_word verbs.TryAcquire = codes "tryacquire"
+verb_word verbs.Release = codes "release"
+verb_word verbs.Fly = codes "fly"
 verb_word verbs.Read = codes "read"
 verb_word verbs.Write = codes "write"
 
@@ -77,7 +83,7 @@ keyword_word (keywords.Call verb) = verb_word verb
 abbrev pub object_words : List ObjectWord
 object_words =
     words.Map ∷ words.Atomic types.Int32 ∷ words.Atomic types.Int64 ∷ words.Atomic types.Uint32 ∷ words.Atomic types.Uint64 ∷ words.Atomic types.Bool
-    ∷ words.Mutex ∷ words.RwMutex ∷ words.Cond ∷ words.WaitGroup ∷ words.Once ∷ words.OnceFunc ∷ words.OnceValue ∷ words.Pool ∷ words.Var ∷ []
+    ∷ words.Mutex ∷ words.RwMutex ∷ words.Cond ∷ words.WaitGroup ∷ words.Once ∷ words.OnceFunc ∷ words.OnceValue ∷ words.Pool ∷ words.Sema ∷ words.Flight ∷ words.Var ∷ []
 
 -- the calls' words
 abbrev pub call_verbs : List Verb
@@ -85,7 +91,7 @@ call_verbs =
     verbs.Load ∷ verbs.Store ∷ verbs.LoadOrStore ∷ verbs.LoadAndDelete ∷ verbs.Delete ∷ verbs.Swap ∷ verbs.CompareAndSwap ∷ verbs.CompareAndDelete ∷ verbs.Clear ∷ verbs.Range
     ∷ verbs.Add ∷ verbs.And ∷ verbs.Or ∷ verbs.Lock ∷ verbs.Unlock ∷ verbs.TryLock ∷ verbs.RLock ∷ verbs.RUnlock ∷ verbs.TryRLock
     ∷ verbs.Wait ∷ verbs.Signal ∷ verbs.Broadcast ∷ verbs.Done ∷ verbs.Do ∷ verbs.Call ∷ verbs.Value ∷ verbs.Put ∷ verbs.Get ∷ verbs.Sweep ∷ verbs.IfEqual ∷ verbs.WaitFor ∷ verbs.Go
-    ∷ verbs.Read ∷ verbs.Write ∷ []
+    ∷ verbs.Acquire ∷ verbs.TryAcquire ∷ verbs.Release ∷ verbs.Fly ∷ verbs.Read ∷ verbs.Write ∷ []
 
 -- the keywords other than calls
 abbrev pub other_keywords : List Keyword

@@ -51,6 +51,14 @@ is_tries tries = nat_lt 0 tries && nat_le tries MAX_TRIES
 abbrev pub is_tries_word : List ℕ → Bool
 is_tries_word word = is_number word && is_tries (number_of word)
 
+-- whether a weight is 1 to this one, or a size 1 to the greatest
+abbrev pub is_weight : ℕ → ℕ → Bool
+is_weight most weight = nat_lt 0 weight && nat_le weight most
+
+-- whether a word is such a number
+abbrev pub is_weight_word : ℕ → List ℕ → Bool
+is_weight_word most word = is_number word && is_weight most (number_of word)
+
 -- whether a word is a number of an atomic of this type
 abbrev pub is_number_word : AtomicKind → List ℕ → Bool
 is_number_word types.Int32 word = is_signed_word (2 ^ 31) word

@@ -18,6 +18,8 @@ use Rattle.workload.specs.declared.object.ObjectWord.TheVariants as words
 use Rattle.workload.specs.declared.object.ObjectLine.{ObjectLine}
 use Rattle.workload.specs.declared.turn.Turn.{Turn}
 use Rattle.workload.specs.declared.turn.Turn.TheVariants as turns
+use Rattle.workload.specs.CallWords.{sema_weight}
+use Rattle.workload.specs.NumberWords.{is_weight}
 
 pub record Plan : Type 0 where
   pub workers : ℕ
@@ -45,18 +47,22 @@ word_of (kinds.Once atomic delta) = words.Once
 word_of (kinds.OnceFunc code) = words.OnceFunc
 word_of (kinds.OnceValue value) = words.OnceValue
 word_of kinds.Pool = words.Pool
+word_of (kinds.Sema size) = words.Sema
+word_of (kinds.Flight atomic delta) = words.Flight
 word_of kinds.Var = words.Var
 
 -- the place of the object to which an object refers
 abbrev pub reference_of : ObjectKind → Option ℕ
 reference_of (kinds.Cond mutex) = Some mutex
 reference_of (kinds.Once atomic delta) = Some atomic
+reference_of (kinds.Flight atomic delta) = Some atomic
 reference_of kind = None
 
--- whether an object may refer to an object of this kind: a cond to a mutex, a once to an int64
+-- whether an object may refer to an object of this kind: a cond to a mutex, a once and a group of flights to an int64
 abbrev pub is_target : ObjectKind → ObjectKind → Bool
 is_target (kinds.Cond mutex) kinds.Mutex = true
 is_target (kinds.Once atomic delta) (kinds.Atomic types.Int64) = true
+is_target (kinds.Flight atomic delta) (kinds.Atomic types.Int64) = true
 is_target kind target = false
 
 -- whether the object to which an object refers is among these, and is one that it may refer to
@@ -68,7 +74,7 @@ abbrev pub is_amount : ℤ → Bool
 is_amount (pos n) = nat_le n MAX_AMOUNT
 is_amount (negsuc n) = nat_lt n MAX_AMOUNT
 
--- whether objects of this word have the operation: an atomic's operands are of its type, and in its range
+-- whether all objects of this word have the operation: an atomic's operands are of its type, and in its range
 abbrev pub has_operation : ObjectWord → Operation → Bool
 has_operation words.Map (operations.Map call) = true
 has_operation words.Map operations.Range = true
@@ -81,12 +87,14 @@ has_operation words.Once operations.Once = true
 has_operation words.OnceFunc operations.OnceFunc = true
 has_operation words.OnceValue operations.OnceValue = true
 has_operation words.Pool (operations.Pool call) = true
+has_operation words.Flight (operations.Fly key) = true
 has_operation words.Var (operations.Var call) = true
 has_operation (words.Atomic kind) (operations.Composed (IfEqual value passes)) = is_of kind value
 has_operation word operation = false
 
--- whether an object of this kind has it, whatever other objects there are
+-- whether an object of this kind has it, whatever other objects there are: a semaphore those of weights up to its size
 abbrev pub has_call : ObjectKind → Operation → Bool
+has_call (kinds.Sema size) (operations.Sema call) = is_weight size (sema_weight call)
 has_call kind operation = has_operation (word_of kind) operation
 
 -- the place of a second object that an operation names: the atomic that a `waitfor` loads

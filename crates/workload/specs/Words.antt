@@ -18,6 +18,8 @@ use Rattle.workload.specs.CallWords.{verb_of, operands_of}
 abbrev pub kind_parameters : ObjectKind → List (List ℕ)
 kind_parameters (kinds.WaitGroup start) = decimal start ∷ []
 kind_parameters (kinds.Once atomic delta) = signed_decimal delta ∷ []
+kind_parameters (kinds.Sema size) = decimal size ∷ []
+kind_parameters (kinds.Flight atomic delta) = signed_decimal delta ∷ []
 kind_parameters (kinds.OnceFunc code) = decimal code ∷ []
 kind_parameters (kinds.OnceValue value) = decimal value ∷ []
 kind_parameters kind = []

@@ -1,12 +1,13 @@
 //! What the lines of a text say so far.
-ghost use Rattle.std.specs.Prelude.{◌≡◌, ◌≤◌, ◌<◌, ◌+◌, ◌∷◌, [], true, false, length, nat_le, nat_lt, is_some, vec_len, count_by, replicate, IfOk, OnOk};
+ghost use Rattle.std.specs.Prelude.{◌≡◌, ℕ, List, Some, ◌≤◌, ◌<◌, ◌+◌, ◌∷◌, [], true, false, length, nat_le, nat_lt, is_some, vec_len, count_by, replicate, IfOk, OnOk};
 ghost use Rattle.std.specs.Option.{option_copied, option_map_or, option_to_list};
 ghost use Rattle.std.specs.FinMap.{insert};
 ghost use Rattle.sync_types.specs.Name.{is_name};
 ghost use Rattle.workload.specs.declared.limits.TheConstants.{MAX_KEYS, MAX_WORKERS};
 ghost use Rattle.workload.specs.Index.{with_keys, marked};
+ghost use Rattle.workload.specs.declared.object.Declared.{Declared};
 ghost use Rattle.workload.specs.Plan.{is_dormant};
-ghost use Rattle.workload.specs.Draft.{started, with_line, may_follow, declared, count_of, count_together, limit_of, call_count, key_count, keys_of, is_range, range_count, tries_of, try_count, is_access, access_count};
+ghost use Rattle.workload.specs.Draft.{started, with_line, may_follow, declared, is_kind, count_of, count_together, limit_of, call_count, key_count, keys_of, is_range, range_count, tries_of, try_count, is_access, access_count};
 ghost use Rattle.script_calls.specs.Starts.{started_by, start_count};
 
 use crate::keys::Keys;
@@ -93,6 +94,8 @@ fn counts_together(word: ObjectWord, other: ObjectWord) -> bool
         (ObjectWord::OnceFunc, ObjectWord::OnceFunc) => true,
         (ObjectWord::OnceValue, ObjectWord::OnceValue) => true,
         (ObjectWord::Pool, ObjectWord::Pool) => true,
+        (ObjectWord::Sema, ObjectWord::Sema) => true,
+        (ObjectWord::Flight, ObjectWord::Flight) => true,
         (ObjectWord::Var, ObjectWord::Var) => true,
         _ => false,
     }
@@ -144,6 +147,7 @@ pub fn call_key(call: &Call) -> Option<&Name>
 {
     match &call.operation {
         Operation::Map(call) => call.key(),
+        Operation::Fly(key) => Some(key),
         _ => None,
     }
 }
@@ -261,6 +265,13 @@ impl Draft {
         ensures { result ≡ declared self.now name.now }
     {
         self.parts.names.get(name)
+    }
+
+    /// What a name finds has its numbers in range.
+    pub fn numbers_are_in_range(&self)
+        ensures { (name : List ℕ) (found : Declared) → declared self.now name ≡ Some found → is_kind found.kind ≡ true }
+    {
+        let _workers = self.parts.workers;
     }
 
     /// Whether one more object of a word is within its limit.

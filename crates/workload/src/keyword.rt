@@ -1,6 +1,6 @@
 //! The words that a line begins with.
 ghost use Rattle.std.specs.Prelude.{◌≡◌, ◌∷◌, ℕ, List};
-ghost use Rattle.workload.specs.Dialect.{knows, keyword_in};
+ghost use Rattle.workload.specs.Dialect.{knows, keyword_in, is_variable_word, is_x_sync_word};
 ghost use Rattle.workload.specs.KeywordWords.{verb_word, call_verbs, keyword_word, first_named, keyword_at};
 
 use crate::object::ObjectWord;
@@ -9,9 +9,11 @@ use sync_types::AtomicKind;
 /// Which words a text may have.
 #[derive(Clone, Copy, PartialEq, Eq)]
 pub enum Dialect {
-    /// All but those of plain variables.
+    /// Those of `trace` and `check`: all but those of plain variables, weighted semaphores and flights, of which no record tells.
     Plain,
-    /// All: those of a text whose races are asked for.
+    /// Those of `step` and `run`: all but those of plain variables.
+    Runs,
+    /// Those of `race`: all but those of weighted semaphores and flights.
     Races,
 }
 
@@ -76,6 +78,11 @@ pub enum Verb {
     /// `waitfor`
     WaitFor,
     Go,
+    Acquire,
+    /// `tryacquire`
+    TryAcquire,
+    Release,
+    Fly,
     /// Of a plain variable, as `write`.
     Read,
     Write,
@@ -84,7 +91,7 @@ pub enum Verb {
 /// What a word of a call behind the object's name stands for.
 #[derive(Clone, Copy, PartialEq, Eq)]
 pub enum Operand {
-    /// A key of a map.
+    /// A key of a map or of flights.
     Key,
     /// A value of a map, a pool or a plain variable, 0 to 2^63 - 1.
     Value,
@@ -96,6 +103,8 @@ pub enum Operand {
     Passes,
     /// How many waits may be made, 1 to 1,000.
     Tries,
+    /// A weight of a semaphore of this size, 1 to the size.
+    Weight(u64),
     /// An atomic that is declared before.
     Atomic,
     /// A worker that waits to be started, and that no call starts yet.
@@ -113,10 +122,12 @@ pub enum Parameter {
     Number(u64),
     /// An amount, -10,000 to 10,000.
     Amount,
+    /// A size of a semaphore, 1 to 1,000,000.
+    Size,
 }
 
 /// The keywords other than calls.
-const OTHERS: [Keyword; 19] = [
+const OTHERS: [Keyword; 21] = [
     Keyword::Schedule,
     Keyword::Worker,
     Keyword::Workers,
@@ -135,6 +146,8 @@ const OTHERS: [Keyword; 19] = [
     Keyword::Object(ObjectWord::OnceFunc),
     Keyword::Object(ObjectWord::OnceValue),
     Keyword::Object(ObjectWord::Pool),
+    Keyword::Object(ObjectWord::Sema),
+    Keyword::Object(ObjectWord::Flight),
     Keyword::Object(ObjectWord::Var),
 ];
 
@@ -176,6 +189,10 @@ impl Verb {
             Verb::IfEqual => b"ifeq",
             Verb::WaitFor => b"waitfor",
             Verb::Go => b"go",
+            Verb::Acquire => b"acquire",
+            Verb::TryAcquire => b"tryacquire",
+            Verb::Release => b"release",
+            Verb::Fly => b"fly",
             Verb::Read => b"read",
             Verb::Write => b"write",
         }
@@ -203,7 +220,7 @@ fn verbs_with(first: u8) -> &'static [Verb]
     ensures { (rest : List ℕ) → first_named verb_word result.now (first ∷ rest) ≡ first_named verb_word call_verbs (first ∷ rest) }
 {
     match first {
-        b'a' => &[Verb::Add, Verb::And],
+        b'a' => &[Verb::Add, Verb::And, Verb::Acquire],
         b'b' => &[Verb::Broadcast],
         b'c' => &[
             Verb::CompareAndSwap,
@@ -212,6 +229,7 @@ fn verbs_with(first: u8) -> &'static [Verb]
             Verb::Call,
         ],
         b'd' => &[Verb::Delete, Verb::Done, Verb::Do],
+        b'f' => &[Verb::Fly],
         b'g' => &[Verb::Get, Verb::Go],
         b'i' => &[Verb::IfEqual],
         b'l' => &[
@@ -222,9 +240,15 @@ fn verbs_with(first: u8) -> &'static [Verb]
         ],
         b'o' => &[Verb::Or],
         b'p' => &[Verb::Put],
-        b'r' => &[Verb::Range, Verb::RLock, Verb::RUnlock, Verb::Read],
+        b'r' => &[
+            Verb::Range,
+            Verb::RLock,
+            Verb::RUnlock,
+            Verb::Release,
+            Verb::Read,
+        ],
         b's' => &[Verb::Store, Verb::Swap, Verb::Signal, Verb::Sweep],
-        b't' => &[Verb::TryLock, Verb::TryRLock],
+        b't' => &[Verb::TryLock, Verb::TryRLock, Verb::TryAcquire],
         b'u' => &[Verb::Unlock],
         b'v' => &[Verb::Value],
         b'w' => &[Verb::Wait, Verb::WaitFor, Verb::Write],
@@ -276,16 +300,36 @@ fn find_any(word: &[u8]) -> Option<Keyword>
     }
 }
 
+/// Whether a keyword is one of plain variables.
+fn is_variable_word(keyword: Keyword) -> bool
+    ensures { result ≡ is_variable_word keyword }
+{
+    match keyword {
+        Keyword::Object(ObjectWord::Var) => true,
+        Keyword::Call(Verb::Read | Verb::Write) => true,
+        _ => false,
+    }
+}
+
+/// Whether a keyword is one of weighted semaphores or of flights.
+fn is_x_sync_word(keyword: Keyword) -> bool
+    ensures { result ≡ is_x_sync_word keyword }
+{
+    match keyword {
+        Keyword::Object(ObjectWord::Sema | ObjectWord::Flight) => true,
+        Keyword::Call(Verb::Acquire | Verb::TryAcquire | Verb::Release | Verb::Fly) => true,
+        _ => false,
+    }
+}
+
 /// Whether texts of a dialect may have a keyword.
 fn knows(dialect: Dialect, keyword: Keyword) -> bool
     ensures { result ≡ knows dialect keyword }
 {
-    match (dialect, keyword) {
-        (
-            Dialect::Plain,
-            Keyword::Object(ObjectWord::Var) | Keyword::Call(Verb::Read | Verb::Write),
-        ) => false,
-        _ => true,
+    match dialect {
+        Dialect::Plain => !is_variable_word(keyword) && !is_x_sync_word(keyword),
+        Dialect::Runs => !is_variable_word(keyword),
+        Dialect::Races => !is_x_sync_word(keyword),
     }
 }
 

@@ -21,9 +21,12 @@ pub const MAX_ATOMICS: usize = 64;
 /// The most objects of each other kind.
 pub const MAX_OTHERS: usize = 32;
 
-/// The greatest counter of a wait group at the start, and the greatest amount that is added to one or by
-/// a once.
+/// The greatest counter of a wait group at the start, and the greatest amount that is added to one, by a once or by
+/// a group of flights.
 pub const MAX_AMOUNT: u64 = 10_000;
+
+/// The greatest size of a weighted semaphore.
+pub const MAX_SIZE: u64 = 1_000_000;
 
 /// The greatest code with which the function of a `oncefunc` fails.
 pub const MAX_CODE: u64 = 1_000;
@@ -43,7 +46,7 @@ pub const MAX_RANGES: usize = 64;
 /// The most reads and writes of plain variables, of all workers together.
 pub const MAX_ACCESSES: usize = 1_000;
 
-/// The most different keys, over all maps.
+/// The most different keys, over all maps and flights.
 pub const MAX_KEYS: usize = 4_096;
 
 /// The most items of the schedule, workers' turns and moments together.

@@ -29,6 +29,10 @@ pub enum ObjectKind {
     OnceValue { value: u64 },
     /// A pool, which is empty at the start. A new item of it is 0.
     Pool,
+    /// A weighted semaphore of this size, 1 to 1,000,000, of which nothing is held at the start.
+    Sema { size: u64 },
+    /// A group of flights, whose function adds this amount, -10,000 to 10,000, to the int64 at this place.
+    Flight { atomic: usize, delta: i64 },
     /// A plain variable, which is 0 at the start. Only race texts have any.
     Var,
 }
@@ -47,6 +51,8 @@ pub enum ObjectWord {
     OnceFunc,
     OnceValue,
     Pool,
+    Sema,
+    Flight,
     Var,
 }
 
@@ -88,6 +94,8 @@ impl ObjectWord {
             ObjectWord::OnceFunc => b"oncefunc",
             ObjectWord::OnceValue => b"oncevalue",
             ObjectWord::Pool => b"pool",
+            ObjectWord::Sema => b"sema",
+            ObjectWord::Flight => b"flight",
             ObjectWord::Var => b"var",
         }
     }
@@ -109,6 +117,8 @@ impl ObjectKind {
             ObjectKind::OnceFunc { .. } => ObjectWord::OnceFunc,
             ObjectKind::OnceValue { .. } => ObjectWord::OnceValue,
             ObjectKind::Pool => ObjectWord::Pool,
+            ObjectKind::Sema { .. } => ObjectWord::Sema,
+            ObjectKind::Flight { .. } => ObjectWord::Flight,
             ObjectKind::Var => ObjectWord::Var,
         }
     }

@@ -1,5 +1,5 @@
 //! A workload that was read.
-ghost use Rattle.std.specs.Prelude.{◌≡◌, ◌<◌, true, get_or, [], map};
+ghost use Rattle.std.specs.Prelude.{◌≡◌, ◌<◌, true, get_or, [], map, IfOk};
 ghost use Rattle.script_calls.specs.Starts.{group_of};
 ghost use Rattle.workload.specs.Keys.{keys_in, call_number, numbers_in};
 ghost use Rattle.workload.specs.Plan.{is_dormant, has_dormant, is_valid};
@@ -12,6 +12,7 @@ use crate::object::ObjectLine;
 use crate::puts::puts_at;
 use crate::turn::Turn;
 use script_calls::Call;
+use std::alloc::{AllocError, Global};
 use std::marker::Model;
 use sync_types::Seq;
 
@@ -132,6 +133,14 @@ impl Workload {
         ensures { result.now ≡ keys_in self.now.scripts }
     {
         &self.keys
+    }
+
+    /// A copy of these keys, which outlives the workload.
+    pub fn copied_keys(&self, alloc: Global) -> Result<Keys, AllocError>
+        ensures { IfOk result (λ keys. keys ≡ keys_in self.now.scripts) }
+    {
+        let (keys, _) = Keys::of_scripts(alloc, self.scripts.as_slice())?;
+        Ok(keys)
     }
 
     /// How many items the scripts put into the pool at this place.

@@ -1,10 +1,10 @@
-use Rattle.std.proofs.Common.{sym, subst}
-use Rattle.workload.specs.declared.keyword.Dialect.TheVariants.{Races}
-use Rattle.workload.specs.Reads.{ReadsIn}
-use Rattle.workload.proofs.OneReading.{one_reading}
-use Rattle.workload.proofs.CanonicalReads.{canonical_races}
+use Rattle.std.proofs.Common.{None, sym, subst}
 use Rattle.workload.specs.Canonical.{canonical}
+use Rattle.workload.specs.Lines.{lines_of}
+use Rattle.workload.proofs.CanonicalReads.{canonical_says}
+use Rattle.workload.proofs.OneReading.{same_saying}
+use Rattle.workload.proofs.Says.{SaysOn}
 use Rattle.workload.proofs.laws.one_text.Goals as goal
 
 pub returns : goal.returns
-returns c = λ p q first second same. one_reading Races (canonical p) p q (canonical_races p first) (subst (λ bytes. ReadsIn Races bytes q) (sym same) (canonical_races q second))
+returns c = λ p q first second same. same_saying (lines_of (canonical p)) None p q tt (canonical_says p first) (subst (λ bytes. SaysOn (lines_of bytes) None q) (sym same) (canonical_says q second))

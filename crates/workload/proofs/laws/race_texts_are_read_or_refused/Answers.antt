@@ -1,5 +1,5 @@
 use Rattle.workload.specs.declared.keyword.Dialect.TheVariants.{Races}
-use Rattle.workload.proofs.CanonicalReads.{canonical_races}
+use Rattle.workload.proofs.CanonicalReads.{canonical_reads}
 use Rattle.workload.proofs.EachText.{each_text}
 use Rattle.workload.proofs.NoReason.{one_refusal, read_or_refused}
 use Rattle.workload.proofs.OneReading.{one_reading}
@@ -18,4 +18,4 @@ pub returns-clause-each : goal.returns-clause-each
 returns-clause-each c = each_text Races
 
 pub returns-clause-canonical : goal.returns-clause-canonical
-returns-clause-canonical c = canonical_races
+returns-clause-canonical c = canonical_reads Races
