@@ -10,7 +10,7 @@ use Rattle.script_calls.specs.declared.call.Call.{Call}
 use Rattle.script_calls.specs.Starts.{starts, start_count}
 use Rattle.workload.specs.Draft.{all_keys, keys_of, call_count, range_count, distinct_count, try_count, access_count, is_call, is_range, is_access, tries_of}
 use Rattle.workload.specs.Canonical.{canonical}
-use Rattle.workload.specs.Dialect.{has_variables}
+use Rattle.workload.specs.Dialect.{has_variables, has_unrecorded}
 use Rattle.workload.specs.Plan.{starts_dormant}
 use Rattle.workload.specs.Readable.{IsReadable}
 use Rattle.made_workload.specs.Generated.{in_twos, script_by, drawn_for, generated_scripts, generated_plan, generated_text}
@@ -86,6 +86,10 @@ readable seed =
 pub no_variables : (seed : ℕ) → has_variables (generated_plan seed) ≡ false
 unfolding generated_plan
 no_variables seed = refl
+
+pub no_unrecorded : (seed : ℕ) → has_unrecorded (generated_plan seed) ≡ false
+unfolding generated_plan
+no_unrecorded seed = refl
 
 pub text_is_canonical : (seed : ℕ) → generated_text seed ≡ canonical (generated_plan seed)
 unfolding generated_text

@@ -8,7 +8,7 @@ ghost use Rattle.rand_pcg.specs.Lcg.{advance};
 ghost use Rattle.rand_pcg.specs.Pcg.{multiplier_64, pcg32};
 ghost use Rattle.script_calls.specs.Runs.{have_tests};
 ghost use Rattle.workload.specs.Canonical.{canonical};
-ghost use Rattle.workload.specs.Dialect.{has_variables};
+ghost use Rattle.workload.specs.Dialect.{has_variables, has_unrecorded};
 ghost use Rattle.workload.specs.Draft.{keys_of, call_count};
 ghost use Rattle.workload.specs.Plan.{has_dormant};
 ghost use Rattle.workload.specs.Readable.{IsReadable};
@@ -41,7 +41,7 @@ pub fn first_words_of_seeds()
 {}
 
 /// Eight workers have 2,000 calls each, by the words that they draw, on three objects. No call passes others over, no
-/// worker waits to be started, and no object is a plain variable. The workload has a text.
+/// worker waits to be started, and no object is a plain variable, a semaphore or a group of flights. The workload has a text.
 pub fn workload_of_a_seed()
     ensures workers { (seed : ℕ) → (generated_plan seed).workers ≡ 8 }
     ensures objects { (seed : ℕ) → (generated_plan seed).objects ≡ generated_objects }
@@ -51,6 +51,7 @@ pub fn workload_of_a_seed()
     ensures no_tests { (seed : ℕ) → have_tests (generated_plan seed).scripts ≡ false }
     ensures no_dormant { (seed : ℕ) → has_dormant (generated_plan seed) ≡ false }
     ensures no_variables { (seed : ℕ) → has_variables (generated_plan seed) ≡ false }
+    ensures no_unrecorded { (seed : ℕ) → has_unrecorded (generated_plan seed) ≡ false }
     ensures readable { (seed : ℕ) → IsReadable (generated_plan seed) }
 {}
 

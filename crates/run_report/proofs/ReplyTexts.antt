@@ -18,7 +18,7 @@ use Rattle.script_calls.specs.declared.call.VarCall.TheVariants as var_calls
 use Rattle.script_calls.specs.declared.call.VarReply.{VarReply}
 use Rattle.script_calls.specs.declared.call.VarReply.TheVariants as var_replies
 use Rattle.script_calls.specs.Replies.{is_reply_to, var_form}
-use Rattle.sync_types.specs.Replies.{map_form, is_map_done, is_found, is_settled, is_map_compared, atomic_form, is_atomic_done, is_held, is_atomic_compared, mutex_form, rw_mutex_form, is_lock_done, is_tried, pool_form, is_pool_done, is_item}
+use Rattle.sync_types.specs.Replies.{map_form, is_map_done, is_found, is_settled, is_map_compared, atomic_form, is_atomic_done, is_held, is_atomic_compared, mutex_form, rw_mutex_form, sema_form, is_lock_done, is_tried, pool_form, is_pool_done, is_item}
 use Rattle.sync_types.specs.SequentialAtomic.{is_of, is_signed}
 use Rattle.sync_types.specs.declared.atomic_object.AtomicKind.{AtomicKind}
 use Rattle.sync_types.specs.declared.atomic_object.AtomicKind.TheVariants as types
@@ -44,6 +44,8 @@ use Rattle.sync_types.specs.declared.pool_call.PoolCall.{PoolCall}
 use Rattle.sync_types.specs.declared.pool_call.PoolCall.TheVariants as pool_calls
 use Rattle.sync_types.specs.declared.pool_call.PoolCallReply.{PoolCallReply}
 use Rattle.sync_types.specs.declared.pool_call.PoolCallReply.TheVariants as pool_replies
+use Rattle.sync_types.specs.declared.sema_call.SemaCall.{SemaCall}
+use Rattle.sync_types.specs.declared.sema_call.SemaCall.TheVariants as sema_calls
 use Rattle.workload.specs.Keys.{key_name, keys_in}
 use Rattle.workload.specs.Plan.{Plan}
 use Rattle.workload.specs.declared.object.ObjectKind.{ObjectKind}
@@ -53,7 +55,7 @@ use Rattle.script_calls.specs.declared.call.Call.{Call}
 use Rattle.sync_types.specs.Name.{is_name, is_name_byte}
 use Rattle.workload.specs.Canonical.{behind_spaces}
 use Rattle.workload.specs.NumberWords.{number_word}
-use Rattle.workload_text.specs.ReportLines.{truth_text, map_reply_text, pair_text, pairs_text, atomic_reply_text, lock_reply_text, once_reply_text, once_func_reply_text, pool_reply_text, var_reply_text, reply_text}
+use Rattle.workload_text.specs.ReportLines.{truth_text, map_reply_text, pair_text, pairs_text, atomic_reply_text, lock_reply_text, once_reply_text, once_func_reply_text, pool_reply_text, flown_reply_text, var_reply_text, reply_text}
 use Rattle.run_report.specs.Told.{has_64_bits, map_in_range, once_in_range, atomic_in_range, code_in_range, pool_in_range, var_in_range, is_in_range, is_key, is_number_at, is_number_of}
 use Rattle.run_report.proofs.TextCuts.{lacks, lacks_both, cut, IsNoDigit, decimal_lacks, signed_lacks, name_lacks, first_lacks, rest_lacks, words_apart, words_lack}
 
@@ -333,6 +335,11 @@ rw_mutex_apart rw_calls.RLock a b fa fb e = lock_done a b fa fb
 rw_mutex_apart rw_calls.RUnlock a b fa fb e = lock_done a b fa fb
 rw_mutex_apart rw_calls.TryRLock a b fa fb e = lock_tried a b fa fb e
 
+sema_apart : (call : SemaCall) (a b : LockReply) → sema_form call a ≡ true → sema_form call b ≡ true → lock_reply_text a ≡ lock_reply_text b → a ≡ b
+sema_apart (sema_calls.Acquire weight) a b fa fb e = lock_done a b fa fb
+sema_apart (sema_calls.TryAcquire weight) a b fa fb e = lock_tried a b fa fb e
+sema_apart (sema_calls.Release weight) a b fa fb e = lock_done a b fa fb
+
 lock_lacks : (a : LockReply) → lacks 10 (lock_reply_text a) ≡ true
 lock_lacks lock_replies.Done = refl
 lock_lacks (lock_replies.Tried t) = truth_lacks 10 refl refl t
@@ -407,6 +414,20 @@ pool_lacks : (a : PoolCallReply) → pool_in_range a ≡ true → lacks 10 (pool
 pool_lacks pool_replies.Done h = refl
 pool_lacks (pool_replies.Put n) h = lacks_both 10 (decimal n) (codes " put") (number_lacks 10 no_feed n h) refl
 pool_lacks pool_replies.New h = refl
+
+-- flights
+no_minus_space : ◌≡◌ {A = ℕ} 45 32 → ⊥
+no_minus_space e = omega arith
+
+flown_apart : (y z : ℤ) (s t : Bool) → once_in_range (once_replies.Ran y) ≡ true → once_in_range (once_replies.Ran z) ≡ true → flown_reply_text y s ≡ flown_reply_text z t → ◌≡◌ {A = Reply ℕ} (replies.Flown y s) (replies.Flown z t)
+flown_apart y z s t hy hz e =
+    let parts = cut 32 (signed_decimal y) (signed_decimal z) (truth_text s) (truth_text t) (signed_lacks 32 no_space no_minus_space y (once_small y hy)) (signed_lacks 32 no_space no_minus_space z (once_small z hz))
+    (sym (append_assoc (signed_decimal y) (codes " ") (truth_text s)) ∙ e ∙ append_assoc (signed_decimal z) (codes " ") (truth_text t)) in
+    ap (λ (n : ℤ). replies.Flown n s) (signed_decimal_injective y z (once_small y hy) (once_small z hz) parts.0) ∙ ap (λ (b : Bool). replies.Flown z b) (truth_apart s t parts.1)
+
+flown_lacks : (z : ℤ) (s : Bool) → once_in_range (once_replies.Ran z) ≡ true → lacks 10 (flown_reply_text z s) ≡ true
+flown_lacks z s h =
+    lacks_both 10 (signed_decimal z ++ codes " ") (truth_text s) (lacks_both 10 (signed_decimal z) (codes " ") (signed_lacks 10 no_feed no_minus_feed z (once_small z h)) refl) (truth_lacks 10 refl refl s)
 
 var_apart : (call : VarCall) (a b : VarReply) → var_form call a ≡ true → var_form call b ≡ true → var_in_range a ≡ true → var_in_range b ≡ true → var_reply_text a ≡ var_reply_text b → a ≡ b
 var_apart var_calls.Read (var_replies.Held m) (var_replies.Held n) fa fb ha hb e = ap (λ (v : ℕ). var_replies.Held v) (decimal_one m n ha hb e)
@@ -505,6 +526,7 @@ module _ (plan : Plan) (are : AreKeys (keys_in plan.scripts)) where
   reply_lacks call (replies.OnceFunc a) h = func_lacks a h
   reply_lacks call (replies.OnceValue a) h = number_lacks 10 no_feed a h
   reply_lacks call (replies.Pool a) h = pool_lacks a h
+  reply_lacks call (replies.Flown z s) h = flown_lacks z s h
   reply_lacks call (replies.Var a) h = var_lacks a h
 
   -- and no two replies to one call have one text
@@ -533,6 +555,7 @@ module _ (plan : Plan) (are : AreKeys (keys_in plan.scripts)) where
       by_operation : (o : Operation) (a : LockReply) (b : Reply ℕ) → is_reply_to {K = ℕ} o (replies.Lock a) ≡ true → is_reply_to {K = ℕ} o b ≡ true → is_in_range plan call b ≡ true → lock_reply_text a ≡ reply_text keys b → replies.Lock a ≡ b
       by_operation (operations.Mutex of) a (replies.Lock b) fa fb hb e = ap (λ (r : LockReply). replies.Lock r) (mutex_apart of a b fa fb e)
       by_operation (operations.RwMutex of) a (replies.Lock b) fa fb hb e = ap (λ (r : LockReply). replies.Lock r) (rw_mutex_apart of a b fa fb e)
+      by_operation (operations.Sema of) a (replies.Lock b) fa fb hb e = ap (λ (r : LockReply). replies.Lock r) (sema_apart of a b fa fb e)
       by_operation (operations.Composed (Go worker)) a b fa fb hb e = absurd cc
       by_operation o a b fa fb hb e = absurd cc
   reply_apart call replies.Returned b fa fb ha hb e = by_operation call.operation b fa fb
@@ -566,6 +589,12 @@ module _ (plan : Plan) (are : AreKeys (keys_in plan.scripts)) where
       by_operation (operations.Pool of) a (replies.Pool b) fa fb ha hb e = ap (λ (r : PoolCallReply). replies.Pool r) (pool_apart of a b fa fb ha hb e)
       by_operation (operations.Composed (Go worker)) a b fa fb ha hb e = absurd cc
       by_operation o a b fa fb ha hb e = absurd cc
+  reply_apart call (replies.Flown z s) b fa fb ha hb e = by_operation call.operation b fa fb hb e
+    where
+      by_operation : (o : Operation) (b : Reply ℕ) → is_reply_to {K = ℕ} o (replies.Flown z s) ≡ true → is_reply_to {K = ℕ} o b ≡ true → is_in_range plan call b ≡ true → flown_reply_text z s ≡ reply_text keys b → replies.Flown z s ≡ b
+      by_operation (operations.Fly key) (replies.Flown y t) fa fb hb e = flown_apart z y s t ha hb e
+      by_operation (operations.Composed (Go worker)) b fa fb hb e = absurd cc
+      by_operation o b fa fb hb e = absurd cc
   reply_apart call (replies.Var a) b fa fb ha hb e = by_operation call.operation a b fa fb ha hb e
     where
       by_operation : (o : Operation) (a : VarReply) (b : Reply ℕ) → is_reply_to {K = ℕ} o (replies.Var a) ≡ true → is_reply_to {K = ℕ} o b ≡ true → var_in_range a ≡ true → is_in_range plan call b ≡ true → var_reply_text a ≡ reply_text keys b → replies.Var a ≡ b

@@ -50,6 +50,7 @@ all_flat p q f each (x ∷ xs) h =
 -- keys
 operation_named : (o : Operation) → is_operation o ≡ true → list_all is_name (operation_keys o) ≡ true
 operation_named (operations.Map call) h = (and_parts (list_all is_name (option_to_list (map_key call))) (list_all is_value (map_values call)) h).0
+operation_named (operations.Fly key) h = and_from (is_name key) true h refl
 operation_named o h = refl
 
 all_keys_named : (scripts : List (List Call)) → list_all (list_all is_call) scripts ≡ true → list_all is_name (all_keys scripts) ≡ true

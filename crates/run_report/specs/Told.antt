@@ -88,6 +88,7 @@ is_in_range plan call (replies.Once reply) = once_in_range reply
 is_in_range plan call (replies.OnceFunc code) = code_in_range code
 is_in_range plan call (replies.OnceValue value) = has_64_bits value
 is_in_range plan call (replies.Pool reply) = pool_in_range reply
+is_in_range plan call (replies.Flown value shared) = is_of Int64 (numbers.Int64 value)
 is_in_range plan call (replies.Var reply) = var_in_range reply
 
 -- a value at the end is of an object that is there

@@ -1,6 +1,5 @@
 //! The canonical text of a workload.
 use std::test::Fail;
-use workload::laws::plain_texts_are_race_texts_without_variables;
 use workload_text::{parse, print};
 
 const CANONICAL_TEXTS: [(&[u8], &[u8]); 11] = [
@@ -49,7 +48,6 @@ const CANONICAL_TEXTS: [(&[u8], &[u8]); 11] = [
 
 #[test]
 fn the_canonical_text(rt: HostRuntime) -> Result<(), Fail> {
-    plain_texts_are_race_texts_without_variables();
     for &(text, canonical) in &CANONICAL_TEXTS {
         let workload = parse(rt.alloc(), text).ok().ok_or("the text is read")?;
         let printed = print(rt.alloc(), &workload)?;
@@ -73,7 +71,6 @@ const IFEQS: [(&[u8], &[u8]); 10] = [
 
 #[test]
 fn an_ifeq_is_printed_as_it_is_read(rt: HostRuntime) -> Result<(), Fail> {
-    plain_texts_are_race_texts_without_variables();
     for &(kind, call) in &IFEQS {
         let mut text = Vec::new(rt.alloc());
         text.extend_from_slice(b"workers 1\n")?;

@@ -12,3 +12,5 @@ mod race_texts;
 mod reader;
 #[cfg(test)]
 mod record;
+#[cfg(test)]
+mod run_texts;

@@ -25,7 +25,7 @@ fn a_race_text_has_variables(rt: HostRuntime) -> Result<(), Fail> {
 }
 
 // How a text is refused, or line 1,000,000 where it is read.
-fn refusal(read: Result<Workload, ParseFault>) -> Result<(u32, &'static str), Fail> {
+pub fn refusal(read: Result<Workload, ParseFault>) -> Result<(u32, &'static str), Fail> {
     match read {
         Ok(_) => Ok((1_000_000, "read")),
         Err(ParseFault::Refused { line, reason }) => Ok((line, reason.text())),

@@ -135,7 +135,7 @@ const NO_FORM: [&[u8]; 62] = [
     b"outcome",
     b"outcome misused",
     b"outcome misused M0",
-    b"outcome misused M6",
+    b"outcome misused M7",
     b"outcome misused m1",
     b"outcome done ",
     b"call 2 0 0 0,0 ok",

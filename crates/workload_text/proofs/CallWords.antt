@@ -1,10 +1,10 @@
 -- How long words are.
 use Rattle.std.proofs.Common.{◌≤◌, length, arith}
 use Rattle.workload.specs.declared.keyword.Verb.{Verb}
-use Rattle.workload.specs.declared.keyword.Verb.TheVariants.{Load, Store, LoadOrStore, LoadAndDelete, Delete, Swap, CompareAndSwap, CompareAndDelete, Clear, Range, Add, And, Or, Lock, Unlock, TryLock, RLock, RUnlock, TryRLock, Wait, Signal, Broadcast, Done, Do, Call, Value, Put, Get, Sweep, IfEqual, WaitFor, Go, Read, Write}
+use Rattle.workload.specs.declared.keyword.Verb.TheVariants.{Load, Store, LoadOrStore, LoadAndDelete, Delete, Swap, CompareAndSwap, CompareAndDelete, Clear, Range, Add, And, Or, Lock, Unlock, TryLock, RLock, RUnlock, TryRLock, Wait, Signal, Broadcast, Done, Do, Call, Value, Put, Get, Sweep, IfEqual, WaitFor, Go, Acquire, TryAcquire, Release, Fly, Read, Write}
 use Rattle.workload.specs.KeywordWords.{verb_word}
 
-pub verb_short : (verb : Verb) → length (verb_word verb) ≤ 9
+pub verb_short : (verb : Verb) → length (verb_word verb) ≤ 10
 verb_short Load = omega arith
 verb_short Store = omega arith
 verb_short LoadOrStore = omega arith
@@ -37,5 +37,9 @@ verb_short Sweep = omega arith
 verb_short IfEqual = omega arith
 verb_short WaitFor = omega arith
 verb_short Go = omega arith
+verb_short Acquire = omega arith
+verb_short TryAcquire = omega arith
+verb_short Release = omega arith
+verb_short Fly = omega arith
 verb_short Read = omega arith
 verb_short Write = omega arith

@@ -14,7 +14,6 @@ use Rattle.workload.specs.declared.object.ObjectWord.{ObjectWord}
 use Rattle.workload.specs.declared.reason.Reason.{Reason}
 use Rattle.workload.specs.declared.turn.Turn.{Turn}
 use Rattle.workload.specs.Words.{turn_word}
-use Rattle.workload.specs.Plan.{word_of}
 use Rattle.workload.specs.Draft.{Draft, declared, count_of, limit_of}
 use Rattle.workload.specs.Checks.{Check, first_failing, form_words, parameter_words, declaration_checks, parameters_of, parameters_checks, call_form, call_checks, line_checks, item_checks}
 use Rattle.workload_text.specs.LineResult.{IsFault}
@@ -38,10 +37,10 @@ behind_two fails a b c rest (faults.Refused r) first second h = rw (first, secon
 
 -- a fault in the operands is one of the line
 pub call_fails : FailsFirst → (d : Draft) (verb : Verb) (name : List ℕ) (words : List (List ℕ)) (found : Declared) (f : LineFault) → is_some d.current ≡ true → is_name name ≡ true → declared d name ≡ Some found
-    → IsFault (form_words d (call_form d verb (word_of found.kind) words) words) f → IsFault (call_checks d verb (name ∷ words)) f
+    → IsFault (form_words d (call_form d verb found.kind words) words) f → IsFault (call_checks d verb (name ∷ words)) f
 call_fails fails d verb name words found faults.Memory current named is h = tt
 call_fails fails d verb name words found (faults.Refused r) current named is h =
-    rw (current, named, is) (fails (form_words d (call_form d verb (word_of found.kind) words) words) _ r h)
+    rw (current, named, is) (fails (form_words d (call_form d verb found.kind words) words) _ r h)
 
 -- a fault in the items is one of the line
 pub turns_fail : FailsFirst → (d : Draft) (words : List (List ℕ)) (f : LineFault) → nat_lt 0 (length words) ≡ true → IsFault (flat_map (item_checks d.plan.workers) words) f → IsFault (line_checks d (Some keywords.Schedule) words) f

@@ -7,12 +7,15 @@ use Rattle.workload.specs.declared.keyword.Operand.{Operand}
 use Rattle.workload.specs.declared.keyword.Operand.TheVariants as operands
 use Rattle.workload.specs.declared.keyword.Verb.{Verb}
 use Rattle.workload.specs.declared.keyword.Verb.TheVariants as verbs
+use Rattle.workload.specs.declared.object.ObjectKind.{ObjectKind}
+use Rattle.workload.specs.declared.object.ObjectKind.TheVariants as kinds
 use Rattle.workload.specs.declared.object.ObjectWord.{ObjectWord}
 use Rattle.workload.specs.declared.object.ObjectWord.TheVariants as words
 use Rattle.workload.specs.declared.reason.Reason.TheVariants.{WrongNumberOfWords}
 use Rattle.workload.specs.Draft.{Draft}
-use Rattle.workload.specs.Checks.{Check, operand_check, operand_checks, form_words, form_of, call_form, map_form, atomic_form, bits_form, mutex_form, rw_mutex_form, cond_form, group_form, once_form, once_func_form, once_value_form, pool_form, var_form}
-use Rattle.workload_text.specs.LineResult.{IsFault, blank}
+use Rattle.workload.specs.Checks.{Check, operand_check, operand_checks, form_words, form_of, call_form, map_form, atomic_form, bits_form, mutex_form, rw_mutex_form, cond_form, group_form, once_form, once_func_form, once_value_form, pool_form, sema_form, flight_form, var_form}
+use Rattle.workload.specs.Plan.{word_of}
+use Rattle.workload_text.specs.LineResult.{IsFault, blank, kind_form}
 
 -- whether no operand names an object or a worker
 abbrev is_plain : List Operand → Bool
@@ -74,6 +77,14 @@ plain_pool : (verb : Verb) → is_plain_form (pool_form verb) ≡ true
 plain_pool verbs.Put = refl
 plain_pool verb = refl
 
+plain_sema : (size : ℕ) (verb : Verb) → is_plain_form (sema_form size verb) ≡ true
+plain_sema size verbs.Acquire = refl
+plain_sema size verb = refl
+
+plain_flight : (verb : Verb) → is_plain_form (flight_form verb) ≡ true
+plain_flight verbs.Fly = refl
+plain_flight verb = refl
+
 plain_var : (verb : Verb) → is_plain_form (var_form verb) ≡ true
 plain_var verbs.Read = refl
 plain_var verb = refl
@@ -89,16 +100,23 @@ plain_form verb words.Once = (plain_once verb).0
 plain_form verb words.OnceFunc = (plain_once verb).1
 plain_form verb words.OnceValue = (plain_once verb).2
 plain_form verb words.Pool = plain_pool verb
+plain_form verb words.Sema = refl
+plain_form verb words.Flight = plain_flight verb
 plain_form verb words.Var = plain_var verb
 
+plain_kind : (verb : Verb) (kind : ObjectKind) → is_plain_form (kind_form verb kind) ≡ true
+plain_kind verb (kinds.Sema size) = plain_sema size verb
+plain_kind verb kind = plain_form verb (word_of kind)
+
 -- the form of a call is that of its object's calls but where it is a `waitfor` or a `go`
-call_form_is : (d : Draft) (verb : Verb) (word : ObjectWord) (ws : List (List ℕ)) → ((verb ≡ verbs.WaitFor) → ⊥) → ((verb ≡ verbs.Go) → ⊥) → call_form d verb word ws ≡ form_of verb word
-call_form_is d verbs.WaitFor word ws no_wait no_go = absurd (no_wait refl)
-call_form_is d verbs.Go word ws no_wait no_go = absurd (no_go refl)
-call_form_is d verb word ws no_wait no_go = refl
+call_form_is : (d : Draft) (verb : Verb) (kind : ObjectKind) (ws : List (List ℕ)) → ((verb ≡ verbs.WaitFor) → ⊥) → ((verb ≡ verbs.Go) → ⊥) → call_form d verb kind ws ≡ kind_form verb kind
+call_form_is d verbs.WaitFor kind ws no_wait no_go = absurd (no_wait refl)
+call_form_is d verbs.Go kind ws no_wait no_go = absurd (no_go refl)
+call_form_is d verb (kinds.Sema size) ws no_wait no_go = refl
+call_form_is d verb kind ws no_wait no_go = refl
 
 -- so a fault of the words by no draft is one by any
-pub plain_fails : (d : Draft) (verb : Verb) (word : ObjectWord) (ws : List (List ℕ)) (f : LineFault) → ((verb ≡ verbs.WaitFor) → ⊥) → ((verb ≡ verbs.Go) → ⊥) → IsFault (form_words blank (form_of verb word) ws) f → IsFault (form_words d (call_form d verb word ws) ws) f
-plain_fails d verb word ws f no_wait no_go h =
+pub plain_fails : (d : Draft) (verb : Verb) (kind : ObjectKind) (ws : List (List ℕ)) (f : LineFault) → ((verb ≡ verbs.WaitFor) → ⊥) → ((verb ≡ verbs.Go) → ⊥) → IsFault (form_words blank (kind_form verb kind) ws) f → IsFault (form_words d (call_form d verb kind ws) ws) f
+plain_fails d verb kind ws f no_wait no_go h =
     subst (λ (checks : List Check). IsFault checks f)
-    (same_words blank d (form_of verb word) ws (plain_form verb word) ∙ ap (λ (form : Option (List Operand)). form_words d form ws) (sym (call_form_is d verb word ws no_wait no_go))) h
+    (same_words blank d (kind_form verb kind) ws (plain_kind verb kind) ∙ ap (λ (form : Option (List Operand)). form_words d form ws) (sym (call_form_is d verb kind ws no_wait no_go))) h

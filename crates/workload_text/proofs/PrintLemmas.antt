@@ -1,5 +1,5 @@
 -- The canonical text, piece by piece.
-use Rattle.std.proofs.Common.{◌≡◌, ℕ, ◌<◌, length, take, drop, min, arith, inl, inr, List, [], ◌∷◌, ◌++◌, map, sym, ap, ◌∙◌, append_assoc}
+use Rattle.std.proofs.Common.{◌≡◌, ℕ, ◌<◌, length, take, drop, min, arith, inl, inr, List, [], ◌∷◌, ◌++◌, map, refl, sym, ap, ◌∙◌, append_assoc}
 use Rattle.std.specs.List.{join_with_byte}
 use Rattle.std.proofs.lemmas.List.{append-nil, take_all, drop_all}
 use Rattle.std.proofs.lemmas.Bool.{cases_lt}
@@ -25,6 +25,19 @@ close_line start text word words rest none h =
     ∙ append_assoc (start ++ word) (behind_spaces words) (10 ∷ [])
     ∙ append_assoc start word (behind_spaces words ++ 10 ∷ [])
     ∙ ap (λ (t : List ℕ). start ++ t) (sym (line_is word words))
+
+-- more words, each behind a space
+spaces_both : (words more : List (List ℕ)) → behind_spaces (words ++ more) ≡ behind_spaces words ++ behind_spaces more
+spaces_both [] more = refl
+spaces_both (word ∷ words) more = ap (λ (t : List ℕ). (32 ∷ word) ++ t) (spaces_both words more) ∙ sym (append_assoc (32 ∷ word) (behind_spaces words) (behind_spaces more))
+
+-- the line of a call: its word, the names of its objects, and its operands
+pub call_closed : (start word one two three : List ℕ) (names operands : List (List ℕ)) → one ≡ start ++ word → two ≡ one ++ behind_spaces names → three ≡ two ++ behind_spaces operands
+    → three ++ 10 ∷ [] ≡ start ++ text_line (word ∷ names ++ operands)
+call_closed start word one two three names operands first second third =
+    close_line start three word (names ++ operands) [] refl
+    (append-nil three ∙ third ∙ ap (λ (t : List ℕ). t ++ behind_spaces operands) (second ∙ ap (λ (t : List ℕ). t ++ behind_spaces names) first)
+    ∙ append_assoc (start ++ word) (behind_spaces names) (behind_spaces operands) ∙ ap (λ (t : List ℕ). (start ++ word) ++ t) (sym (spaces_both names operands)))
 
 take_min : {X : Type 0} (n : ℕ) (xs : List X) → take (min (length xs) n) xs ≡ take n xs
 take_min n xs = elim (cases_lt n (length xs)) [

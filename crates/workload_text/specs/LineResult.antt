@@ -22,10 +22,10 @@ use Rattle.workload.specs.declared.line.Line.{Line}
 use Rattle.workload.specs.Dialect.{knows, keyword_in}
 use Rattle.workload.specs.CallWords.{verb_of, operands_of}
 use Rattle.workload.specs.Words.{spelled, first_spelled, keyword_of, arguments_of, kind_parameters, turn_word}
-use Rattle.workload.specs.Plan.{word_of, has_operation, has_among}
+use Rattle.workload.specs.Plan.{word_of, has_operation, has_call, has_among}
 use Rattle.workload.specs.Lines.{is_short, is_clean, words_of, is_significant}
 use Rattle.workload.specs.Draft.{Draft, started, declared, may_follow, names_reference, names_second, may_start, is_kind, is_operation, is_item}
-use Rattle.workload.specs.Checks.{Check, first_failing, line_checks, form_of, form_words, call_form, wait_for_words, is_atomic, parameter_words, reference_checks, item_checks, first_checks, checks_of}
+use Rattle.workload.specs.Checks.{Check, first_failing, line_checks, form_of, sema_form, form_words, call_form, wait_for_words, is_atomic, parameter_words, reference_checks, item_checks, first_checks, checks_of}
 
 -- the fault is the first check that fails, unless memory ran out
 abbrev pub IsFault : List Check → LineFault → Type 0
@@ -63,6 +63,20 @@ IsCallOf word verb words operation =
 abbrev pub IsCall : ObjectWord → Verb → List (List ℕ) → Result Operation LineFault → Type 0
 IsCall word verb words result = MatchResult result (IsCallOf word verb words) (IsFault (form_words blank (form_of verb word) words))
 
+-- the operands of a call on an object of this kind, where such objects have the call: of any call but a `waitfor` and a `go`, which name an object and a worker
+abbrev pub kind_form : Verb → ObjectKind → Option (List Operand)
+kind_form verb (kinds.Sema size) = sema_form size verb
+kind_form verb kind = form_of verb (word_of kind)
+
+-- an operation of this verb with these operands, in range, that an object of this kind has, whatever other objects there are
+abbrev pub IsCallOfKind : ObjectKind → Verb → List (List ℕ) → Operation → Type 0
+IsCallOfKind kind verb words operation =
+    (verb_of operation ≡ verb) × (operands_of operation ≡ words) × (is_operation operation ≡ true) × (has_call kind operation ≡ true)
+
+-- such an operation, or the first check that fails
+abbrev pub IsCallBy : ObjectKind → Verb → List (List ℕ) → Result Operation LineFault → Type 0
+IsCallBy kind verb words result = MatchResult result (IsCallOfKind kind verb words) (IsFault (form_words blank (kind_form verb kind) words))
+
 -- An operation of this verb that an object of this kind has in the draft, with the name of a second object, if it has one, and these words behind the name of the first. A worker that it starts may be started
 abbrev pub IsCallIn : Draft → ObjectKind → Verb → List (List ℕ) → Option (List ℕ) × Operation → Type 0
 IsCallIn d kind verb words said =
@@ -70,7 +84,7 @@ IsCallIn d kind verb words said =
 
 -- such an operation, or the first check that fails
 abbrev pub IsCallOn : Draft → ObjectKind → Verb → List (List ℕ) → Result (Option (List ℕ) × Operation) LineFault → Type 0
-IsCallOn d kind verb words result = MatchResult result (IsCallIn d kind verb words) (IsFault (form_words d (call_form d verb (word_of kind) words) words))
+IsCallOn d kind verb words result = MatchResult result (IsCallIn d kind verb words) (IsFault (form_words d (call_form d verb kind words) words))
 
 -- the name of an atomic, and a `waitfor` of it
 abbrev pub IsWait : Draft → List (List ℕ) → Result (List ℕ × Operation) LineFault → Type 0

@@ -1,5 +1,5 @@
 -- The lines of a report: that of a completed call, and that of a value that an object holds at the end.
-use Rattle.std.specs.Prelude.{ℕ, Bool, List, [], ◌∷◌, ◌++◌, map, codes, Option, Some, None, slice_get}
+use Rattle.std.specs.Prelude.{ℕ, ℤ, Bool, List, [], ◌∷◌, ◌++◌, map, codes, Option, Some, None, slice_get}
 use Rattle.std.specs.Fmt.{decimal, signed_decimal}
 use Rattle.script_calls.specs.declared.call.Call.{Call}
 use Rattle.script_calls.specs.declared.call.Reply.{Reply}
@@ -57,7 +57,7 @@ atomic_reply_text atomic_replies.Done = codes "ok"
 atomic_reply_text (atomic_replies.Held number) = number_word number
 atomic_reply_text (atomic_replies.Compared is_old) = truth_text is_old
 
--- a reply of a lock: nothing, or whether a try took it
+-- a reply of a lock or a semaphore: nothing, or whether a try had it
 abbrev pub lock_reply_text : LockReply → List ℕ
 lock_reply_text lock_replies.Done = codes "ok"
 lock_reply_text (lock_replies.Tried is_taken) = truth_text is_taken
@@ -78,6 +78,10 @@ pool_reply_text pool_replies.Done = codes "ok"
 pool_reply_text (pool_replies.Put item) = decimal item ++ codes " put"
 pool_reply_text pool_replies.New = codes "0 new"
 
+-- a reply of a flight: its value, and whether more than one call received it
+abbrev pub flown_reply_text : ℤ → Bool → List ℕ
+flown_reply_text value shared = signed_decimal value ++ codes " " ++ truth_text shared
+
 -- a reply of a plain variable: nothing, or the value that was read
 abbrev pub var_reply_text : VarReply → List ℕ
 var_reply_text var_replies.Done = codes "ok"
@@ -94,6 +98,7 @@ reply_text keys (replies.Once reply) = once_reply_text reply
 reply_text keys (replies.OnceFunc code) = once_func_reply_text code
 reply_text keys (replies.OnceValue value) = decimal value
 reply_text keys (replies.Pool reply) = pool_reply_text reply
+reply_text keys (replies.Flown value shared) = flown_reply_text value shared
 reply_text keys (replies.Var reply) = var_reply_text reply
 
 -- the line of a completed call: `WORKER.INDEX CALL -> REPLY`

@@ -1,11 +1,11 @@
 //! Which call an operation is, and which objects it names beside its own.
 ghost use Rattle.std.specs.Prelude.{◌≡◌};
-ghost use Rattle.workload.specs.CallWords.{map_verb, atomic_verb, mutex_verb, rw_mutex_verb, cond_verb, group_verb, pool_verb, var_verb, composed_verb, verb_of};
+ghost use Rattle.workload.specs.CallWords.{map_verb, atomic_verb, mutex_verb, rw_mutex_verb, cond_verb, group_verb, pool_verb, sema_verb, var_verb, composed_verb, verb_of};
 ghost use Rattle.workload.specs.Plan.{second_of};
 
 use script_calls::{ComposedCall, Operation, VarCall};
 use sync_types::{
-    AtomicCall, CondCall, MapCall, MutexCall, Name, PoolCall, RwMutexCall, WaitGroupCall,
+    AtomicCall, CondCall, MapCall, MutexCall, Name, PoolCall, RwMutexCall, SemaCall, WaitGroupCall,
 };
 use workload::keyword::Verb;
 
@@ -99,6 +99,17 @@ pub fn pool_verb(call: PoolCall) -> Verb
     }
 }
 
+/// Which call of a weighted semaphore it is.
+pub fn sema_verb(call: SemaCall) -> Verb
+    ensures { result ≡ sema_verb call }
+{
+    match call {
+        SemaCall::Acquire(_) => Verb::Acquire,
+        SemaCall::TryAcquire(_) => Verb::TryAcquire,
+        SemaCall::Release(_) => Verb::Release,
+    }
+}
+
 /// Which call of a plain variable it is.
 pub fn var_verb(call: VarCall) -> Verb
     ensures { result ≡ var_verb call }
@@ -136,6 +147,8 @@ pub fn verb(operation: &Operation) -> Verb
         Operation::OnceFunc => Verb::Call,
         Operation::OnceValue => Verb::Value,
         Operation::Pool(call) => pool_verb(*call),
+        Operation::Sema(call) => sema_verb(*call),
+        Operation::Fly(_) => Verb::Fly,
         Operation::Var(call) => var_verb(*call),
         Operation::Composed(call) => composed_verb(*call),
     }

@@ -3,21 +3,24 @@ ghost use Rattle.std.specs.Prelude.{◌≡◌, ◌∷◌, [], ◌≤◌, true, m
 ghost use Rattle.std.specs.Fmt.{decimal, signed_decimal};
 ghost use Rattle.sync_types.specs.Name.{is_name};
 ghost use Rattle.sync_types.specs.SequentialAtomic.{has_bits, is_of};
-ghost use Rattle.workload.specs.NumberWords.{is_passes, number_word};
+ghost use Rattle.workload.specs.NumberWords.{is_passes, is_weight, number_word};
+ghost use Rattle.workload.specs.Draft.{is_kind};
 ghost use Rattle.workload.specs.Plan.{is_amount};
-ghost use Rattle.workload.specs.Checks.{bits_form, first_failing, form_words};
+ghost use Rattle.workload.specs.Checks.{bits_form, sema_form, first_failing, form_words};
 ghost use Rattle.sync_types.specs.declared.value.TheConstants.{MAX_VALUE};
-ghost use Rattle.workload_text.specs.LineResult.{blank, IsFault, IsOperands, IsCall, IsWait, IsStart, IsCallOn};
+ghost use Rattle.workload.specs.declared.limits.TheConstants.{MAX_SIZE};
+ghost use Rattle.workload_text.specs.LineResult.{blank, IsFault, IsOperands, IsCall, IsCallBy, IsWait, IsStart, IsCallOn};
 
 use crate::object_reading::read_atomic;
 use crate::word_reading::{
-    read_amount, read_name, read_none, read_number, read_passes, read_start, read_tries, read_value,
+    read_amount, read_name, read_none, read_number, read_passes, read_start, read_tries,
+    read_value, read_weight,
 };
 use script_calls::{ComposedCall, Operation, VarCall};
 use std::alloc::Global;
 use sync_types::{
     AtomicCall, AtomicKind, CondCall, MAX_VALUE, MapCall, MutexCall, Name, Number, PoolCall,
-    RwMutexCall, WaitGroupCall,
+    RwMutexCall, SemaCall, WaitGroupCall,
 };
 use workload::draft::Draft;
 use workload::fault::LineFault;
@@ -246,6 +249,52 @@ fn read_pool_call(verb: Verb, words: &[&[u8]]) -> Result<Operation, LineFault>
     }
 }
 
+/// A weight of 1 to a semaphore's size, alone.
+fn read_one_weight(size: u64, words: &[&[u8]]) -> Result<u64, LineFault>
+    requires { size ≤ MAX_SIZE }
+    ensures { IsOperands (λ weight. (is_weight size weight ≡ true) × (is_weight MAX_SIZE weight ≡ true) × (map (λ word. word.now) words.now ≡ decimal weight ∷ [])) (Operand.Weight size ∷ []) (map (λ word. word.now) words.now) result }
+{
+    let [weight] = words else {
+        return Err(LineFault::Refused(Reason::WrongNumberOfWords));
+    };
+    read_weight(size, weight)
+}
+
+/// A call of a weighted semaphore of this size.
+fn read_sema_call(size: u64, verb: Verb, words: &[&[u8]]) -> Result<Operation, LineFault>
+    requires { size ≤ MAX_SIZE }
+    ensures { IsCallBy (ObjectKind.Sema size) verb (map (λ word. word.now) words.now) result }
+{
+    match verb {
+        Verb::Acquire => {
+            let weight = read_one_weight(size, words)?;
+            Ok(Operation::Sema(SemaCall::Acquire(weight)))
+        }
+        Verb::TryAcquire => {
+            let weight = read_one_weight(size, words)?;
+            Ok(Operation::Sema(SemaCall::TryAcquire(weight)))
+        }
+        Verb::Release => {
+            let weight = read_one_weight(size, words)?;
+            Ok(Operation::Sema(SemaCall::Release(weight)))
+        }
+        _ => Err(LineFault::Refused(Reason::WrongKind)),
+    }
+}
+
+/// A call of a group of flights.
+fn read_flight_call(alloc: Global, verb: Verb, words: &[&[u8]]) -> Result<Operation, LineFault>
+    ensures { IsCall ObjectWord.Flight verb (map (λ word. word.now) words.now) result }
+{
+    match verb {
+        Verb::Fly => {
+            let key = read_key(alloc, words)?;
+            Ok(Operation::Fly(key))
+        }
+        _ => Err(LineFault::Refused(Reason::WrongKind)),
+    }
+}
+
 /// A call of a plain variable.
 fn read_var_call(verb: Verb, words: &[&[u8]]) -> Result<Operation, LineFault>
     ensures { IsCall ObjectWord.Var verb (map (λ word. word.now) words.now) result }
@@ -257,46 +306,49 @@ fn read_var_call(verb: Verb, words: &[&[u8]]) -> Result<Operation, LineFault>
     }
 }
 
-/// A call on an object of this word.
+/// A call on an object of this kind, but for a `waitfor` and a `go`.
 fn read_operation(
     alloc: Global,
-    word: ObjectWord,
+    kind: ObjectKind,
     verb: Verb,
     words: &[&[u8]],
 ) -> Result<Operation, LineFault>
-    ensures { IsCall word verb (map (λ word. word.now) words.now) result }
+    requires { is_kind kind ≡ true }
+    ensures { IsCallBy kind verb (map (λ word. word.now) words.now) result }
 {
-    match word {
-        ObjectWord::Map => read_map_call(alloc, verb, words),
-        ObjectWord::Atomic(kind) => read_atomic_call(kind, verb, words),
-        ObjectWord::Mutex => match verb {
+    match kind {
+        ObjectKind::Map => read_map_call(alloc, verb, words),
+        ObjectKind::Atomic(kind) => read_atomic_call(kind, verb, words),
+        ObjectKind::Mutex => match verb {
             Verb::Lock => read_bare(Operation::Mutex(MutexCall::Lock), words),
             Verb::Unlock => read_bare(Operation::Mutex(MutexCall::Unlock), words),
             Verb::TryLock => read_bare(Operation::Mutex(MutexCall::TryLock), words),
             _ => Err(LineFault::Refused(Reason::WrongKind)),
         },
-        ObjectWord::RwMutex => read_rw_mutex_call(verb, words),
-        ObjectWord::Cond => match verb {
+        ObjectKind::RwMutex => read_rw_mutex_call(verb, words),
+        ObjectKind::Cond { .. } => match verb {
             Verb::Wait => read_bare(Operation::Cond(CondCall::Wait), words),
             Verb::Signal => read_bare(Operation::Cond(CondCall::Signal), words),
             Verb::Broadcast => read_bare(Operation::Cond(CondCall::Broadcast), words),
             _ => Err(LineFault::Refused(Reason::WrongKind)),
         },
-        ObjectWord::WaitGroup => read_group_call(verb, words),
-        ObjectWord::Once => match verb {
+        ObjectKind::WaitGroup { .. } => read_group_call(verb, words),
+        ObjectKind::Once { .. } => match verb {
             Verb::Do => read_bare(Operation::Once, words),
             _ => Err(LineFault::Refused(Reason::WrongKind)),
         },
-        ObjectWord::OnceFunc => match verb {
+        ObjectKind::OnceFunc { .. } => match verb {
             Verb::Call => read_bare(Operation::OnceFunc, words),
             _ => Err(LineFault::Refused(Reason::WrongKind)),
         },
-        ObjectWord::OnceValue => match verb {
+        ObjectKind::OnceValue { .. } => match verb {
             Verb::Value => read_bare(Operation::OnceValue, words),
             _ => Err(LineFault::Refused(Reason::WrongKind)),
         },
-        ObjectWord::Pool => read_pool_call(verb, words),
-        ObjectWord::Var => read_var_call(verb, words),
+        ObjectKind::Pool => read_pool_call(verb, words),
+        ObjectKind::Sema { size } => read_sema_call(size, verb, words),
+        ObjectKind::Flight { .. } => read_flight_call(alloc, verb, words),
+        ObjectKind::Var => read_var_call(verb, words),
     }
 }
 
@@ -373,11 +425,12 @@ pub fn read_call_on(
     verb: Verb,
     words: &[&[u8]],
 ) -> Result<(Option<Name>, Operation), LineFault>
+    requires { is_kind kind ≡ true }
     ensures { IsCallOn draft.now kind verb (map (λ word. word.now) words.now) result }
 {
     match verb {
         Verb::WaitFor => read_wait_for(alloc, draft, kind, words),
         Verb::Go => read_go(draft, kind, words),
-        _ => Ok((None, read_operation(alloc, kind.word(), verb, words)?)),
+        _ => Ok((None, read_operation(alloc, kind, verb, words)?)),
     }
 }

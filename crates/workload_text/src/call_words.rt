@@ -16,15 +16,15 @@ use script_calls::{Call, Operation};
 use workload::ObjectLine;
 use workload::object::name_at;
 
-/// The most bytes that the words of a call have in a line: a word of up to 9 bytes, the names of the call's object, of a
+/// The most bytes that the words of a call have in a line: a word of up to 10 bytes, the names of the call's object, of a
 /// second one and of a key, and two numbers, each behind a space.
-pub const WORDS_ROOM: usize = 151;
+pub const WORDS_ROOM: usize = 152;
 
 /// Adds the word of an operation behind a space.
 #[tactic(auto, using(crate::proofs::CallWords::verb_short))]
 fn push_verb(line: &mut Vec<u8>, operation: &Operation)
-    requires { HasRoom line.old 10 }
-    ensures { Adds line.old line.new (32 ∷ verb_word (verb_of operation.now)) 10 }
+    requires { HasRoom line.old 11 }
+    ensures { Adds line.old line.new (32 ∷ verb_word (verb_of operation.now)) 11 }
 {
     push_word(line, verb(operation).text());
 }

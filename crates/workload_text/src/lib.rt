@@ -23,5 +23,5 @@ pub use completed_line::set_completed_line;
 pub use end_line::set_end_line;
 pub use line::{LINE_ROOM, push, push_word};
 pub use operands::{Numbers, operands_of};
-pub use parsing::{parse, parse_race};
+pub use parsing::{parse, parse_race, parse_run};
 pub use printing::print;

@@ -6,12 +6,12 @@ ghost use Rattle.workload.specs.Checks.{parameters_of, is_mutex, is_int64};
 ghost use Rattle.workload_text.specs.LineResult.{IsReferenceTo, IsAtomicOf, IsKindOf};
 ghost use Rattle.workload.specs.declared.object.ObjectKind.TheVariants as ObjectKind;
 
-use crate::word_reading::{read_amount, read_name, read_none, read_number_to};
+use crate::word_reading::{read_amount, read_name, read_none, read_number_to, read_weight};
 use std::alloc::Global;
 use sync_types::{AtomicKind, MAX_VALUE, Name};
 use workload::draft::Draft;
 use workload::fault::LineFault;
-use workload::limits::{MAX_AMOUNT, MAX_CODE};
+use workload::limits::{MAX_AMOUNT, MAX_CODE, MAX_SIZE};
 use workload::object::{Declared, ObjectKind, ObjectWord};
 use workload::reason::Reason;
 
@@ -112,6 +112,33 @@ fn read_once(
     Ok((ObjectKind::Once { atomic, delta }, Some(name)))
 }
 
+/// A weighted semaphore with its size.
+fn read_sema(draft: &Draft, words: &[&[u8]]) -> Result<(ObjectKind, Option<Name>), LineFault>
+    ensures { IsKindOf draft.now ObjectWord.Sema (map (λ word. word.now) words.now) result }
+{
+    let [size] = words else {
+        return Err(LineFault::Refused(Reason::WrongNumberOfWords));
+    };
+    let size = read_weight(MAX_SIZE, size)?;
+    Ok((ObjectKind::Sema { size }, None))
+}
+
+/// A group of flights, and the name of its int64.
+fn read_flight(
+    alloc: Global,
+    draft: &Draft,
+    words: &[&[u8]],
+) -> Result<(ObjectKind, Option<Name>), LineFault>
+    ensures { IsKindOf draft.now ObjectWord.Flight (map (λ word. word.now) words.now) result }
+{
+    let [atomic, delta] = words else {
+        return Err(LineFault::Refused(Reason::WrongNumberOfWords));
+    };
+    let (name, atomic) = read_int64(alloc, draft, atomic)?;
+    let delta = i64::from(read_amount(delta)?);
+    Ok((ObjectKind::Flight { atomic, delta }, Some(name)))
+}
+
 /// A function made by `OnceFunc` with its code.
 fn read_once_func(draft: &Draft, words: &[&[u8]]) -> Result<(ObjectKind, Option<Name>), LineFault>
     ensures { IsKindOf draft.now ObjectWord.OnceFunc (map (λ word. word.now) words.now) result }
@@ -167,6 +194,8 @@ pub fn read_kind(
         ObjectWord::OnceFunc => read_once_func(draft, words),
         ObjectWord::OnceValue => read_once_value(draft, words),
         ObjectWord::Pool => read_plain(draft, ObjectKind::Pool, words),
+        ObjectWord::Sema => read_sema(draft, words),
+        ObjectWord::Flight => read_flight(alloc, draft, words),
         ObjectWord::Var => read_plain(draft, ObjectKind::Var, words),
     }
 }
@@ -176,9 +205,12 @@ pub fn parameter_count(word: ObjectWord) -> usize
     ensures { result ≡ length (parameters_of word) }
 {
     match word {
-        ObjectWord::Cond | ObjectWord::WaitGroup | ObjectWord::OnceFunc | ObjectWord::OnceValue =>
-            1,
-        ObjectWord::Once => 2,
+        ObjectWord::Cond
+        | ObjectWord::WaitGroup
+        | ObjectWord::OnceFunc
+        | ObjectWord::OnceValue
+        | ObjectWord::Sema => 1,
+        ObjectWord::Once | ObjectWord::Flight => 2,
         _ => 0,
     }
 }

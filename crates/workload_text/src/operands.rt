@@ -3,14 +3,14 @@ ghost use Rattle.std.specs.Prelude.{◌≡◌, ◌++◌, map};
 ghost use Rattle.std.specs.Fmt.{decimal};
 ghost use Rattle.std.specs.Option.{option_to_list, option_copied};
 ghost use Rattle.workload.specs.NumberWords.{number_word};
-ghost use Rattle.workload.specs.CallWords.{map_values, atomic_numbers, group_operands, pool_operands, var_operands, composed_operands, operands_of};
+ghost use Rattle.workload.specs.CallWords.{map_values, atomic_numbers, group_operands, pool_operands, sema_weight, var_operands, composed_operands, operands_of};
 ghost use Rattle.workload_text.specs.Numbers.{numbers_in};
 
 use script_calls::{ComposedCall, Operation, VarCall};
-use sync_types::{AtomicCall, MapCall, Name, Number, PoolCall, WaitGroupCall};
+use sync_types::{AtomicCall, MapCall, Name, Number, PoolCall, SemaCall, WaitGroupCall};
 
-/// The numbers of a call, in order. A value of a map or a variable and an item of a pool are of the type `Uint64` here,
-/// an amount for a wait group is of `Int32`, and the number of calls that an `ifeq` passes over, of waits that a
+/// The numbers of a call, in order. A value of a map or a variable, an item of a pool and a weight are of the type `Uint64`
+/// here, an amount for a wait group is of `Int32`, and the number of calls that an `ifeq` passes over, of waits that a
 /// `waitfor` may make or of the worker that a `go` starts is of `Uint32`.
 #[derive(Clone, Copy)]
 pub enum Numbers {
@@ -75,6 +75,17 @@ fn pool_numbers(call: PoolCall) -> Numbers
     }
 }
 
+/// The weight of a call of a weighted semaphore.
+fn sema_weight(call: SemaCall) -> u64
+    ensures { result ≡ sema_weight call }
+{
+    match call {
+        SemaCall::Acquire(weight) | SemaCall::TryAcquire(weight) | SemaCall::Release(weight) => {
+            weight
+        }
+    }
+}
+
 /// The value that a call of a plain variable writes.
 fn var_numbers(call: VarCall) -> Numbers
     ensures { map number_word (numbers_in result) ≡ var_operands call }
@@ -106,6 +117,8 @@ pub fn operands_of(operation: &Operation) -> (Option<&Name>, Numbers)
         Operation::Atomic(call) => (None, atomic_numbers(*call)),
         Operation::WaitGroup(call) => (None, group_numbers(*call)),
         Operation::Pool(call) => (None, pool_numbers(*call)),
+        Operation::Sema(call) => (None, Numbers::One(Number::Uint64(sema_weight(*call)))),
+        Operation::Fly(key) => (Some(key), Numbers::Empty),
         Operation::Var(call) => (None, var_numbers(*call)),
         Operation::Composed(call) => (None, composed_numbers(*call)),
         Operation::Range

@@ -124,7 +124,7 @@ fn parse_in(alloc: Global, dialect: Dialect, bytes: &[u8]) -> Result<Workload, P
     Ok(read_lines(alloc, dialect, bytes)?.finish(alloc)?)
 }
 
-/// Reads a workload text.
+/// Reads a workload text of which a record tells: one without plain variables, weighted semaphores and flights.
 ///
 /// The text is split at line feeds; a blank line and one whose first word begins with `#` say nothing.
 /// An `Err` is the first fault: the least line, and in it the first check that fails.
@@ -133,6 +133,14 @@ pub fn parse(alloc: Global, bytes: &[u8]) -> Result<Workload, ParseFault>
     ensures refused { IfErr result (IsFaultOf bytes.now) }
 {
     parse_in(alloc, Dialect::Plain, bytes)
+}
+
+/// Reads a workload text that may also have weighted semaphores and flights: the text of a run.
+pub fn parse_run(alloc: Global, bytes: &[u8]) -> Result<Workload, ParseFault>
+    ensures read { IfOk result (ReadsIn Dialect.Runs bytes.now) }
+    ensures refused { IfErr result (IsFaultIn Dialect.Runs bytes.now) }
+{
+    parse_in(alloc, Dialect::Runs, bytes)
 }
 
 /// Reads a workload text that may also have plain variables, which are read and written without a lock: the text of a run

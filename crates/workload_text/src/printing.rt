@@ -7,8 +7,8 @@ ghost use Rattle.workload.specs.NumberWords.{number_word};
 ghost use Rattle.workload.specs.CallWords.{operands_of};
 ghost use Rattle.workload.specs.Words.{turn_word, kind_parameters, spelled};
 ghost use Rattle.workload.specs.declared.line.Line.TheVariants as Line;
-ghost use Rattle.workload.specs.Dialect.{has_variables};
-ghost use Rattle.workload.specs.Reads.{Reads};
+ghost use Rattle.workload.specs.Dialect.{has_variables, has_x_sync, has_unrecorded};
+ghost use Rattle.workload.specs.Reads.{Reads, ReadsIn};
 ghost use Rattle.workload.specs.Canonical.{text_line, call_line, object_line, name_of, reference_name, second_name, dormant_lines, script_lines, eights, canonical_lines, canonical, behind_spaces, lines_text};
 ghost use Rattle.workload_text.specs.Numbers.{numbers_in};
 
@@ -17,8 +17,11 @@ use crate::operands::{Numbers, operands_of};
 use script_calls::{Call, Operation};
 use std::alloc::{AllocError, Global};
 use sync_types::Number;
-use workload::keyword::Keyword;
-use workload::laws::{canonical_reads, schedules_go_by_eights};
+use workload::keyword::{Dialect, Keyword};
+use workload::laws::{
+    canonical_reads, race_texts_are_read_or_refused, run_texts_are_read_or_refused,
+    schedules_go_by_eights,
+};
 use workload::object::name_at;
 use workload::{ObjectKind, ObjectLine, Turn, Workload};
 
@@ -164,8 +167,13 @@ fn put_parameters(
             put_word(text, name_at(objects, atomic))?;
             put_signed(alloc, text, delta)
         }
+        ObjectKind::Flight { atomic, delta } => {
+            put_word(text, name_at(objects, atomic))?;
+            put_signed(alloc, text, delta)
+        }
         ObjectKind::OnceFunc { code } => put_number(alloc, text, u64::from(code)),
         ObjectKind::OnceValue { value } => put_number(alloc, text, value),
+        ObjectKind::Sema { size } => put_number(alloc, text, size),
         ObjectKind::Map
         | ObjectKind::Atomic(_)
         | ObjectKind::Mutex
@@ -294,17 +302,20 @@ fn put_lines(alloc: Global, text: &mut Vec<u8>, workload: &Workload) -> Result<(
     put_schedule(alloc, text, workload.schedule())
 }
 
-/// The canonical text of a workload without variables: the `workers` line, the objects in order of declaration, a `dormant`
+/// The canonical text of a workload: the `workers` line, the objects in order of declaration, a `dormant`
 /// line for each worker that waits to be started, from 0 up, for each worker from 0 up a `worker` line and
 /// its calls, and the schedule, eight items a line.
 ///
-/// It is read as the workload again.
+/// It is read as the workload again, as a text of each reader that knows the words of its objects.
 pub fn print(alloc: Global, workload: &Workload) -> Result<Vec<u8>, AllocError>
-    requires { has_variables workload.now ≡ false }
     ensures text { IfOk result (λ text. text.items ≡ canonical workload.now) }
-    ensures read { IfOk result (λ text. Reads text.items workload.now) }
+    ensures read { IfOk result (λ text. has_unrecorded workload.now ≡ false → Reads text.items workload.now) }
+    ensures runs { IfOk result (λ text. has_variables workload.now ≡ false → ReadsIn Dialect.Runs text.items workload.now) }
+    ensures races { IfOk result (λ text. has_x_sync workload.now ≡ false → ReadsIn Dialect.Races text.items workload.now) }
 {
     canonical_reads();
+    run_texts_are_read_or_refused();
+    race_texts_are_read_or_refused();
     let mut text = Vec::new(alloc);
     put_numbered(alloc, &mut text, Keyword::Workers, workload.workers())?;
     put_lines(alloc, &mut text, workload)?;

@@ -76,6 +76,7 @@ fn read_call<'a>(
 {
     checks_go_in_order();
     calls_pass_their_checks();
+    draft.numbers_are_in_range();
     if !draft.is_in_worker() {
         return Err(LineFault::Refused(Reason::CallOutsideWorker));
     }

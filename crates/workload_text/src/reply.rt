@@ -4,7 +4,7 @@ ghost use Rattle.workload.specs.declared.limits.TheConstants.{MAX_KEYS};
 ghost use Rattle.script_calls.specs.Outcome.{has_pairs_to};
 ghost use Rattle.workload.specs.Canonical.{behind_spaces};
 ghost use Rattle.workload_text.specs.Adding.{Adds, HasRoom};
-ghost use Rattle.workload_text.specs.ReportLines.{map_reply_text, pair_text, pairs_text, atomic_reply_text, lock_reply_text, once_reply_text, once_func_reply_text, pool_reply_text, var_reply_text, reply_text};
+ghost use Rattle.workload_text.specs.ReportLines.{map_reply_text, pair_text, pairs_text, atomic_reply_text, lock_reply_text, once_reply_text, once_func_reply_text, pool_reply_text, flown_reply_text, var_reply_text, reply_text};
 
 use crate::line::{push, push_atomic_number, push_number, push_signed, push_truth};
 use script_calls::{Reply, VarReply};
@@ -85,7 +85,7 @@ fn push_atomic_reply(line: &mut Vec<u8>, reply: AtomicReply)
     }
 }
 
-/// Adds a reply of a mutex or a reader/writer mutex.
+/// Adds a reply of a mutex, a reader/writer mutex or a weighted semaphore.
 fn push_lock_reply(line: &mut Vec<u8>, reply: LockReply)
     requires { HasRoom line.old 5 }
     ensures { Adds line.old line.new (lock_reply_text reply) 5 }
@@ -139,6 +139,16 @@ fn push_pool_reply(line: &mut Vec<u8>, reply: PoolCallReply)
     }
 }
 
+/// Adds the value of a flight, and whether more than one call received it.
+fn push_flown_reply(line: &mut Vec<u8>, value: i64, shared: bool)
+    requires { HasRoom line.old 30 }
+    ensures { Adds line.old line.new (flown_reply_text value shared) 30 }
+{
+    push_signed(line, value);
+    push(line, b" ");
+    push_truth(line, shared);
+}
+
 /// Adds a reply of a plain variable.
 fn push_var_reply(line: &mut Vec<u8>, reply: VarReply)
     requires { HasRoom line.old 30 }
@@ -166,6 +176,7 @@ pub fn push_reply(line: &mut Vec<u8>, keys: &[Name], reply: &Reply<u32>)
         Reply::OnceFunc(code) => push_once_func_reply(line, *code),
         Reply::OnceValue(value) => push_number(line, *value),
         Reply::Pool(reply) => push_pool_reply(line, *reply),
+        Reply::Flown(value, shared) => push_flown_reply(line, *value, *shared),
         Reply::Var(reply) => push_var_reply(line, *reply),
     }
 }

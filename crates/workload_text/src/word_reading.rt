@@ -3,12 +3,12 @@ ghost use Rattle.std.specs.Prelude.{◌≡◌, ◌<◌, ◌∷◌, [], ◌≤◌
 ghost use Rattle.std.specs.Fmt.{decimal, signed_decimal};
 ghost use Rattle.sync_types.specs.Name.{is_name};
 ghost use Rattle.sync_types.specs.SequentialAtomic.{is_of};
-ghost use Rattle.workload.specs.NumberWords.{is_number_to, is_amount_word, is_passes, is_passes_word, is_tries, is_tries_word, is_number_word, number_of, number_word};
+ghost use Rattle.workload.specs.NumberWords.{is_number_to, is_amount_word, is_passes, is_passes_word, is_tries, is_tries_word, is_weight, is_weight_word, is_number_word, number_of, number_word};
 ghost use Rattle.workload.specs.Plan.{is_amount};
 ghost use Rattle.workload.specs.Checks.{first_failing, operand_check, worker_checks, start_checks};
 ghost use Rattle.workload.specs.Draft.{may_start};
 ghost use Rattle.workload_text.specs.LineResult.{IsFault, IsOperands};
-ghost use Rattle.workload.specs.declared.limits.TheConstants.{MAX_WORKERS};
+ghost use Rattle.workload.specs.declared.limits.TheConstants.{MAX_SIZE, MAX_WORKERS};
 ghost use Rattle.sync_types.specs.declared.value.TheConstants.{MAX_VALUE};
 
 use crate::number::{amount, atomic_number, is_number, number};
@@ -89,6 +89,17 @@ pub fn read_tries(word: &[u8]) -> Result<u32, LineFault>
 {
     match number(word, MAX_TRIES) {
         Some(tries) if tries > 0 => Ok(tries as u32),
+        _ => Err(LineFault::Refused(Reason::BadNumber)),
+    }
+}
+
+/// A weight of 1 to `most`, or a size.
+pub fn read_weight(most: u64, word: &[u8]) -> Result<u64, LineFault>
+    requires { most ≤ MAX_SIZE }
+    ensures { MatchResult result (λ weight. (decimal weight ≡ word.now) × (is_weight most weight ≡ true) × (is_weight MAX_SIZE weight ≡ true) × (is_weight_word most word.now ≡ true)) (IsFault (operand_check (Operand.Weight most) word.now ∷ [])) }
+{
+    match number(word, most) {
+        Some(weight) if weight > 0 => Ok(weight),
         _ => Err(LineFault::Refused(Reason::BadNumber)),
     }
 }

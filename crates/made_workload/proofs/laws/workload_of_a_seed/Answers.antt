@@ -1,6 +1,6 @@
 use Rattle.std.proofs.Common.{refl}
 use Rattle.made_workload.specs.Generated.{generated_plan}
-use Rattle.made_workload.proofs.Readable.{no_variables, script_at, script_calls, all_calls, readable}
+use Rattle.made_workload.proofs.Readable.{no_variables, no_unrecorded, script_at, script_calls, all_calls, readable}
 use Rattle.made_workload.proofs.RunRounds.{no_tests}
 use Rattle.made_workload.proofs.laws.workload_of_a_seed.Goals as goal
 
@@ -35,3 +35,6 @@ returns-clause-readable c = readable
 
 pub returns-clause-no_variables : goal.returns-clause-no_variables
 returns-clause-no_variables c = no_variables
+
+pub returns-clause-no_unrecorded : goal.returns-clause-no_unrecorded
+returns-clause-no_unrecorded c = no_unrecorded
