@@ -18,6 +18,7 @@ use Rattle.sync_types.specs.declared.once_call.DoReply.TheVariants as do_replies
 use Rattle.sync_types.specs.declared.pool_call.PoolCall.{PoolCall}
 use Rattle.sync_types.specs.declared.pool_call.PoolCall.TheVariants as pool_calls
 use Rattle.sync_types.specs.declared.pool_call.PoolCallReply.TheVariants as pool_replies
+use Rattle.sync_types.specs.declared.sema_call.SemaCall.{SemaCall}
 use Rattle.sync_types.specs.declared.wait_call.CondCall.{CondCall}
 use Rattle.sync_types.specs.declared.wait_call.CondCall.TheVariants as cond_calls
 use Rattle.sync_types.specs.declared.wait_call.WaitGroupCall.{WaitGroupCall}
@@ -25,6 +26,12 @@ use Rattle.sync_types.specs.declared.wait_call.WaitGroupCall.TheVariants as grou
 use Rattle.pool_core.specs.declared.pool_event.PoolEvent.{PoolEvent}
 use Rattle.rw_core.specs.declared.event.RwEvent.{RwEvent}
 use Rattle.rw_core.specs.declared.reply.RwReply.{RwReply}
+use Rattle.flight_core.specs.FlightStages.{flight_event, flight_meaning}
+use Rattle.flight_core.specs.declared.calls.FlightOutcome.{FlightOutcome}
+use Rattle.flight_core.specs.declared.calls.FlightOutcome.TheVariants.{Lead, Got, Landed}
+use Rattle.flight_core.specs.declared.calls.FlightStage.{FlightStage}
+use Rattle.flight_core.specs.declared.calls.FlightStage.TheVariants as flight_stage
+use Rattle.sema_core.specs.SemaStages.{sema_event, sema_meaning}
 use Rattle.protocols.specs.declared.cond.CondStage.TheVariants as cond_stage
 use Rattle.protocols.specs.declared.mutex.MutexStage.{MutexStage}
 use Rattle.protocols.specs.declared.mutex.MutexStage.TheVariants as mutex_stage
@@ -48,7 +55,7 @@ use Rattle.starts_core.specs.StartsStages.{starts_event, starts_meaning}
 use Rattle.workload.specs.declared.object.ObjectKind.{ObjectKind}
 use Rattle.workload.specs.declared.object.ObjectKind.TheVariants as kinds
 use Rattle.workload.specs.declared.object.ObjectLine.{ObjectLine}
-use Rattle.workload.specs.Keys.{keys_in}
+use Rattle.workload.specs.Keys.{keys_in, key_number}
 use Rattle.workload.specs.Plan.{Plan, is_dormant, has_dormant}
 use Rattle.run_record.specs.declared.entered.ObjectEvent.TheVariants as event
 use Rattle.run_record.specs.declared.entered.ObjectReply.TheVariants as reply
@@ -56,6 +63,7 @@ use Rattle.run_record.specs.declared.made.Made.{Made}
 use Rattle.run_record.specs.AtomicKind.{atomic_call, adds}
 use Rattle.run_record.specs.Calls.{call_on, call_at, SpellsCall}
 use Rattle.run_record.specs.CondKind.{wait_part, cond_call}
+use Rattle.run_record.specs.FlightKind.{flight_part, fly_call, goes_on_flight}
 use Rattle.run_record.specs.MapKind.{map_call, range_call}
 use Rattle.run_record.specs.MutexKind.{mutex_part, mutex_call}
 use Rattle.run_record.specs.MutexKind as mutexes
@@ -65,6 +73,7 @@ use Rattle.run_record.specs.Parts.{Part, returns, and_then, stages}
 use Rattle.run_record.specs.PoolKind.{pool_part, found_or, found_by, part_of, stage_of, looks_of, swept_by, pool_call}
 use Rattle.run_record.specs.Record.{object_number}
 use Rattle.run_record.specs.RwMutexKind.{rw_mutex_stage, WriteLocks, write_part, rw_part}
+use Rattle.run_record.specs.SemaKind.{sema_call, sema_part, sema_stage}
 use Rattle.run_record.specs.StartsKind.{starts_part, was_started, go_call, wait_start_part, end_part, opening, done_under, done_part, closing}
 use Rattle.run_record.specs.Tests.{holds, tests, compared, unless_met, waits_for}
 use Rattle.run_record.specs.WaitGroupKind.{wait_group_part, wait_group_call, wait_group_stage}
@@ -121,6 +130,9 @@ cond_blind object mutex cond_calls.Broadcast = read_blind _ _ (stages_blind even
 group_blind : (object : ℕ) (call : WaitGroupCall) → IsBlind (wait_group_call object call)
 group_blind object call = read_blind _ (wait_group_part object (wait_group_stage call)) (stages_blind event.WaitGroup reply.WaitGroup object group_event group_meaning (wait_group_stage call))
 
+sema_blind : (object : ℕ) (call : SemaCall) → IsBlind (sema_call object call)
+sema_blind object call = read_blind _ (sema_part object (sema_stage call)) (stages_blind event.Sema reply.Sema object sema_event sema_meaning (sema_stage call))
+
 unless_blind : (next : Part Bool) → IsBlind next → (met : Bool) → IsBlind (unless_met next met)
 unless_blind next blind true = returns_blind true
 unless_blind next blind false = blind
@@ -139,6 +151,20 @@ module _ {T : Type 0} (part : OnceStage T → Part (OnceOutcome T)) (each : (sta
 
   once_blind : IsBlind (once_part part function ran returned)
   once_blind = then_blind _ _ (each once_stage.Begin) goes_on_blind
+
+-- ---- flights
+
+flight_blind : (object : ℕ) (from : FlightStage) → IsBlind (flight_part object from)
+flight_blind object from = stages_blind event.Flight reply.Flight object flight_event flight_meaning from
+
+module _ (object a : ℕ) (amount : ℤ) where
+  flies_on_blind : (outcome : FlightOutcome) → IsBlind (goes_on_flight (flight_part object) (adds a amount) outcome)
+  flies_on_blind Lead = then_blind _ _ (adds_blind a amount) (λ value. read_blind _ _ (flight_blind object (flight_stage.Land value)))
+  flies_on_blind (Got value) = returns_blind (replies.Flown value true)
+  flies_on_blind (Landed shared) = never_blind
+
+  fly_blind : (key : ℕ) → IsBlind (fly_call object a amount key)
+  fly_blind key = then_blind _ _ (flight_blind object (flight_stage.Join key)) flies_on_blind
 
 -- ---- pools
 
@@ -220,6 +246,8 @@ module _ (plan : Plan) (worker : ℕ) where
         once_blind (stages event.OnceValue reply.OnceValue once_event once_meaning (object_number place)) (λ stage. stages_blind event.OnceValue reply.OnceValue (object_number place) once_event once_meaning stage)
         (returns value) (returns_blind value) replies.OnceValue replies.OnceValue
     on_blind kinds.Pool (operations.Pool call) = pool_call_blind plan.workers worker (first_part plan place) call
+    on_blind (kinds.Sema size) (operations.Sema call) = sema_blind (object_number place) call
+    on_blind (kinds.Flight atomic delta) (operations.Fly key) = fly_blind (object_number place) (atomic_number plan.objects atomic) delta (key_number (keys_in plan.scripts) key)
     on_blind kind operation = λ items others answer alike spelt. absurd spelt
 
     at_blind : (object : Option ObjectLine) (operation : Operation) → IsBlind (call_at plan worker before place object operation)

@@ -28,6 +28,8 @@ aside_of_kind plan place (kinds.WaitGroup start) journal is = set_aside event.Wa
 aside_of_kind plan place (kinds.Once atomic delta) journal is = set_aside event.Once reply.Once _ _ _ _ journal is
 aside_of_kind plan place (kinds.OnceFunc code) journal is = set_aside event.OnceFunc reply.OnceFunc _ _ _ _ journal is
 aside_of_kind plan place (kinds.OnceValue value) journal is = set_aside event.OnceValue reply.OnceValue _ _ _ _ journal is
+aside_of_kind plan place (kinds.Sema size) journal is = set_aside event.Sema reply.Sema _ _ _ _ journal is
+aside_of_kind plan place (kinds.Flight atomic delta) journal is = set_aside event.Flight reply.Flight _ _ _ _ journal is
 aside_of_kind plan place kinds.Pool journal is = none_without journal is
 
 pub aside_of_part : (room : ℕ) (journal : List ObjectEntry) → IsPartJournal room journal → IsPartJournal room (without_fronts journal)
@@ -47,6 +49,8 @@ back_of_kind plan place (kinds.WaitGroup start) journal is keeps = put_back even
 back_of_kind plan place (kinds.Once atomic delta) journal is keeps = put_back event.Once reply.Once _ _ frees takes _ _ journal is keeps
 back_of_kind plan place (kinds.OnceFunc code) journal is keeps = put_back event.OnceFunc reply.OnceFunc _ _ frees takes _ _ journal is keeps
 back_of_kind plan place (kinds.OnceValue value) journal is keeps = put_back event.OnceValue reply.OnceValue _ _ frees takes _ _ journal is keeps
+back_of_kind plan place (kinds.Sema size) journal is keeps = put_back event.Sema reply.Sema _ _ frees takes _ _ journal is keeps
+back_of_kind plan place (kinds.Flight atomic delta) journal is keeps = put_back event.Flight reply.Flight _ _ frees takes _ _ journal is keeps
 back_of_kind plan place kinds.Pool journal is keeps = none_left journal is
 
 pub back_of_part : (room : ℕ) (journal : List ObjectEntry) → IsPartJournal room (without_fronts journal) → KeepsEdges frees takes journal → IsPartJournal room journal

@@ -85,6 +85,8 @@ told_one keys operations.Once told reply is same = same
 told_one keys operations.OnceFunc told reply is same = same
 told_one keys operations.OnceValue told reply is same = same
 told_one keys (operations.Pool call) told reply is same = same
+told_one keys (operations.Sema call) told reply is same = same
+told_one keys (operations.Fly key) told reply is same = same
 told_one keys (operations.Var call) told reply is same = same
 told_one keys (operations.Composed call) told reply is same = same
 

@@ -16,6 +16,7 @@ use Rattle.sync_types.specs.declared.lock_call.RwMutexCall.TheVariants as rw_cal
 use Rattle.sync_types.specs.declared.map_object.MapCall.{MapCall}
 use Rattle.sync_types.specs.declared.pool_call.PoolCall.{PoolCall}
 use Rattle.sync_types.specs.declared.pool_call.PoolCall.TheVariants as pool_calls
+use Rattle.sync_types.specs.declared.sema_call.SemaCall.{SemaCall}
 use Rattle.sync_types.specs.declared.wait_call.CondCall.{CondCall}
 use Rattle.sync_types.specs.declared.wait_call.CondCall.TheVariants as cond_calls
 use Rattle.sync_types.specs.declared.wait_call.WaitGroupCall.{WaitGroupCall}
@@ -23,6 +24,12 @@ use Rattle.sync_types.specs.declared.wait_call.WaitGroupCall.TheVariants as grou
 use Rattle.sync_model.specs.declared.journal.Deed.{Deed}
 use Rattle.sync_model.specs.declared.journal.Entry.{Entry}
 use Rattle.pool_core.specs.declared.pool_event.PoolEvent.{PoolEvent}
+use Rattle.flight_core.specs.declared.calls.FlightOutcome.{FlightOutcome}
+use Rattle.flight_core.specs.declared.calls.FlightOutcome.TheVariants as flight_outcome
+use Rattle.flight_core.specs.declared.calls.FlightStage.{FlightStage}
+use Rattle.flight_core.specs.declared.calls.FlightStage.TheVariants as flight_stage
+use Rattle.flight_core.specs.FlightStages.{flight_event, flight_meaning}
+use Rattle.sema_core.specs.SemaStages.{sema_event, sema_meaning}
 use Rattle.protocols.specs.declared.cond.CondStage.{CondStage}
 use Rattle.protocols.specs.declared.cond.CondStage.TheVariants as cond_stage
 use Rattle.protocols.specs.declared.mutex.MutexStage.{MutexStage}
@@ -50,13 +57,14 @@ use Rattle.starts_core.specs.StartsStages.{starts_event, starts_meaning}
 use Rattle.workload.specs.declared.object.ObjectKind.{ObjectKind}
 use Rattle.workload.specs.declared.object.ObjectKind.TheVariants as kinds
 use Rattle.workload.specs.declared.object.ObjectLine.{ObjectLine}
-use Rattle.workload.specs.Keys.{keys_in}
+use Rattle.workload.specs.Keys.{keys_in, key_number}
 use Rattle.workload.specs.Plan.{Plan, has_dormant, is_dormant}
 use Rattle.run_record.specs.declared.entered.ObjectEvent.TheVariants as event
 use Rattle.run_record.specs.declared.entered.ObjectReply.TheVariants as reply
 use Rattle.run_record.specs.AtomicKind.{adds, atomic_call}
 use Rattle.run_record.specs.Calls.{SpellsCall, call_at, call_on}
 use Rattle.run_record.specs.CondKind.{cond_call, cond_part, wait_part}
+use Rattle.run_record.specs.FlightKind.{flight_part, fly_call, goes_on_flight}
 use Rattle.run_record.specs.MapKind.{map_call, range_call}
 use Rattle.run_record.specs.MutexKind.{mutex_part, mutex_stage as mutex_stage_of}
 use Rattle.run_record.specs.Objects.{atomic_number, first_part, map_number, starts_number}
@@ -65,6 +73,7 @@ use Rattle.run_record.specs.Parts.{Part, and_then, returns}
 use Rattle.run_record.specs.PoolKind.{found_by, found_or, looks_of, part_of, pool_call, pool_part, stage_of, swept_by}
 use Rattle.run_record.specs.Record.{object_number}
 use Rattle.run_record.specs.RwMutexKind.{WriteLocks, rw_mutex_stage, rw_part, write_part}
+use Rattle.run_record.specs.SemaKind.{sema_call, sema_stage}
 use Rattle.run_record.specs.StartsKind.{closing, done_part, done_under, end_part, go_call, opening, starts_part, wait_start_part}
 use Rattle.run_record.specs.Tests.{tests, unless_met, waits_for}
 use Rattle.run_record.specs.WaitGroupKind.{wait_group_call, wait_group_part, wait_group_stage}
@@ -148,6 +157,21 @@ module _ {T : Type 0} (part : OnceStage T → Part (OnceOutcome T)) (function : 
   once_blind : Blind (once_part part function ran returned)
   once_blind = blind_then (part once_stage.Begin) _ (parts_blind once_stage.Begin) once_goes_on
 
+sema_call_blind : (object : ℕ) (call : SemaCall) → Blind (sema_call object call)
+sema_call_blind object call = blind_read _ _ (blind_stages event.Sema reply.Sema object sema_event sema_meaning (sema_stage call))
+
+flight_blind : (object : ℕ) (from : FlightStage) → Blind (flight_part object from)
+flight_blind object from = blind_stages event.Flight reply.Flight object flight_event flight_meaning from
+
+module _ (object a : ℕ) (amount : ℤ) where
+  flight_goes_on : (outcome : FlightOutcome) → Blind (goes_on_flight (flight_part object) (adds a amount) outcome)
+  flight_goes_on flight_outcome.Lead = blind_then (adds a amount) _ (adds_blind a amount) (λ value. blind_read _ (flight_part object (flight_stage.Land value)) (flight_blind object (flight_stage.Land value)))
+  flight_goes_on (flight_outcome.Got value) = blind_returns _
+  flight_goes_on (flight_outcome.Landed shared) = blind_never
+
+  fly_blind : (key : ℕ) → Blind (fly_call object a amount key)
+  fly_blind key = blind_then (flight_part object (flight_stage.Join key)) _ (flight_blind object (flight_stage.Join key)) flight_goes_on
+
 found_blind : (rest : Part (Reply ℕ)) → Blind rest → (outcome : PoolOutcome) → Blind (found_or rest outcome)
 found_blind rest blind (pool_outcome.Item item) = blind_returns _
 found_blind rest blind pool_outcome.Nothing = blind
@@ -189,6 +213,8 @@ module _ (plan : Plan) where
   on_blind worker before place (kinds.OnceValue value) operations.OnceValue =
       once_blind _ (returns value) _ _ (λ stage. blind_stages event.OnceValue reply.OnceValue (object_number place) once_event once_meaning stage) (blind_returns value)
   on_blind worker before place kinds.Pool (operations.Pool call) = pool_call_blind plan.workers worker (first_part plan place) call
+  on_blind worker before place (kinds.Sema size) (operations.Sema call) = sema_call_blind (object_number place) call
+  on_blind worker before place (kinds.Flight atomic delta) (operations.Fly key) = fly_blind (object_number place) (atomic_number plan.objects atomic) delta (key_number (keys_in plan.scripts) key)
   on_blind worker before place kind operation = blind_never
 
   at_blind : (worker before place : ℕ) (object : Option ObjectLine) (operation : Operation) → Blind (call_at plan worker before place object operation)

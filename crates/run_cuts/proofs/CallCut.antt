@@ -10,7 +10,7 @@ use Rattle.script_calls.specs.declared.call.Call.{Call}
 use Rattle.script_calls.specs.declared.call.ComposedCall.TheVariants.{IfEqual, WaitFor, Go}
 use Rattle.script_calls.specs.declared.call.Operation.{Operation}
 use Rattle.script_calls.specs.declared.call.Operation.TheVariants as operations
-use Rattle.workload.specs.Keys.{keys_in}
+use Rattle.workload.specs.Keys.{keys_in, key_number}
 use Rattle.workload.specs.Plan.{Plan}
 use Rattle.workload.specs.declared.object.ObjectKind.{ObjectKind}
 use Rattle.workload.specs.declared.object.ObjectKind.TheVariants as kinds
@@ -27,12 +27,14 @@ use Rattle.run_cuts.specs.OneLine.{CutsCall, CutsCalls, SettlesAnswer, settled_a
 use Rattle.run_cuts.specs.RangeCuts.{shows, shows_cut}
 use Rattle.run_cuts.proofs.CondCut.{cond_cuts}
 use Rattle.run_cuts.proofs.CutLemmas.{never_cuts, read_cuts, wrong_within}
+use Rattle.run_cuts.proofs.FlightCut.{fly_cuts}
 use Rattle.run_cuts.proofs.GroupCut.{group_cuts}
 use Rattle.run_cuts.proofs.MutexCut.{mutex_cuts}
 use Rattle.run_cuts.proofs.OnceCut.{do_cuts, func_cuts, value_cuts}
 use Rattle.run_cuts.proofs.PoolCut.{pool_cuts}
 use Rattle.run_cuts.proofs.RangeCut.{range_cut}
 use Rattle.run_cuts.proofs.RwMutexCut.{rw_mutex_cuts}
+use Rattle.run_cuts.proofs.SemaCut.{sema_cuts}
 use Rattle.run_cuts.proofs.SharedCut.{atomic_cuts, if_equal_cuts, map_cuts}
 use Rattle.run_cuts.proofs.SortedPairs.{are_sorted, sorted_pairs}
 use Rattle.run_cuts.proofs.StartsCut.{go_cuts}
@@ -53,6 +55,8 @@ on_cuts plan worker before place (kinds.Once atomic delta) operations.Once h = d
 on_cuts plan worker before place (kinds.OnceFunc code) operations.OnceFunc h = func_cuts (object_number place) code
 on_cuts plan worker before place (kinds.OnceValue value) operations.OnceValue h = value_cuts (object_number place) value
 on_cuts plan worker before place kinds.Pool (operations.Pool call) h = pool_cuts plan.workers worker (first_part plan place) call
+on_cuts plan worker before place (kinds.Sema size) (operations.Sema call) h = sema_cuts (object_number place) call
+on_cuts plan worker before place (kinds.Flight atomic delta) (operations.Fly key) h = fly_cuts (object_number place) (atomic_number plan.objects atomic) delta (key_number (keys_in plan.scripts) key)
 on_cuts plan worker before place kind operation h = never_cuts
 
 at_cuts : (plan : Plan) (worker before place : ℕ) (object : Option ObjectLine) (operation : Operation) → is_told operation ≡ true → Cuts (call_at plan worker before place object operation) (at_cut plan worker before place object operation)

@@ -79,6 +79,8 @@ module _ (plan : Plan) where
   on_begins worker before place (kinds.OnceFunc code) operations.OnceFunc plain has e = within_wrong e
   on_begins worker before place (kinds.OnceValue value) operations.OnceValue plain has e = within_wrong e
   on_begins worker before place kinds.Pool (operations.Pool call) plain has e = pool_begins plan.workers worker (first_part plan place) call e
+  on_begins worker before place (kinds.Sema size) (operations.Sema call) plain has e = within_wrong e
+  on_begins worker before place (kinds.Flight atomic delta) (operations.Fly key) plain has e = within_wrong e
   on_begins worker before place kinds.Var operation plain has e = false≢true (sym plain)
   on_begins worker before place kind operation plain has e = false≢true has
 

@@ -6,6 +6,7 @@ mod CallCut
 mod CallsBegin
 mod CondCut
 mod CutLemmas
+mod FlightCut
 mod GroupCut
 mod LineCut
 mod MutexCut
@@ -13,6 +14,7 @@ mod OnceCut
 mod PoolCut
 mod RangeCut
 mod RwMutexCut
+mod SemaCut
 mod SharedCut
 mod SortedPairs
 mod StartsCut

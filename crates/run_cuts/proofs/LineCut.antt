@@ -6,7 +6,7 @@ use Rattle.std.proofs.lemmas.Bool.{and_parts, and_from, cond-true}
 use Rattle.std.proofs.lemmas.List.{append-nil, length-append}
 use Rattle.std.proofs.lemmas.List.Elements.{All-nil, All-cons, All-head, All-tail}
 use Rattle.sync_types.specs.declared.misuse.Misuse.{Misuse}
-use Rattle.sync_types.specs.declared.misuse.Misuse.TheVariants.{UnlockOfUnlockedMutex, RUnlockOfUnlockedRwMutex, UnlockOfUnlockedRwMutex, NegativeWaitGroupCounter, WaitGroupReused}
+use Rattle.sync_types.specs.declared.misuse.Misuse.TheVariants.{UnlockOfUnlockedMutex, RUnlockOfUnlockedRwMutex, UnlockOfUnlockedRwMutex, NegativeWaitGroupCounter, WaitGroupReused, SemaphoreOverReleased}
 use Rattle.script_calls.specs.declared.call.Call.{Call}
 use Rattle.script_calls.specs.declared.call.Reply.{Reply}
 use Rattle.script_calls.specs.Runs.{passed_over, RunsAlong}
@@ -52,6 +52,7 @@ misuse_is RUnlockOfUnlockedRwMutex RUnlockOfUnlockedRwMutex h = refl
 misuse_is UnlockOfUnlockedRwMutex UnlockOfUnlockedRwMutex h = refl
 misuse_is NegativeWaitGroupCounter NegativeWaitGroupCounter h = refl
 misuse_is WaitGroupReused WaitGroupReused h = refl
+misuse_is SemaphoreOverReleased SemaphoreOverReleased h = refl
 misuse_is a b h = absurd cc
 
 misuse_same : (a : Misuse) → same_misuse a a ≡ true
@@ -60,6 +61,7 @@ misuse_same RUnlockOfUnlockedRwMutex = refl
 misuse_same UnlockOfUnlockedRwMutex = refl
 misuse_same NegativeWaitGroupCounter = refl
 misuse_same WaitGroupReused = refl
+misuse_same SemaphoreOverReleased = refl
 
 halt_is : (misuse : Misuse) (d : Deed ObjectEvent ObjectReply) → halts_by misuse d ≡ true → d ≡ Halt misuse
 halt_is misuse (Halt other) h = ap (λ (m : Misuse). let d : Deed ObjectEvent ObjectReply = Halt m in d) (misuse_is other misuse h)

@@ -6,7 +6,7 @@ use Rattle.script_calls.specs.declared.call.Operation.{Operation}
 use Rattle.script_calls.specs.declared.call.Operation.TheVariants as operations
 use Rattle.script_calls.specs.declared.call.Reply.{Reply}
 use Rattle.script_calls.specs.declared.call.Reply.TheVariants as replies
-use Rattle.workload.specs.Keys.{keys_in}
+use Rattle.workload.specs.Keys.{keys_in, key_number}
 use Rattle.workload.specs.Plan.{Plan}
 use Rattle.workload.specs.declared.object.ObjectKind.{ObjectKind}
 use Rattle.workload.specs.declared.object.ObjectKind.TheVariants as kinds
@@ -15,12 +15,14 @@ use Rattle.run_record.specs.Objects.{map_number, atomic_number, first_part, star
 use Rattle.run_record.specs.Record.{object_number}
 use Rattle.run_cuts.specs.CondCuts.{cond_cut}
 use Rattle.run_cuts.specs.Cuts.{Cutter, never_cut, read_cut}
+use Rattle.run_cuts.specs.FlightCuts.{fly_cut}
 use Rattle.run_cuts.specs.GroupCuts.{group_cut}
 use Rattle.run_cuts.specs.MutexCuts.{mutex_cut}
 use Rattle.run_cuts.specs.OnceCuts.{do_cut, func_cut, value_cut}
 use Rattle.run_cuts.specs.PoolCuts.{pool_cut}
 use Rattle.run_cuts.specs.RangeCuts.{shows_cut}
 use Rattle.run_cuts.specs.RwMutexCuts.{rw_mutex_cut}
+use Rattle.run_cuts.specs.SemaCuts.{sema_cut}
 use Rattle.run_cuts.specs.SharedCuts.{atomic_cut, if_equal_cut, map_cut}
 use Rattle.run_cuts.specs.StartsCuts.{go_cut}
 use Rattle.run_cuts.specs.WaitForCuts.{wait_for_cut}
@@ -46,6 +48,8 @@ on_cut plan worker before place (kinds.Once atomic delta) operations.Once = do_c
 on_cut plan worker before place (kinds.OnceFunc code) operations.OnceFunc = func_cut (object_number place) code
 on_cut plan worker before place (kinds.OnceValue value) operations.OnceValue = value_cut (object_number place) value
 on_cut plan worker before place kinds.Pool (operations.Pool call) = pool_cut plan.workers worker (first_part plan place) call
+on_cut plan worker before place (kinds.Sema size) (operations.Sema call) = sema_cut (object_number place) call
+on_cut plan worker before place (kinds.Flight atomic delta) (operations.Fly key) = fly_cut (object_number place) (atomic_number plan.objects atomic) delta (key_number (keys_in plan.scripts) key)
 on_cut plan worker before place kind operation = never_cut
 
 abbrev pub at_cut : Plan → (worker before place : ℕ) → Option ObjectLine → Operation → Cutter (Reply ℕ)

@@ -3,6 +3,7 @@ pub mod CallCuts
 pub mod CallsAlong
 pub mod CondCuts
 pub mod Cuts
+pub mod FlightCuts
 pub mod GroupCuts
 pub mod LineCuts
 pub mod MutexCuts
@@ -11,6 +12,7 @@ pub mod OneLine
 pub mod PoolCuts
 pub mod RangeCuts
 pub mod RwMutexCuts
+pub mod SemaCuts
 pub mod SharedCuts
 pub mod StartsCuts
 pub mod WaitForCuts

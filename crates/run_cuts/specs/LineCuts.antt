@@ -2,7 +2,7 @@
 use Rattle.std.specs.Prelude.{ℕ, zero, suc, ◌+◌, Bool, true, false, cond, List, [], ◌∷◌, length, Option, Some, None, Ok, Err}
 use Rattle.std.specs.List.{list_all}
 use Rattle.sync_types.specs.declared.misuse.Misuse.{Misuse}
-use Rattle.sync_types.specs.declared.misuse.Misuse.TheVariants.{UnlockOfUnlockedMutex, RUnlockOfUnlockedRwMutex, UnlockOfUnlockedRwMutex, NegativeWaitGroupCounter, WaitGroupReused}
+use Rattle.sync_types.specs.declared.misuse.Misuse.TheVariants.{UnlockOfUnlockedMutex, RUnlockOfUnlockedRwMutex, UnlockOfUnlockedRwMutex, NegativeWaitGroupCounter, WaitGroupReused, SemaphoreOverReleased}
 use Rattle.script_calls.specs.declared.call.Call.{Call}
 use Rattle.script_calls.specs.declared.call.Reply.{Reply}
 use Rattle.script_calls.specs.Runs.{passed_over}
@@ -23,6 +23,7 @@ same_misuse RUnlockOfUnlockedRwMutex RUnlockOfUnlockedRwMutex = true
 same_misuse UnlockOfUnlockedRwMutex UnlockOfUnlockedRwMutex = true
 same_misuse NegativeWaitGroupCounter NegativeWaitGroupCounter = true
 same_misuse WaitGroupReused WaitGroupReused = true
+same_misuse SemaphoreOverReleased SemaphoreOverReleased = true
 same_misuse misuse other = false
 
 abbrev pub halts_by : Misuse → Deed ObjectEvent ObjectReply → Bool

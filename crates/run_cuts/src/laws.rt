@@ -9,11 +9,13 @@ ghost use Rattle.run_record.specs.AtomicKind.{adds, atomic_call};
 ghost use Rattle.run_record.specs.Calls.{SpellsCall};
 ghost use Rattle.run_record.specs.CondKind.{cond_call};
 ghost use Rattle.run_record.specs.Lines.{IsLineOf, Line, calls_made, items_of};
+ghost use Rattle.run_record.specs.FlightKind.{fly_call};
 ghost use Rattle.run_record.specs.MapKind.{map_call};
 ghost use Rattle.run_record.specs.MutexKind.{mutex_call};
 ghost use Rattle.run_record.specs.OnceKind.{do_call, func_call, value_call};
 ghost use Rattle.run_record.specs.PoolKind.{pool_call};
 ghost use Rattle.run_record.specs.RwMutexKind.{rw_mutex_call};
+ghost use Rattle.run_record.specs.SemaKind.{sema_call};
 ghost use Rattle.run_record.specs.StartsKind.{opening, closing, go_call, wait_start_part, end_part};
 ghost use Rattle.run_record.specs.Tests.{if_equal_call, wait_for_call};
 ghost use Rattle.run_record.specs.WaitGroupKind.{wait_group_call};
@@ -26,6 +28,7 @@ ghost use Rattle.run_cuts.specs.CallCuts.{call_cut, is_told};
 ghost use Rattle.run_cuts.specs.CallsAlong.{calls_along};
 ghost use Rattle.run_cuts.specs.CondCuts.{cond_cut};
 ghost use Rattle.run_cuts.specs.Cuts.{Cuts, Cutter};
+ghost use Rattle.run_cuts.specs.FlightCuts.{fly_cut};
 ghost use Rattle.run_cuts.specs.GroupCuts.{group_cut};
 ghost use Rattle.run_cuts.specs.LineCuts.{line_cut};
 ghost use Rattle.run_cuts.specs.MutexCuts.{mutex_cut};
@@ -34,12 +37,14 @@ ghost use Rattle.run_cuts.specs.OneLine.{CutsCalls, CutsLines, settles_by};
 ghost use Rattle.run_cuts.specs.PoolCuts.{pool_cut};
 ghost use Rattle.run_cuts.specs.RangeCuts.{CutsRange};
 ghost use Rattle.run_cuts.specs.RwMutexCuts.{rw_mutex_cut};
+ghost use Rattle.run_cuts.specs.SemaCuts.{sema_cut};
 ghost use Rattle.run_cuts.specs.SharedCuts.{adds_cut, atomic_cut, if_equal_cut, map_cut};
 ghost use Rattle.run_cuts.specs.StartsCuts.{opening_cut, closing_cut, go_cut, wait_start_cut, end_cut};
 ghost use Rattle.run_cuts.specs.WaitForCuts.{wait_for_cut};
 
 use sync_types::{
-    AtomicCall, CondCall, MapCall, MutexCall, Number, PoolCall, RwMutexCall, WaitGroupCall,
+    AtomicCall, CondCall, MapCall, MutexCall, Number, PoolCall, RwMutexCall, SemaCall,
+    WaitGroupCall,
 };
 
 /// The calls of each kind but a `range` are cut from a list by a function just as they are spelt. What is found spells the call. What
@@ -60,6 +65,8 @@ pub fn calls_are_cut_as_they_are_spelt()
     ensures once_value { (object value : ℕ) → Cuts (value_call object value) (value_cut object value) }
     ensures pool { (workers worker first : ℕ) (call : PoolCall) → Cuts (pool_call workers worker first call) (pool_cut workers worker first call) }
     ensures wait_group { (object : ℕ) (call : WaitGroupCall) → Cuts (wait_group_call object call) (group_cut object call) }
+    ensures sema { (object : ℕ) (call : SemaCall) → Cuts (sema_call object call) (sema_cut object call) }
+    ensures flight { (object a : ℕ) (amount : ℤ) (key : ℕ) → Cuts (fly_call object a amount key) (fly_cut object a amount key) }
     ensures go { (group starts worker : ℕ) → Cuts (go_call group starts worker) (go_cut group starts worker) }
     ensures starts { (object : ℕ) → Cuts (wait_start_part object) (wait_start_cut object) × Cuts (end_part object) (end_cut object) }
 {}

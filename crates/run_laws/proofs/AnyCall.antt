@@ -1,4 +1,4 @@
--- That each call but a range is spelt in one way: a line for each kind of object and each operation. Of most there is no such call.
+-- That each call but a range is spelt in one way: a line for each operation of each kind of object. An object of another kind has no such call.
 use Rattle.std.proofs.Common.{◌≡◌, ℕ, zero, suc, Bool, true, false, Option, Some, None, List, [], ◌∷◌, map, slice_get, refl, subst}
 use Rattle.std.specs.Prelude.{◌&&◌}
 use Rattle.std.specs.List.{list_all}
@@ -11,7 +11,7 @@ use Rattle.script_calls.specs.declared.call.Operation.TheVariants as operations
 use Rattle.workload.specs.declared.object.ObjectKind.{ObjectKind}
 use Rattle.workload.specs.declared.object.ObjectKind.TheVariants as kinds
 use Rattle.workload.specs.declared.object.ObjectLine.{ObjectLine}
-use Rattle.workload.specs.Keys.{keys_in}
+use Rattle.workload.specs.Keys.{keys_in, key_number}
 use Rattle.workload.specs.Plan.{Plan}
 use Rattle.run_record.specs.Lines.{SpeltCall}
 use Rattle.run_record.specs.Calls.{SpellsCall, call_at, call_on}
@@ -19,7 +19,7 @@ use Rattle.run_record.specs.Objects.{map_number, atomic_number, first_part, star
 use Rattle.run_record.specs.Record.{object_number}
 use Rattle.run_laws.specs.NoRanges.{is_no_range}
 use Rattle.run_laws.specs.OneSpelling.{IsCertain}
-use Rattle.run_laws.proofs.CallsOneWay.{map_certain, atomic_certain, if_equal_certain, wait_for_certain, mutex_certain, rw_mutex_certain, cond_certain, wait_group_certain, go_certain, do_certain, func_certain, value_certain, pool_certain}
+use Rattle.run_laws.proofs.CallsOneWay.{map_certain, atomic_certain, if_equal_certain, wait_for_certain, mutex_certain, rw_mutex_certain, cond_certain, wait_group_certain, go_certain, do_certain, func_certain, value_certain, pool_certain, sema_certain, fly_certain}
 use Rattle.run_laws.proofs.LinesOneWay.{AreCertain}
 use Rattle.run_laws.proofs.OneWay.{never_certain}
 use Rattle.run_laws.proofs.WritesOneWay.{LocksEnd}
@@ -29,132 +29,21 @@ module _ (law : LocksEnd) (plan : Plan) (worker before place : ℕ) where
   on_kind : (kind : ObjectKind) (operation : Operation) → is_no_range operation ≡ true → IsCertain (call_on plan worker before place kind operation)
   on_kind kinds.Map (operations.Map of) none = map_certain (keys_in plan.scripts) (map_number plan.objects place) of
   on_kind kinds.Map operations.Range none = absurd (false≢true none)
-  on_kind kinds.Map (operations.Atomic of) none = never_certain
-  on_kind kinds.Map (operations.Mutex of) none = never_certain
-  on_kind kinds.Map (operations.RwMutex of) none = never_certain
-  on_kind kinds.Map (operations.Cond of) none = never_certain
-  on_kind kinds.Map (operations.WaitGroup of) none = never_certain
-  on_kind kinds.Map operations.Once none = never_certain
-  on_kind kinds.Map operations.OnceFunc none = never_certain
-  on_kind kinds.Map operations.OnceValue none = never_certain
-  on_kind kinds.Map (operations.Pool of) none = never_certain
-  on_kind kinds.Map (operations.Composed of) none = never_certain
-  on_kind (kinds.Atomic type) (operations.Map of) none = never_certain
-  on_kind (kinds.Atomic type) operations.Range none = never_certain
   on_kind (kinds.Atomic type) (operations.Atomic of) none = atomic_certain (atomic_number plan.objects place) of
-  on_kind (kinds.Atomic type) (operations.Mutex of) none = never_certain
-  on_kind (kinds.Atomic type) (operations.RwMutex of) none = never_certain
-  on_kind (kinds.Atomic type) (operations.Cond of) none = never_certain
-  on_kind (kinds.Atomic type) (operations.WaitGroup of) none = never_certain
-  on_kind (kinds.Atomic type) operations.Once none = never_certain
-  on_kind (kinds.Atomic type) operations.OnceFunc none = never_certain
-  on_kind (kinds.Atomic type) operations.OnceValue none = never_certain
-  on_kind (kinds.Atomic type) (operations.Pool of) none = never_certain
   on_kind (kinds.Atomic type) (operations.Composed (IfEqual value passes)) none = if_equal_certain (atomic_number plan.objects place) value
-  on_kind (kinds.Atomic type) (operations.Composed (WaitFor atomic value tries)) none = never_certain
-  on_kind (kinds.Atomic type) (operations.Composed (Go started)) none = never_certain
-  on_kind kinds.Mutex (operations.Map of) none = never_certain
-  on_kind kinds.Mutex operations.Range none = never_certain
-  on_kind kinds.Mutex (operations.Atomic of) none = never_certain
   on_kind kinds.Mutex (operations.Mutex of) none = mutex_certain (object_number place) of
-  on_kind kinds.Mutex (operations.RwMutex of) none = never_certain
-  on_kind kinds.Mutex (operations.Cond of) none = never_certain
-  on_kind kinds.Mutex (operations.WaitGroup of) none = never_certain
-  on_kind kinds.Mutex operations.Once none = never_certain
-  on_kind kinds.Mutex operations.OnceFunc none = never_certain
-  on_kind kinds.Mutex operations.OnceValue none = never_certain
-  on_kind kinds.Mutex (operations.Pool of) none = never_certain
-  on_kind kinds.Mutex (operations.Composed of) none = never_certain
-  on_kind kinds.RwMutex (operations.Map of) none = never_certain
-  on_kind kinds.RwMutex operations.Range none = never_certain
-  on_kind kinds.RwMutex (operations.Atomic of) none = never_certain
-  on_kind kinds.RwMutex (operations.Mutex of) none = never_certain
   on_kind kinds.RwMutex (operations.RwMutex of) none = rw_mutex_certain law (object_number place) of
-  on_kind kinds.RwMutex (operations.Cond of) none = never_certain
-  on_kind kinds.RwMutex (operations.WaitGroup of) none = never_certain
-  on_kind kinds.RwMutex operations.Once none = never_certain
-  on_kind kinds.RwMutex operations.OnceFunc none = never_certain
-  on_kind kinds.RwMutex operations.OnceValue none = never_certain
-  on_kind kinds.RwMutex (operations.Pool of) none = never_certain
-  on_kind kinds.RwMutex (operations.Composed of) none = never_certain
-  on_kind (kinds.Cond mutex) (operations.Map of) none = never_certain
-  on_kind (kinds.Cond mutex) operations.Range none = never_certain
-  on_kind (kinds.Cond mutex) (operations.Atomic of) none = never_certain
-  on_kind (kinds.Cond mutex) (operations.Mutex of) none = never_certain
-  on_kind (kinds.Cond mutex) (operations.RwMutex of) none = never_certain
   on_kind (kinds.Cond mutex) (operations.Cond of) none = cond_certain (object_number place) (object_number mutex) of
-  on_kind (kinds.Cond mutex) (operations.WaitGroup of) none = never_certain
-  on_kind (kinds.Cond mutex) operations.Once none = never_certain
-  on_kind (kinds.Cond mutex) operations.OnceFunc none = never_certain
-  on_kind (kinds.Cond mutex) operations.OnceValue none = never_certain
-  on_kind (kinds.Cond mutex) (operations.Pool of) none = never_certain
-  on_kind (kinds.Cond mutex) (operations.Composed (IfEqual value passes)) none = never_certain
   on_kind (kinds.Cond mutex) (operations.Composed (WaitFor atomic value tries)) none = wait_for_certain (object_number place) (object_number mutex) (atomic_number plan.objects atomic) value tries
-  on_kind (kinds.Cond mutex) (operations.Composed (Go started)) none = never_certain
-  on_kind (kinds.WaitGroup start) (operations.Map of) none = never_certain
-  on_kind (kinds.WaitGroup start) operations.Range none = never_certain
-  on_kind (kinds.WaitGroup start) (operations.Atomic of) none = never_certain
-  on_kind (kinds.WaitGroup start) (operations.Mutex of) none = never_certain
-  on_kind (kinds.WaitGroup start) (operations.RwMutex of) none = never_certain
-  on_kind (kinds.WaitGroup start) (operations.Cond of) none = never_certain
   on_kind (kinds.WaitGroup start) (operations.WaitGroup of) none = wait_group_certain (object_number place) of
-  on_kind (kinds.WaitGroup start) operations.Once none = never_certain
-  on_kind (kinds.WaitGroup start) operations.OnceFunc none = never_certain
-  on_kind (kinds.WaitGroup start) operations.OnceValue none = never_certain
-  on_kind (kinds.WaitGroup start) (operations.Pool of) none = never_certain
-  on_kind (kinds.WaitGroup start) (operations.Composed (IfEqual value passes)) none = never_certain
-  on_kind (kinds.WaitGroup start) (operations.Composed (WaitFor atomic value tries)) none = never_certain
   on_kind (kinds.WaitGroup start) (operations.Composed (Go started)) none = go_certain (object_number place) (starts_number plan) started
-  on_kind (kinds.Once atomic delta) (operations.Map of) none = never_certain
-  on_kind (kinds.Once atomic delta) operations.Range none = never_certain
-  on_kind (kinds.Once atomic delta) (operations.Atomic of) none = never_certain
-  on_kind (kinds.Once atomic delta) (operations.Mutex of) none = never_certain
-  on_kind (kinds.Once atomic delta) (operations.RwMutex of) none = never_certain
-  on_kind (kinds.Once atomic delta) (operations.Cond of) none = never_certain
-  on_kind (kinds.Once atomic delta) (operations.WaitGroup of) none = never_certain
   on_kind (kinds.Once atomic delta) operations.Once none = do_certain (object_number place) (atomic_number plan.objects atomic) delta
-  on_kind (kinds.Once atomic delta) operations.OnceFunc none = never_certain
-  on_kind (kinds.Once atomic delta) operations.OnceValue none = never_certain
-  on_kind (kinds.Once atomic delta) (operations.Pool of) none = never_certain
-  on_kind (kinds.Once atomic delta) (operations.Composed of) none = never_certain
-  on_kind (kinds.OnceFunc code) (operations.Map of) none = never_certain
-  on_kind (kinds.OnceFunc code) operations.Range none = never_certain
-  on_kind (kinds.OnceFunc code) (operations.Atomic of) none = never_certain
-  on_kind (kinds.OnceFunc code) (operations.Mutex of) none = never_certain
-  on_kind (kinds.OnceFunc code) (operations.RwMutex of) none = never_certain
-  on_kind (kinds.OnceFunc code) (operations.Cond of) none = never_certain
-  on_kind (kinds.OnceFunc code) (operations.WaitGroup of) none = never_certain
-  on_kind (kinds.OnceFunc code) operations.Once none = never_certain
   on_kind (kinds.OnceFunc code) operations.OnceFunc none = func_certain (object_number place) code
-  on_kind (kinds.OnceFunc code) operations.OnceValue none = never_certain
-  on_kind (kinds.OnceFunc code) (operations.Pool of) none = never_certain
-  on_kind (kinds.OnceFunc code) (operations.Composed of) none = never_certain
-  on_kind (kinds.OnceValue value) (operations.Map of) none = never_certain
-  on_kind (kinds.OnceValue value) operations.Range none = never_certain
-  on_kind (kinds.OnceValue value) (operations.Atomic of) none = never_certain
-  on_kind (kinds.OnceValue value) (operations.Mutex of) none = never_certain
-  on_kind (kinds.OnceValue value) (operations.RwMutex of) none = never_certain
-  on_kind (kinds.OnceValue value) (operations.Cond of) none = never_certain
-  on_kind (kinds.OnceValue value) (operations.WaitGroup of) none = never_certain
-  on_kind (kinds.OnceValue value) operations.Once none = never_certain
-  on_kind (kinds.OnceValue value) operations.OnceFunc none = never_certain
   on_kind (kinds.OnceValue value) operations.OnceValue none = value_certain (object_number place) value
-  on_kind (kinds.OnceValue value) (operations.Pool of) none = never_certain
-  on_kind (kinds.OnceValue value) (operations.Composed of) none = never_certain
-  on_kind kinds.Pool (operations.Map of) none = never_certain
-  on_kind kinds.Pool operations.Range none = never_certain
-  on_kind kinds.Pool (operations.Atomic of) none = never_certain
-  on_kind kinds.Pool (operations.Mutex of) none = never_certain
-  on_kind kinds.Pool (operations.RwMutex of) none = never_certain
-  on_kind kinds.Pool (operations.Cond of) none = never_certain
-  on_kind kinds.Pool (operations.WaitGroup of) none = never_certain
-  on_kind kinds.Pool operations.Once none = never_certain
-  on_kind kinds.Pool operations.OnceFunc none = never_certain
-  on_kind kinds.Pool operations.OnceValue none = never_certain
   on_kind kinds.Pool (operations.Pool of) none = pool_certain plan.workers worker (first_part plan place) of
-  on_kind kinds.Pool (operations.Composed of) none = never_certain
-  on_kind kinds.Var operation none = never_certain
-  on_kind kind (operations.Var of) none = never_certain
+  on_kind (kinds.Sema size) (operations.Sema of) none = sema_certain (object_number place) of
+  on_kind (kinds.Flight atomic delta) (operations.Fly key) none = fly_certain (object_number place) (atomic_number plan.objects atomic) delta (key_number (keys_in plan.scripts) key)
+  on_kind kind operation none = never_certain
 
   on_object : (object : Option ObjectLine) (operation : Operation) → is_no_range operation ≡ true → IsCertain (call_at plan worker before place object operation)
   on_object None operation none = never_certain

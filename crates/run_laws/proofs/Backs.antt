@@ -1,11 +1,15 @@
 -- An entry of each kind's journal, read back from one of whatever kind.
 use Rattle.std.proofs.Common.{◌≡◌, ℕ, ℤ, refl}
+use Rattle.flight_core.specs.declared.event.FlightEvent.{FlightEvent}
+use Rattle.flight_core.specs.declared.event.FlightReply.{FlightReply}
 use Rattle.mutex_core.specs.declared.event.MutexEvent.{MutexEvent}
 use Rattle.mutex_core.specs.declared.reply.MutexReply.{MutexReply}
 use Rattle.pool_core.specs.declared.pool_event.PoolEvent.{PoolEvent}
 use Rattle.pool_core.specs.declared.pool_event.PoolReply.{PoolReply}
 use Rattle.rw_core.specs.declared.event.RwEvent.{RwEvent}
 use Rattle.rw_core.specs.declared.reply.RwReply.{RwReply}
+use Rattle.sema_core.specs.declared.event.SemaEvent.{SemaEvent}
+use Rattle.sema_core.specs.declared.event.SemaReply.{SemaReply}
 use Rattle.starts_core.specs.declared.starts.StartEvent.{StartEvent}
 use Rattle.starts_core.specs.declared.starts.StartReply.{StartReply}
 use Rattle.sync_model.specs.declared.journal.Deed.{Deed}
@@ -110,6 +114,28 @@ pub is_pool_back : (deed : Deed (PoolEvent ℕ) (PoolReply ℕ)) → pool_back (
 is_pool_back (Event e r) = refl
 is_pool_back (Refused e misuse) = refl
 is_pool_back (Halt misuse) = refl
+
+abbrev pub sema_back : Deed ObjectEvent ObjectReply → Deed SemaEvent SemaReply
+sema_back (Event (event.Sema e) (reply.Sema r)) = Event e r
+sema_back (Refused (event.Sema e) misuse) = Refused e misuse
+sema_back (Halt misuse) = Halt misuse
+sema_back deed = Halt UnlockOfUnlockedMutex
+
+pub is_sema_back : (deed : Deed SemaEvent SemaReply) → sema_back (lifted_deed event.Sema reply.Sema deed) ≡ deed
+is_sema_back (Event e r) = refl
+is_sema_back (Refused e misuse) = refl
+is_sema_back (Halt misuse) = refl
+
+abbrev pub flight_back : Deed ObjectEvent ObjectReply → Deed FlightEvent FlightReply
+flight_back (Event (event.Flight e) (reply.Flight r)) = Event e r
+flight_back (Refused (event.Flight e) misuse) = Refused e misuse
+flight_back (Halt misuse) = Halt misuse
+flight_back deed = Halt UnlockOfUnlockedMutex
+
+pub is_flight_back : (deed : Deed FlightEvent FlightReply) → flight_back (lifted_deed event.Flight reply.Flight deed) ≡ deed
+is_flight_back (Event e r) = refl
+is_flight_back (Refused e misuse) = refl
+is_flight_back (Halt misuse) = refl
 
 abbrev pub starts_back : Deed ObjectEvent ObjectReply → Deed StartEvent StartReply
 starts_back (Event (event.Starts e) (reply.Starts r)) = Event e r

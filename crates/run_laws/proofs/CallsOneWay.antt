@@ -2,6 +2,11 @@
 use Rattle.std.proofs.Common.{ℕ, zero, suc, ◌+◌, ℤ, pos, Bool, true, false, List, [], ◌∷◌, sym, ap, ◌∙◌}
 use Rattle.std.specs.Prelude.{Ok}
 use Rattle.std.specs.List.{range_with_len}
+use Rattle.flight_core.specs.declared.calls.FlightOutcome.{FlightOutcome}
+use Rattle.flight_core.specs.declared.calls.FlightOutcome.TheVariants as flight_outcome
+use Rattle.flight_core.specs.declared.calls.FlightStage.{FlightStage}
+use Rattle.flight_core.specs.declared.calls.FlightStage.TheVariants as flight_stage
+use Rattle.flight_core.specs.FlightStages.{flight_event, flight_meaning}
 use Rattle.pool_core.specs.declared.pool_event.PoolEvent.{PoolEvent}
 use Rattle.protocols.specs.CondStages.{cond_event, cond_meaning}
 use Rattle.protocols.specs.GroupStages.{group_event, group_meaning}
@@ -24,6 +29,7 @@ use Rattle.protocols.specs.declared.pool.PoolStage.{PoolStage}
 use Rattle.protocols.specs.declared.pool.PoolStage.TheVariants as pool_stage
 use Rattle.script_calls.specs.declared.call.Reply.{Reply}
 use Rattle.script_calls.specs.declared.call.Reply.TheVariants as replies
+use Rattle.sema_core.specs.SemaStages.{sema_event, sema_meaning}
 use Rattle.starts_core.specs.declared.protocol.StartsStage.{StartsStage}
 use Rattle.starts_core.specs.declared.protocol.StartsStage.TheVariants as starts_stage
 use Rattle.starts_core.specs.StartsStages.{starts_event, starts_meaning}
@@ -47,6 +53,7 @@ use Rattle.sync_types.specs.declared.once_call.DoReply.TheVariants as do_replies
 use Rattle.sync_types.specs.declared.pool_call.PoolCall.{PoolCall}
 use Rattle.sync_types.specs.declared.pool_call.PoolCall.TheVariants as pool_calls
 use Rattle.sync_types.specs.declared.pool_call.PoolCallReply.TheVariants as pool_replies
+use Rattle.sync_types.specs.declared.sema_call.SemaCall.{SemaCall}
 use Rattle.sync_types.specs.declared.wait_call.CondCall.{CondCall}
 use Rattle.sync_types.specs.declared.wait_call.CondCall.TheVariants as cond_calls
 use Rattle.sync_types.specs.declared.wait_call.WaitGroupCall.{WaitGroupCall}
@@ -57,17 +64,19 @@ use Rattle.run_record.specs.declared.entered.ObjectEvent.TheVariants as event
 use Rattle.run_record.specs.declared.entered.ObjectReply.TheVariants as reply
 use Rattle.run_record.specs.AtomicKind.{atomic_call, adds}
 use Rattle.run_record.specs.CondKind.{cond_part, wait_part, cond_call}
+use Rattle.run_record.specs.FlightKind.{flight_part, fly_call, goes_on_flight, was_shared}
 use Rattle.run_record.specs.MapKind.{map_call}
 use Rattle.run_record.specs.MutexKind.{mutex_part, mutex_stage, mutex_call}
 use Rattle.run_record.specs.OnceKind.{goes_on_once, once_part, do_call, failure, func_call, value_call}
 use Rattle.run_record.specs.Parts.{Part, and_then, read_as, returns, stages}
 use Rattle.run_record.specs.PoolKind.{pool_part, stage_of, found_or, part_of, found_by, looks_of, swept_by, pool_call}
 use Rattle.run_record.specs.RwMutexKind.{rw_part, rw_mutex_call}
+use Rattle.run_record.specs.SemaKind.{sema_part, sema_stage, sema_call}
 use Rattle.run_record.specs.StartsKind.{starts_part, go_call}
 use Rattle.run_record.specs.Tests.{holds, tests, compared, if_equal_call, unless_met, waits_for, wait_for_call}
 use Rattle.run_record.specs.WaitGroupKind.{wait_group_stage, wait_group_call}
 use Rattle.run_laws.specs.OneSpelling.{IsCertain}
-use Rattle.run_laws.proofs.Backs.{mutex_back, is_mutex_back, rw_mutex_back, is_rw_mutex_back, cond_back, is_cond_back, wait_group_back, is_wait_group_back, once_back, is_once_back, once_func_back, is_once_func_back, once_value_back, is_once_value_back, pool_back, is_pool_back, starts_back, is_starts_back}
+use Rattle.run_laws.proofs.Backs.{mutex_back, is_mutex_back, rw_mutex_back, is_rw_mutex_back, cond_back, is_cond_back, wait_group_back, is_wait_group_back, once_back, is_once_back, once_func_back, is_once_func_back, once_value_back, is_once_value_back, pool_back, is_pool_back, sema_back, is_sema_back, flight_back, is_flight_back, starts_back, is_starts_back}
 use Rattle.run_laws.proofs.WritesOneWay.{LocksEnd, write_certain}
 use Rattle.run_laws.proofs.OneWay.{returns_certain, never_certain, read_as_certain, and_then_certain, place_certain, stages_certain}
 
@@ -229,3 +238,21 @@ pub pool_certain : (workers worker first : ℕ) (call : PoolCall) → IsCertain 
 pool_certain workers worker first (pool_calls.Put item) = read_as_certain (λ put. replies.Pool pool_replies.Done) (pool_part (first + worker) (pool_stage.Put item)) (pool_part_certain (first + worker) (pool_stage.Put item))
 pool_certain workers worker first pool_calls.Get = found_certain worker first (looks_of workers worker)
 pool_certain workers worker first pool_calls.Sweep = swept_certain first (range_with_len 0 workers)
+
+pub sema_certain : (object : ℕ) (call : SemaCall) → IsCertain (sema_call object call)
+sema_certain object call = read_as_certain replies.Lock (sema_part object (sema_stage call)) (stages_certain event.Sema reply.Sema sema_back is_sema_back object sema_event sema_meaning (sema_stage call))
+
+flight_part_certain : (object : ℕ) (stage : FlightStage) → IsCertain (flight_part object stage)
+flight_part_certain object stage = stages_certain event.Flight reply.Flight flight_back is_flight_back object flight_event flight_meaning stage
+
+-- the parts of a call behind its coming
+flies_certain : (object a : ℕ) (amount : ℤ) (outcome : FlightOutcome) → IsCertain (goes_on_flight (flight_part object) (adds a amount) outcome)
+flies_certain object a amount flight_outcome.Lead =
+    and_then_certain (adds a amount) (λ sum. read_as (λ outcome. replies.Flown sum (was_shared outcome)) (flight_part object (flight_stage.Land sum))) (adds_certain a amount)
+    (λ sum. read_as_certain (λ outcome. replies.Flown sum (was_shared outcome)) (flight_part object (flight_stage.Land sum)) (flight_part_certain object (flight_stage.Land sum)))
+flies_certain object a amount (flight_outcome.Got value) = returns_certain (replies.Flown value true)
+flies_certain object a amount (flight_outcome.Landed shared) = never_certain
+
+pub fly_certain : (object a : ℕ) (amount : ℤ) (key : ℕ) → IsCertain (fly_call object a amount key)
+fly_certain object a amount key =
+    and_then_certain (flight_part object (flight_stage.Join key)) (goes_on_flight (flight_part object) (adds a amount)) (flight_part_certain object (flight_stage.Join key)) (flies_certain object a amount)

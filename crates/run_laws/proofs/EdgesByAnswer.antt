@@ -2,6 +2,15 @@
 use Rattle.std.proofs.Common.{◌≡◌, ◌↔◌, refl, sym, ap, ◌∙◌, ◌⊎◌, inl, inr, ⊎_elim, ℕ, ◌<◌, negsuc, Bool, true, false}
 use Rattle.std.specs.Prelude.{if◌then◌else◌, nat_lt}
 use Rattle.std.proofs.lemmas.Bool.{false≢true, cases_Bool, ltb-true}
+use Rattle.flight_core.specs.declared.calls.FlightStand.{FlightStand}
+use Rattle.flight_core.specs.declared.calls.FlightStand.TheVariants as stand
+use Rattle.flight_core.specs.declared.event.FlightEvent.{FlightEvent}
+use Rattle.flight_core.specs.declared.event.FlightEvent.TheVariants as on_flight
+use Rattle.flight_core.specs.declared.event.FlightReply.{FlightReply}
+use Rattle.flight_core.specs.declared.event.FlightReply.TheVariants as of_flight
+use Rattle.flight_core.specs.FlightEdges.{flight_releases, flight_acquires}
+use Rattle.flight_core.specs.FlightMachine as flights
+use Rattle.flight_core.specs.FlightStanding as flight_standing
 use Rattle.mutex_core.specs.declared.event.MutexEvent.{MutexEvent}
 use Rattle.mutex_core.specs.declared.event.MutexEvent.TheVariants as on_mutex
 use Rattle.mutex_core.specs.declared.reply.MutexReply.{MutexReply}
@@ -26,6 +35,11 @@ use Rattle.rw_core.specs.declared.reply.Resumption.TheVariants as rw_resumption
 use Rattle.rw_core.specs.declared.reply.Unlocking.TheVariants as rw_unlocking
 use Rattle.rw_core.specs.Edges as rw
 use Rattle.rw_core.specs.Standing as rw_standing
+use Rattle.sema_core.specs.declared.event.SemaEvent.{SemaEvent}
+use Rattle.sema_core.specs.declared.event.SemaEvent.TheVariants as on_sema
+use Rattle.sema_core.specs.declared.event.SemaReply.{SemaReply}
+use Rattle.sema_core.specs.declared.event.SemaReply.TheVariants as of_sema
+use Rattle.sema_core.specs.SemaEdges.{sema_releases, sema_acquires}
 use Rattle.starts_core.specs.declared.starts.StartEvent.{StartEvent}
 use Rattle.starts_core.specs.declared.starts.StartEvent.TheVariants as on_starts
 use Rattle.starts_core.specs.declared.starts.StartReply.{StartReply}
@@ -48,7 +62,7 @@ use Rattle.wait_cores.specs.declared.once.OnceReply.TheVariants as of_once
 use Rattle.wait_cores.specs.OnceEdges.{once_releases, once_acquires}
 use Rattle.wait_cores.specs.OnceMachine.{OnceState, callers_of, made, next}
 use Rattle.wait_cores.specs.OnceStanding as once
-use Rattle.run_laws.specs.DocumentedEdges.{CondWaitGoesOn, Dones, FunctionCompletes, Gets, GoStarts, GroupWaitReturns, Locks, Notifies, OnceCallReturns, Puts, RwLocks, RwUnlocks, StartedGoes, Unlocks, WorkerEnds}
+use Rattle.run_laws.specs.DocumentedEdges.{CondWaitGoesOn, Dones, FlightCallGoesOn, FlightLands, FunctionCompletes, Gets, GoStarts, GroupWaitReturns, Locks, Notifies, OnceCallReturns, Puts, RwLocks, RwUnlocks, SemaAcquires, SemaReleases, StartedGoes, Unlocks, WorkerEnds}
 
 -- of a mutex
 unlocks : (e : MutexEvent) (r : MutexReply) → mutex_standing.is_answer e r ≡ true → mutex.releases r ≡ true → Unlocks e r
@@ -235,6 +249,69 @@ gets_take e r (Gets.of_the_victims part item) = refl
 
 pub of_a_part : (e : PoolEvent ℕ) (r : PoolReply ℕ) → pool.answers e r ≡ true → (pool_releases e r ≡ true ↔ Puts e r) × (pool_acquires e r ≡ true ↔ Gets e r)
 of_a_part e r answer = ((puts e r answer, puts_free e r), (gets e r answer, gets_take e r))
+
+-- of a weighted semaphore
+gives_back : (e : SemaEvent) (r : SemaReply) → sema_releases e r ≡ true → SemaReleases e r
+gives_back (on_sema.Release weight) of_sema.Done frees = SemaReleases.gives_back weight
+gives_back e r frees = absurd (false≢true frees)
+
+gives_back_free : (e : SemaEvent) (r : SemaReply) → SemaReleases e r → sema_releases e r ≡ true
+gives_back_free e r (SemaReleases.gives_back weight) = refl
+
+has_weight : (e : SemaEvent) (r : SemaReply) → sema_acquires e r ≡ true → SemaAcquires e r
+has_weight (on_sema.Acquire weight) of_sema.Done takes = SemaAcquires.at_once weight
+has_weight (on_sema.Try weight) of_sema.Done takes = SemaAcquires.by_a_try weight
+has_weight on_sema.Leave of_sema.Done takes = SemaAcquires.granted
+has_weight e r takes = absurd (false≢true takes)
+
+has_weight_take : (e : SemaEvent) (r : SemaReply) → SemaAcquires e r → sema_acquires e r ≡ true
+has_weight_take e r (SemaAcquires.at_once weight) = refl
+has_weight_take e r (SemaAcquires.by_a_try weight) = refl
+has_weight_take e r SemaAcquires.granted = refl
+
+pub of_a_sema : (e : SemaEvent) (r : SemaReply) → (sema_releases e r ≡ true ↔ SemaReleases e r) × (sema_acquires e r ≡ true ↔ SemaAcquires e r)
+of_a_sema e r = ((gives_back e r, gives_back_free e r), (has_weight e r, has_weight_take e r))
+
+-- of a group of flights, by where the caller stands
+lands : (at : FlightStand) (e : FlightEvent) (r : FlightReply) → flight_standing.answers at e r ≡ true → flight_releases e r ≡ true → FlightLands e r
+lands at (on_flight.Land value) (of_flight.Landed shared) answer frees = FlightLands.with_value value shared
+lands stand.Out e (of_flight.Landed shared) answer frees = absurd (false≢true answer)
+lands stand.Leads e (of_flight.Landed shared) answer frees = absurd (false≢true answer)
+lands stand.Waits e (of_flight.Landed shared) answer frees = absurd (false≢true answer)
+lands at e r answer frees = absurd (false≢true frees)
+
+lands_free : (e : FlightEvent) (r : FlightReply) → FlightLands e r → flight_releases e r ≡ true
+lands_free e r (FlightLands.with_value value shared) = refl
+
+flies : (at : FlightStand) (e : FlightEvent) (r : FlightReply) → flight_standing.answers at e r ≡ true → flight_acquires e r ≡ true → FlightCallGoesOn e r
+flies at (on_flight.Join key) of_flight.Lead answer takes = FlightCallGoesOn.leads key
+flies at on_flight.Leave (of_flight.Left value) answer takes = FlightCallGoesOn.leaves value
+flies stand.Out e of_flight.Lead answer takes = absurd (false≢true answer)
+flies stand.Leads e of_flight.Lead answer takes = absurd (false≢true answer)
+flies stand.Waits e of_flight.Lead answer takes = absurd (false≢true answer)
+flies stand.Out e (of_flight.Left value) answer takes = absurd (false≢true answer)
+flies stand.Leads e (of_flight.Left value) answer takes = absurd (false≢true answer)
+flies stand.Waits e (of_flight.Left value) answer takes = absurd (false≢true answer)
+flies at e r answer takes = absurd (false≢true takes)
+
+flies_take : (e : FlightEvent) (r : FlightReply) → FlightCallGoesOn e r → flight_acquires e r ≡ true
+flies_take e r (FlightCallGoesOn.leads key) = refl
+flies_take e r (FlightCallGoesOn.leaves value) = refl
+
+by_stand : (at : FlightStand) (e : FlightEvent) (r : FlightReply) → (r ≡ of_flight.Still) ⊎ (flight_standing.answers at e r ≡ true) → (flight_releases e r ≡ true ↔ FlightLands e r) × (flight_acquires e r ≡ true ↔ FlightCallGoesOn e r)
+by_stand at e r (inr answer) = ((lands at e r answer, lands_free e r), (flies at e r answer, flies_take e r))
+by_stand at e r (inl still) = (
+  ((λ frees. absurd (false≢true (sym (ap (flight_releases e) still) ∙ frees))), lands_free e r),
+  ((λ takes. absurd (false≢true (sym (ap (flight_acquires e) still) ∙ takes))), flies_take e r),
+)
+
+pub of_a_flight : ((s : flights.FlightState) (caller : ℕ) (e : FlightEvent) → caller < flights.callers_of s → flight_standing.answers (flight_standing.stands_at s caller) e (flights.next s caller e).1 ≡ true)
+    → (s : flights.FlightState) (caller : ℕ) (e : FlightEvent)
+    → (flight_releases e (flights.next s caller e).1 ≡ true ↔ FlightLands e (flights.next s caller e).1) × (flight_acquires e (flights.next s caller e).1 ≡ true ↔ FlightCallGoesOn e (flights.next s caller e).1)
+of_a_flight answers s caller e = by_stand (flight_standing.stands_at s caller) e (flights.next s caller e).1 (⊎_elim
+    (λ is. inr (answers s caller e (ltb-true caller (flights.callers_of s) is)))
+    (λ is. inl (ap (λ b. (if b then flights.made s caller e else (s, of_flight.Still)).1) is))
+    (cases_Bool (nat_lt caller (flights.callers_of s))))
 
 -- of Starts
 starts : (e : StartEvent) (r : StartReply) → starts_releases e r ≡ true → GoStarts e r ⊎ WorkerEnds e r

@@ -117,6 +117,8 @@ is_a_map (kinds.Once atomic delta) is = absurd cc
 is_a_map (kinds.OnceFunc code) is = absurd cc
 is_a_map (kinds.OnceValue value) is = absurd cc
 is_a_map kinds.Pool is = absurd cc
+is_a_map (kinds.Sema size) is = absurd cc
+is_a_map (kinds.Flight atomic delta) is = absurd cc
 is_a_map kinds.Var is = absurd cc
 
 is_an_atomic : (kind : ObjectKind) → is_atomic kind ≡ true → (type : AtomicKind) × (kind ≡ kinds.Atomic type)
@@ -130,6 +132,8 @@ is_an_atomic (kinds.Once atomic delta) is = absurd cc
 is_an_atomic (kinds.OnceFunc code) is = absurd cc
 is_an_atomic (kinds.OnceValue value) is = absurd cc
 is_an_atomic kinds.Pool is = absurd cc
+is_an_atomic (kinds.Sema size) is = absurd cc
+is_an_atomic (kinds.Flight atomic delta) is = absurd cc
 is_an_atomic kinds.Var is = absurd cc
 
 -- the entries of a map by name are what it has

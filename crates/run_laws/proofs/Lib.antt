@@ -15,6 +15,7 @@ mod EndsShown
 mod EntriesIn
 mod ExplainedCircle
 mod ExplainedCond
+mod ExplainedFlight
 mod ExplainedGo
 mod ExplainedMap
 mod ExplainedMutex
@@ -23,6 +24,7 @@ mod ExplainedOnceFunc
 mod ExplainedOnceValue
 mod ExplainedPool
 mod ExplainedRwMutex
+mod ExplainedSema
 mod ExplainedStarts
 mod ExplainedStoreAndTry
 mod ExplainedWaitGroup

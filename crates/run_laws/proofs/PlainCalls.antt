@@ -128,6 +128,8 @@ module _ (plan : Plan) (plain : has_plain_objects plan ≡ true) (worker before 
   by_kind object (kinds.OnceFunc code) operation at is plain asks spelt = absurd (false≢true plain)
   by_kind object (kinds.OnceValue value) operation at is plain asks spelt = absurd (false≢true plain)
   by_kind object kinds.Pool operation at is plain asks spelt = absurd (false≢true plain)
+  by_kind object (kinds.Sema size) operation at is plain asks spelt = absurd (false≢true plain)
+  by_kind object (kinds.Flight atomic delta) operation at is plain asks spelt = absurd (false≢true plain)
   by_kind object kind operation at is plain asks spelt = absurd spelt
 
   by_object : (object : Option ObjectLine) → slice_get plan.objects call.object ≡ object → call_at plan worker before call.object object call.operation items answer → PlainCall plan call items answer

@@ -1,5 +1,9 @@
--- The edges that Go's memory model and the documentation of its `sync` state, kind by kind: by which event, answered how, a call comes to the point that they name. What comes first of the two releases, and what comes later acquires. One more release is this profile's own (`WorkerEnds`).
-use Rattle.std.specs.Prelude.{ℕ, negsuc, Bool, true, false}
+-- The edges that Go's memory model and the documentation of its `sync` state, kind by kind: by which event, answered how, a call comes to the point that they name. What comes first of the two releases, and what comes later acquires. This profile's own are one more release (`WorkerEnds`), and the edges of the kinds of `golang.org/x/sync`.
+use Rattle.std.specs.Prelude.{ℕ, ℤ, negsuc, Bool, true, false}
+use Rattle.flight_core.specs.declared.event.FlightEvent.{FlightEvent}
+use Rattle.flight_core.specs.declared.event.FlightEvent.TheVariants as on_flight
+use Rattle.flight_core.specs.declared.event.FlightReply.{FlightReply}
+use Rattle.flight_core.specs.declared.event.FlightReply.TheVariants as of_flight
 use Rattle.mutex_core.specs.declared.event.MutexEvent.{MutexEvent}
 use Rattle.mutex_core.specs.declared.event.MutexEvent.TheVariants as on_mutex
 use Rattle.mutex_core.specs.declared.reply.MutexReply.{MutexReply}
@@ -18,6 +22,10 @@ use Rattle.rw_core.specs.declared.reply.RwReply.TheVariants as of_rw
 use Rattle.rw_core.specs.declared.reply.Arrival.TheVariants as rw_arrival
 use Rattle.rw_core.specs.declared.reply.Resumption.TheVariants as rw_resumption
 use Rattle.rw_core.specs.declared.reply.Unlocking.TheVariants as rw_unlocking
+use Rattle.sema_core.specs.declared.event.SemaEvent.{SemaEvent}
+use Rattle.sema_core.specs.declared.event.SemaEvent.TheVariants as on_sema
+use Rattle.sema_core.specs.declared.event.SemaReply.{SemaReply}
+use Rattle.sema_core.specs.declared.event.SemaReply.TheVariants as of_sema
 use Rattle.starts_core.specs.declared.starts.StartEvent.{StartEvent}
 use Rattle.starts_core.specs.declared.starts.StartEvent.TheVariants as on_starts
 use Rattle.starts_core.specs.declared.starts.StartReply.{StartReply}
@@ -97,6 +105,23 @@ pub data Gets : PoolEvent ℕ → PoolReply ℕ → Type 0 where
   of_another_part : (part item : ℕ) → Gets (LookOther part) (Item item)
   of_the_victims : (part item : ℕ) → Gets (LookVictim part) (Item item)
 
+-- The documentation of `golang.org/x/sync` names no edge of a semaphore. These are a choice of this profile: the edges of a mutex, which a semaphore of size 1 is. A release that is a misuse is none, and a caller whose try is refused, or that comes to wait, has no weight yet.
+pub data SemaReleases : SemaEvent → SemaReply → Type 0 where
+  gives_back : (weight : ℕ) → SemaReleases (on_sema.Release weight) of_sema.Done
+
+pub data SemaAcquires : SemaEvent → SemaReply → Type 0 where
+  at_once : (weight : ℕ) → SemaAcquires (on_sema.Acquire weight) of_sema.Done
+  by_a_try : (weight : ℕ) → SemaAcquires (on_sema.Try weight) of_sema.Done
+  granted : SemaAcquires on_sema.Leave of_sema.Done
+
+-- It names none of flights either. Here the landing of a flight is synchronized before the return of each caller that joined it, and before each later flight of the group begins, of whatever key, as by the lock that Go's code takes.
+pub data FlightLands : FlightEvent → FlightReply → Type 0 where
+  with_value : (value : ℤ) (shared : Bool) → FlightLands (on_flight.Land value) (of_flight.Landed shared)
+
+pub data FlightCallGoesOn : FlightEvent → FlightReply → Type 0 where
+  leads : (key : ℕ) → FlightCallGoesOn (on_flight.Join key) of_flight.Lead
+  leaves : (value : ℤ) → FlightCallGoesOn on_flight.Leave (of_flight.Left value)
+
 -- "The go statement that starts a new goroutine is synchronized before the start of the goroutine's execution." A worker that waits to be started is such a goroutine, and begins its execution where it goes.
 pub data GoStarts : StartEvent → StartReply → Type 0 where
   a_worker : (worker : ℕ) → GoStarts (on_starts.Start worker) of_starts.Done
@@ -118,5 +143,7 @@ is_of_its_kind (event.Once e) (reply.Once r) = true
 is_of_its_kind (event.OnceFunc e) (reply.OnceFunc r) = true
 is_of_its_kind (event.OnceValue e) (reply.OnceValue r) = true
 is_of_its_kind (event.Pool e) (reply.Pool r) = true
+is_of_its_kind (event.Sema e) (reply.Sema r) = true
+is_of_its_kind (event.Flight e) (reply.Flight r) = true
 is_of_its_kind (event.Starts e) (reply.Starts r) = true
 is_of_its_kind e r = false

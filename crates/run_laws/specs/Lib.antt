@@ -3,6 +3,7 @@ pub mod DocumentedEdges
 pub mod Examples
 pub mod ExamplesCircle
 pub mod ExamplesCond
+pub mod ExamplesFlight
 pub mod ExamplesGo
 pub mod ExamplesMap
 pub mod ExamplesMutex
@@ -11,6 +12,7 @@ pub mod ExamplesOnceFunc
 pub mod ExamplesOnceValue
 pub mod ExamplesPool
 pub mod ExamplesRwMutex
+pub mod ExamplesSema
 pub mod ExamplesStarts
 pub mod ExamplesStoreAndTry
 pub mod ExamplesWaitGroup

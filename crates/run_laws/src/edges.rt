@@ -1,6 +1,7 @@
 //! What one event makes known to another: the edges between the events of a run's objects are those that Go documents, and a front
 //! counts calls that were made. Each law is the contract of a function that does nothing.
 ghost use Rattle.std.specs.Prelude.{◌≡◌, ◌↔◌, ◌⊎◌, ◌<◌, ℕ, ℤ, true, IsFalse, Some, slice_get, slice_index};
+ghost use Rattle.flight_core.specs.FlightMachine as flight;
 ghost use Rattle.mutex_core.specs.MutexMachine as mutex;
 ghost use Rattle.pool_core.specs.PartMachine.{PartState, part_next};
 ghost use Rattle.rw_core.specs.RwMachine as rw;
@@ -9,13 +10,15 @@ ghost use Rattle.workload.specs.Plan.{Plan};
 ghost use Rattle.run_record.specs.Edges.{frees, takes};
 ghost use Rattle.run_record.specs.Explains.{IsRecordOf};
 ghost use Rattle.run_record.specs.Record.{Record, list_of, calls_of, front_of};
-ghost use Rattle.run_laws.specs.DocumentedEdges.{CondWaitGoesOn, Dones, FunctionCompletes, Gets, GoStarts, GroupWaitReturns, Locks, Notifies, OnceCallReturns, Puts, RwLocks, RwUnlocks, StartedGoes, Unlocks, WorkerEnds, is_of_its_kind};
+ghost use Rattle.run_laws.specs.DocumentedEdges.{CondWaitGoesOn, Dones, FlightCallGoesOn, FlightLands, FunctionCompletes, Gets, GoStarts, GroupWaitReturns, Locks, Notifies, OnceCallReturns, Puts, RwLocks, RwUnlocks, SemaAcquires, SemaReleases, StartedGoes, Unlocks, WorkerEnds, is_of_its_kind};
 
+use flight_core::FlightEvent;
 use mutex_core::MutexEvent;
 use pool_core::PoolEvent;
 use run_record::Made;
 use run_record::entered::{ObjectEvent, ObjectReply};
 use rw_core::RwEvent;
+use sema_core::{SemaEvent, SemaReply};
 use starts_core::{StartEvent, StartReply};
 use sync_model::Item;
 use wait_cores::{GroupEvent, GroupReply, NotifyEvent, NotifyReply, OnceEvent};
@@ -23,7 +26,8 @@ use wait_cores::{GroupEvent, GroupReply, NotifyEvent, NotifyReply, OnceEvent};
 /// An event releases exactly where Go's memory model, or the documentation of its `sync`, names it as the first of two that
 /// are synchronized, and acquires exactly where it is the second: of each kind of object, whatever its state is and
 /// whoever makes the event. An event that is answered by a misuse, by an object of another kind, or not at all, does neither.
-/// One release more is a choice of this profile: the end of a worker in a workload where some wait to be started.
+/// Some are choices of this profile: one release more, the end of a worker in a workload where some wait to be started; and all of
+/// semaphores and flights, of which the documentation of `golang.org/x/sync` names none.
 pub fn the_edges_are_those_that_go_documents()
     ensures mutex { (state : mutex.State) (caller : ℕ) (event : MutexEvent) → let reply = (mutex.next state caller event).1 in
         (frees (ObjectEvent.Mutex event) (ObjectReply.Mutex reply) ≡ true ↔ Unlocks event reply)
@@ -49,6 +53,12 @@ pub fn the_edges_are_those_that_go_documents()
     ensures pool { (state : PartState ℕ) (caller : ℕ) (event : PoolEvent ℕ) → let reply = (part_next state caller event).1 in
         (frees (ObjectEvent.Pool event) (ObjectReply.Pool reply) ≡ true ↔ Puts event reply)
         × (takes (ObjectEvent.Pool event) (ObjectReply.Pool reply) ≡ true ↔ Gets event reply) }
+    ensures sema { (event : SemaEvent) (reply : SemaReply)
+        → (frees (ObjectEvent.Sema event) (ObjectReply.Sema reply) ≡ true ↔ SemaReleases event reply)
+        × (takes (ObjectEvent.Sema event) (ObjectReply.Sema reply) ≡ true ↔ SemaAcquires event reply) }
+    ensures flight { (state : flight.FlightState) (caller : ℕ) (event : FlightEvent) → let reply = (flight.next state caller event).1 in
+        (frees (ObjectEvent.Flight event) (ObjectReply.Flight reply) ≡ true ↔ FlightLands event reply)
+        × (takes (ObjectEvent.Flight event) (ObjectReply.Flight reply) ≡ true ↔ FlightCallGoesOn event reply) }
     ensures starts { (event : StartEvent) (reply : StartReply)
         → (frees (ObjectEvent.Starts event) (ObjectReply.Starts reply) ≡ true ↔ GoStarts event reply ⊎ WorkerEnds event reply)
         × (takes (ObjectEvent.Starts event) (ObjectReply.Starts reply) ≡ true ↔ StartedGoes event reply) }
@@ -62,6 +72,7 @@ pub fn the_edges_are_those_that_go_documents()
     wait_cores::laws::once::knows_where_it_stands::<i64>();
     wait_cores::laws::once::knows_where_it_stands::<u32>();
     pool_core::part_laws::a_part_answers();
+    flight_core::laws::knows_where_it_stands();
 }
 
 /// Each call that a front counts was made: nobody knows of a call that there isn't.

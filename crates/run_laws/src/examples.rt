@@ -3,6 +3,7 @@
 ghost use Rattle.std.specs.Prelude.{ℕ, List};
 ghost use Rattle.run_record.specs.Explains.{Explains};
 ghost use Rattle.run_laws.specs.ExamplesCond as cond;
+ghost use Rattle.run_laws.specs.ExamplesFlight as flight;
 ghost use Rattle.run_laws.specs.ExamplesGo as go;
 ghost use Rattle.run_laws.specs.ExamplesMap as map;
 ghost use Rattle.run_laws.specs.ExamplesMutex as mutex;
@@ -11,6 +12,7 @@ ghost use Rattle.run_laws.specs.ExamplesOnceFunc as once_func;
 ghost use Rattle.run_laws.specs.ExamplesOnceValue as once_value;
 ghost use Rattle.run_laws.specs.ExamplesPool as pool;
 ghost use Rattle.run_laws.specs.ExamplesRwMutex as rw_mutex;
+ghost use Rattle.run_laws.specs.ExamplesSema as sema;
 ghost use Rattle.run_laws.specs.ExamplesStarts as starts;
 ghost use Rattle.run_laws.specs.ExamplesWaitGroup as wait_group;
 
@@ -92,6 +94,26 @@ pub fn a_function_is_not_run_twice()
 pub fn no_item_is_got_that_nobody_put()
     ensures explained { Explains pool.plan (pool.outcome 5) (pool.got 5) }
     ensures refused { (outcome : Outcome) → Explains pool.plan outcome (pool.got 6) → ⊥ }
+{
+    scripts_without_tests_are_spelt_call_by_call();
+}
+
+/// A worker that waits for its weight of a semaphore, and leaves behind the release which grants it, is explained: its acquire is these
+/// two events. One that leaves before that release isn't, nor is one that has its weight at once, while the other worker holds all there is.
+pub fn a_semaphore_is_not_held_past_its_size()
+    ensures explained { Explains sema.plan sema.outcome sema.granted }
+    ensures refused { (outcome : Outcome) → Explains sema.plan outcome sema.left_too_early → ⊥ }
+    ensures not_at_once { (outcome : Outcome) → Explains sema.plan outcome sema.held_by_two → ⊥ }
+{
+    scripts_without_tests_are_spelt_call_by_call();
+}
+
+/// A flight that one of two callers leads, and the other one joins, is explained: both reply what the one addition came to. It isn't where
+/// the one who joined leaves with another value. Nor is it explained that both lead a flight of the one key at the same time.
+pub fn a_flight_is_not_led_by_two()
+    ensures explained { Explains flight.plan flight.outcome (flight.left_with 3) }
+    ensures refused { (outcome : Outcome) → Explains flight.plan outcome flight.led_by_two → ⊥ }
+    ensures not_another { (outcome : Outcome) → Explains flight.plan outcome (flight.left_with 5) → ⊥ }
 {
     scripts_without_tests_are_spelt_call_by_call();
 }

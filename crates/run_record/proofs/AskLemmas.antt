@@ -30,7 +30,7 @@ use Rattle.run_record.specs.Limits.{told}
 use Rattle.run_record.specs.Parts.{Part, Places, stages}
 use Rattle.run_record.specs.Record.{shared_in}
 use Rattle.run_record.specs.StartsKind.{opening, closing}
-use Rattle.run_record.proofs.CallParts.{HoldsOfParts, holds_of_call, of_opening, of_closing}
+use Rattle.run_record.proofs.CallParts.{HoldsOfParts, holds_of_call, of_fly, of_opening, of_closing}
 use Rattle.run_record.proofs.EachItem.{EachOf, through, of_entries, of_stages}
 use Rattle.run_record.proofs.Having.{Each}
 
@@ -81,6 +81,7 @@ module _ (P : SharedCall → Type 0) where
       func = λ object stage. by_stages event.OnceFunc reply.OnceFunc object _ _ stage;
       value = λ object stage. by_stages event.OnceValue reply.OnceValue object _ _ stage;
       pool = λ object stage. by_stages event.Pool reply.Pool object _ _ stage;
+      sema = λ object stage. by_stages event.Sema reply.Sema object _ _ stage;
       added = λ a amount items answer spelt. by_places _ items (atomics a (Add (Int64 amount)), tt) spelt.1;
       atomic = λ a call items answer spelt. by_places _ items (atomics a call, tt) spelt.1;
       range = λ keys m begin items answer spelt. by_places _ items (begins m, shown_asked begin spelt.0) spelt.2;
@@ -91,6 +92,7 @@ module _ (P : SharedCall → Type 0) where
     by_call plan worker before call keyed =
         holds_of_call (λ O part. AsksOnly part) asked plan worker before call (λ m op is items answer spelt. by_places _ items (keyed m op is, tt) spelt.1)
         (λ object started is. by_stages event.Starts reply.Starts object starts_event starts_meaning (stage.Start started))
+        (λ object atomic amount key there is called. of_fly (λ O part. AsksOnly part) (through Asks) _ _ amount _ (λ stage. by_stages event.Flight reply.Flight _ _ _ stage) (asked.added _ amount))
 
 -- where nothing is asked, there are no calls on maps and atomics
 pub none_asked : (items : List Made) → Each (Asks (λ call. ⊥)) items → shared_in items ≡ []

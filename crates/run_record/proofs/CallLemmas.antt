@@ -3,6 +3,7 @@ use Rattle.std.proofs.Common.{ℕ, ℤ, List, map}
 use Rattle.script_calls.specs.declared.call.Call.{Call}
 use Rattle.script_calls.specs.declared.call.Reply.TheVariants as replies
 use Rattle.sync_model.specs.declared.journal.Deed.{Deed}
+use Rattle.flight_core.specs.FlightStages.{flight_event, flight_meaning}
 use Rattle.protocols.specs.CondStages.{cond_event, cond_meaning}
 use Rattle.protocols.specs.GroupStages.{group_event, group_meaning}
 use Rattle.protocols.specs.MutexStages.{mutex_event, mutex_meaning}
@@ -12,6 +13,7 @@ use Rattle.protocols.specs.RwMutexStages.{rw_event, rw_meaning}
 use Rattle.protocols.specs.Spelling.{CallAnswer, Spells, Ends}
 use Rattle.protocols.specs.declared.step.Step.{Step}
 use Rattle.protocols.specs.declared.wait_group.GroupStage.TheVariants as group_stage
+use Rattle.sema_core.specs.SemaStages.{sema_event, sema_meaning}
 use Rattle.starts_core.specs.declared.protocol.StartsStage.{StartsStage}
 use Rattle.starts_core.specs.declared.protocol.StartsStage.TheVariants as stage
 use Rattle.starts_core.specs.StartsStages.{starts_event, starts_meaning}
@@ -21,7 +23,7 @@ use Rattle.run_record.specs.declared.entered.ObjectReply.TheVariants as reply
 use Rattle.run_record.specs.Calls.{SpellsCall}
 use Rattle.run_record.specs.StartsKind.{starts_part, opening, closing}
 use Rattle.run_record.proofs.CallParts as holds
-use Rattle.run_record.proofs.CallParts.{GoesThrough, HoldsOfParts, holds_of_call}
+use Rattle.run_record.proofs.CallParts.{GoesThrough, HoldsOfParts, holds_of_call, of_fly}
 use Rattle.run_record.proofs.PartLemmas.{IsSound, of_returns, of_never, of_and_then, of_read_as, of_places, of_entries, of_stages}
 use Rattle.run_record.proofs.WriteLocks.{lock_ends}
 
@@ -37,6 +39,8 @@ pub record AllEndAlike : Type 0 where
   pub once : EndsAlike (once_event {T = ℤ}) (once_meaning {T = ℤ})
   pub func : EndsAlike (once_event {T = ℕ}) (once_meaning {T = ℕ})
   pub pool : EndsAlike pool_event pool_meaning
+  pub sema : EndsAlike sema_event sema_meaning
+  pub flight : EndsAlike flight_event flight_meaning
   pub starts : EndsAlike starts_event starts_meaning
 
 abbrev through : GoesThrough (λ O part. IsSound part)
@@ -59,6 +63,7 @@ sound alike = record {
   func = λ object stage. of_stages event.OnceFunc reply.OnceFunc object once_event once_meaning stage (alike.func stage);
   value = λ object stage. of_stages event.OnceValue reply.OnceValue object once_event once_meaning stage (alike.func stage);
   pool = λ object stage. of_stages event.Pool reply.Pool object pool_event pool_meaning stage (alike.pool stage);
+  sema = λ object stage. of_stages event.Sema reply.Sema object sema_event sema_meaning stage (alike.sema stage);
   added = λ a amount items answer spelt. of_places _ items answer spelt.0 spelt.1 spelt.2;
   atomic = λ a call items answer spelt. of_places _ items answer (replies.Atomic spelt.0) spelt.1 spelt.2;
   range = λ keys m begin items answer spelt. of_places _ items answer (replies.Pairs spelt.1) spelt.2 spelt.4;
@@ -71,6 +76,7 @@ pub of_call : AllEndAlike → (plan : Plan) (worker before : ℕ) (call : Call) 
 of_call alike plan worker before call =
     holds_of_call (λ O part. IsSound part) (sound alike) plan worker before call (λ m op is items answer spelt. of_places _ items answer (replies.Map spelt.0) spelt.1 spelt.2)
     (λ object started is. of_starts alike object (stage.Start started))
+    (λ object atomic amount key there is called. of_fly (λ O part. IsSound part) through _ _ amount _ (λ stage. of_stages event.Flight reply.Flight _ flight_event flight_meaning stage (alike.flight stage)) ((sound alike).added _ amount))
 
 -- and what stands before a script, and behind it
 pub of_opening : AllEndAlike → (plan : Plan) (worker : ℕ) → IsSound (opening plan worker)

@@ -21,6 +21,10 @@ use Rattle.sync_types.specs.declared.pool_call.PoolCall.TheVariants as pool_call
 use Rattle.sync_types.specs.declared.pool_call.PoolCallReply.TheVariants as pool_replies
 use Rattle.sync_types.specs.declared.wait_call.CondCall.{CondCall}
 use Rattle.sync_types.specs.declared.wait_call.CondCall.TheVariants as cond_calls
+use Rattle.flight_core.specs.declared.calls.FlightOutcome.{FlightOutcome}
+use Rattle.flight_core.specs.declared.calls.FlightOutcome.TheVariants as flown
+use Rattle.flight_core.specs.declared.calls.FlightStage.{FlightStage}
+use Rattle.flight_core.specs.declared.calls.FlightStage.TheVariants as flight_stage
 use Rattle.pool_core.specs.declared.pool_event.PoolEvent.{PoolEvent}
 use Rattle.protocols.specs.GroupStages.{group_event, group_meaning}
 use Rattle.protocols.specs.OnceStages.{once_event, once_meaning}
@@ -41,26 +45,29 @@ use Rattle.protocols.specs.declared.rw_mutex.RwMutexStage.{RwMutexStage}
 use Rattle.protocols.specs.declared.rw_mutex.RwMutexStage.TheVariants as rw_stage
 use Rattle.protocols.specs.declared.wait_group.GroupStage.{GroupStage}
 use Rattle.protocols.specs.declared.wait_group.GroupStage.TheVariants as group_stage
+use Rattle.sema_core.specs.declared.calls.SemaStage.{SemaStage}
 use Rattle.starts_core.specs.declared.protocol.StartsOutcome.{StartsOutcome}
 use Rattle.starts_core.specs.declared.protocol.StartsStage.TheVariants as starts_stage
 use Rattle.workload.specs.declared.object.ObjectKind.{ObjectKind}
 use Rattle.workload.specs.declared.object.ObjectKind.TheVariants as kinds
 use Rattle.workload.specs.declared.object.ObjectLine.{ObjectLine}
-use Rattle.workload.specs.Keys.{keys_in}
+use Rattle.workload.specs.Keys.{keys_in, key_number}
 use Rattle.workload.specs.Plan.{Plan, is_dormant, has_dormant}
 use Rattle.run_record.specs.declared.entered.ObjectEvent.TheVariants as event
 use Rattle.run_record.specs.declared.entered.ObjectReply.TheVariants as reply
 use Rattle.run_record.specs.AtomicKind.{adds, atomic_call}
 use Rattle.run_record.specs.Calls.{call_on, call_at, SpellsCall}
 use Rattle.run_record.specs.CondKind.{cond_part, cond_call, wait_part}
+use Rattle.run_record.specs.FlightKind.{was_shared, goes_on_flight, flight_part, fly_call}
 use Rattle.run_record.specs.MapKind.{map_call, range_call}
 use Rattle.run_record.specs.MutexKind.{mutex_part}
-use Rattle.run_record.specs.Objects.{starts_number}
+use Rattle.run_record.specs.Objects.{atomic_number, starts_number}
 use Rattle.run_record.specs.OnceKind.{goes_on_once, once_part, do_call, func_call, value_call, failure}
 use Rattle.run_record.specs.Parts.{Part, returns, never, and_then, read_as, stages}
 use Rattle.run_record.specs.RwMutexKind.{rw_part, write_part}
 use Rattle.run_record.specs.PoolKind.{pool_part, pool_call, part_of, found_by, found_or, looks_of, stage_of, swept_by}
 use Rattle.run_record.specs.Record.{object_number}
+use Rattle.run_record.specs.SemaKind.{sema_part}
 use Rattle.run_record.specs.StartsKind.{starts_part, was_started, wait_start_part, end_part, opening, done_under, done_part, closing}
 use Rattle.run_record.specs.Tests as test
 
@@ -71,7 +78,7 @@ pub record GoesThrough (Q : (O : Type 0) → Part O → Type 0) : Type 1 where
   pub behind : (O P : Type 0) (first : Part O) (next : O → Part P) → Q O first → ((outcome : O) → Q P (next outcome)) → Q P (and_then first next)
   pub read : (O P : Type 0) (f : O → P) (part : Part O) → Q O part → Q P (read_as f part)
 
--- and holds of each part; of calls on maps, and of starts, nothing is said
+-- and holds of each part; of calls on maps, of starts, and of calls on flights, nothing is said
 pub record HoldsOfParts (Q : (O : Type 0) → Part O → Type 0) : Type 1 where
   pub through : GoesThrough Q
   pub mutex : (object : ℕ) (stage : MutexStage) → Q LockReply (mutex_part object stage)
@@ -83,9 +90,20 @@ pub record HoldsOfParts (Q : (O : Type 0) → Part O → Type 0) : Type 1 where
   pub func : (object : ℕ) (stage : OnceStage ℕ) → Q (OnceOutcome ℕ) (stages event.OnceFunc reply.OnceFunc once_event once_meaning object stage)
   pub value : (object : ℕ) (stage : OnceStage ℕ) → Q (OnceOutcome ℕ) (stages event.OnceValue reply.OnceValue once_event once_meaning object stage)
   pub pool : (object : ℕ) (stage : PoolStage) → Q PoolOutcome (pool_part object stage)
+  pub sema : (object : ℕ) (stage : SemaStage) → Q LockReply (sema_part object stage)
   pub added : (a : ℕ) (amount : ℤ) → Q ℤ (adds a amount)
   pub atomic : (a : ℕ) (call : AtomicCall) → Q (Reply ℕ) (atomic_call a call)
   pub range : (keys : List (List ℕ)) (m begin : ℕ) → Q (Reply ℕ) (range_call keys m begin)
+
+-- it holds of a call on flights, where it holds of its stages, and of the function
+module _ (Q : (O : Type 0) → Part O → Type 0) (through : GoesThrough Q) (object a : ℕ) (amount : ℤ) (key : ℕ) (of_stage : (stage : FlightStage) → Q FlightOutcome (flight_part object stage)) (of_function : Q ℤ (adds a amount)) where
+  of_lead : (outcome : FlightOutcome) → Q (Reply ℕ) (goes_on_flight (flight_part object) (adds a amount) outcome)
+  of_lead flown.Lead = through.behind _ _ (adds a amount) _ of_function (λ value. through.read _ _ (λ outcome. replies.Flown value (was_shared outcome)) _ (of_stage (flight_stage.Land value)))
+  of_lead (flown.Got value) = through.returned _ (replies.Flown value true)
+  of_lead (flown.Landed shared) = through.none _
+
+  pub of_fly : Q (Reply ℕ) (fly_call object a amount key)
+  of_fly = through.behind _ _ (flight_part object (flight_stage.Join key)) _ (of_stage (flight_stage.Join key)) of_lead
 
 module _ (Q : (O : Type 0) → Part O → Type 0) (holds : HoldsOfParts Q) where
   of_wait : (object mutex : ℕ) → Q (Reply ℕ) (wait_part object mutex)
@@ -158,7 +176,7 @@ module _ (Q : (O : Type 0) → Part O → Type 0) (holds : HoldsOfParts Q) where
   of_pool_call workers worker first pool_calls.Get = of_looks worker first (looks_of workers worker)
   of_pool_call workers worker first pool_calls.Sweep = of_sweeps first (range_with_len 0 workers)
 
-  -- where it holds of the call, if that is one on a map, and of the start of whom it starts
+  -- where it holds of the call, if that is one on a map or on flights, and of the start of whom it starts
   module _ (plan : Plan) (worker before : ℕ) where
     abbrev OfMap : Operation → Type 0
     OfMap operation = (m : ℕ) (call : MapCall (List ℕ)) → operation ≡ operations.Map call → Q (Reply ℕ) (map_call (keys_in plan.scripts) m call)
@@ -166,30 +184,41 @@ module _ (Q : (O : Type 0) → Part O → Type 0) (holds : HoldsOfParts Q) where
     abbrev OfStart : Operation → Type 0
     OfStart operation = (object started : ℕ) → started_by operation ≡ Some started → Q StartsOutcome (starts_part object (starts_stage.Start started))
 
-    of_call_on : (place : ℕ) (kind : ObjectKind) (operation : Operation) → OfMap operation → OfStart operation → Q (Reply ℕ) (call_on plan worker before place kind operation)
-    of_call_on place kinds.Map (operations.Map call) on_map on_start = on_map _ call refl
-    of_call_on place kinds.Map operations.Range on_map on_start = holds.range _ _ before
-    of_call_on place (kinds.Atomic type) (operations.Atomic call) on_map on_start = holds.atomic _ call
-    of_call_on place (kinds.Atomic type) (operations.Composed (IfEqual value passes)) on_map on_start = holds.through.read _ _ test.compared _ (of_test _ value)
-    of_call_on place kinds.Mutex (operations.Mutex call) on_map on_start = holds.through.read _ _ replies.Lock _ (holds.mutex _ _)
-    of_call_on place kinds.RwMutex (operations.RwMutex call) on_map on_start = holds.through.read _ _ replies.Lock _ (of_rw_part _ call)
-    of_call_on place (kinds.Cond mutex) (operations.Cond call) on_map on_start = of_cond_call _ _ call
-    of_call_on place (kinds.Cond mutex) (operations.Composed (WaitFor atomic value tries)) on_map on_start = holds.through.read _ _ test.compared _ (of_waits_for _ _ _ value tries)
-    of_call_on place (kinds.WaitGroup start) (operations.WaitGroup call) on_map on_start = holds.through.read _ _ (λ done. replies.Returned) _ (holds.wait_group _ _)
-    of_call_on place (kinds.WaitGroup start) (operations.Composed (Go started)) on_map on_start =
+    abbrev FliesOn : ℕ → ObjectKind → Operation → Type 0
+    FliesOn place kind operation = (atomic : ℕ) (amount : ℤ) (key : List ℕ) → kind ≡ kinds.Flight atomic amount → operation ≡ operations.Fly key
+        → Q (Reply ℕ) (fly_call (object_number place) (atomic_number plan.objects atomic) amount (key_number (keys_in plan.scripts) key))
+
+    abbrev OfFly : ℕ → Operation → Type 0
+    OfFly place operation = (object : ObjectLine) (atomic : ℕ) (amount : ℤ) (key : List ℕ) → slice_get plan.objects place ≡ Some object → object.kind ≡ kinds.Flight atomic amount → operation ≡ operations.Fly key
+        → Q (Reply ℕ) (fly_call (object_number place) (atomic_number plan.objects atomic) amount (key_number (keys_in plan.scripts) key))
+
+    of_call_on : (place : ℕ) (kind : ObjectKind) (operation : Operation) → OfMap operation → OfStart operation → FliesOn place kind operation → Q (Reply ℕ) (call_on plan worker before place kind operation)
+    of_call_on place kinds.Map (operations.Map call) on_map on_start on_fly = on_map _ call refl
+    of_call_on place kinds.Map operations.Range on_map on_start on_fly = holds.range _ _ before
+    of_call_on place (kinds.Atomic type) (operations.Atomic call) on_map on_start on_fly = holds.atomic _ call
+    of_call_on place (kinds.Atomic type) (operations.Composed (IfEqual value passes)) on_map on_start on_fly = holds.through.read _ _ test.compared _ (of_test _ value)
+    of_call_on place kinds.Mutex (operations.Mutex call) on_map on_start on_fly = holds.through.read _ _ replies.Lock _ (holds.mutex _ _)
+    of_call_on place kinds.RwMutex (operations.RwMutex call) on_map on_start on_fly = holds.through.read _ _ replies.Lock _ (of_rw_part _ call)
+    of_call_on place (kinds.Cond mutex) (operations.Cond call) on_map on_start on_fly = of_cond_call _ _ call
+    of_call_on place (kinds.Cond mutex) (operations.Composed (WaitFor atomic value tries)) on_map on_start on_fly = holds.through.read _ _ test.compared _ (of_waits_for _ _ _ value tries)
+    of_call_on place (kinds.WaitGroup start) (operations.WaitGroup call) on_map on_start on_fly = holds.through.read _ _ (λ done. replies.Returned) _ (holds.wait_group _ _)
+    of_call_on place (kinds.WaitGroup start) (operations.Composed (Go started)) on_map on_start on_fly =
         holds.through.behind _ _ _ _ (holds.through.read _ _ (λ done. replies.Returned) _ (holds.wait_group _ _)) (λ added. holds.through.read _ _ (λ started. replies.Returned) _ (on_start _ started refl))
-    of_call_on place (kinds.Once atomic delta) operations.Once on_map on_start = of_do _ _ delta
-    of_call_on place (kinds.OnceFunc code) operations.OnceFunc on_map on_start = of_func _ code
-    of_call_on place (kinds.OnceValue value) operations.OnceValue on_map on_start = of_value _ value
-    of_call_on place kinds.Pool (operations.Pool call) on_map on_start = of_pool_call _ _ _ call
-    of_call_on place kind operation on_map on_start = holds.through.none _
+    of_call_on place (kinds.Once atomic delta) operations.Once on_map on_start on_fly = of_do _ _ delta
+    of_call_on place (kinds.OnceFunc code) operations.OnceFunc on_map on_start on_fly = of_func _ code
+    of_call_on place (kinds.OnceValue value) operations.OnceValue on_map on_start on_fly = of_value _ value
+    of_call_on place kinds.Pool (operations.Pool call) on_map on_start on_fly = of_pool_call _ _ _ call
+    of_call_on place (kinds.Sema size) (operations.Sema call) on_map on_start on_fly = holds.through.read _ _ replies.Lock _ (holds.sema _ _)
+    of_call_on place (kinds.Flight atomic delta) (operations.Fly key) on_map on_start on_fly = on_fly atomic delta key refl refl
+    of_call_on place kind operation on_map on_start on_fly = holds.through.none _
 
-    of_call_at : (place : ℕ) (object : Option ObjectLine) (operation : Operation) → OfMap operation → OfStart operation → Q (Reply ℕ) (call_at plan worker before place object operation)
-    of_call_at place None operation on_map on_start = holds.through.none _
-    of_call_at place (Some object) operation on_map on_start = of_call_on place object.kind operation on_map on_start
+    of_call_at : (place : ℕ) (object : Option ObjectLine) (operation : Operation) → slice_get plan.objects place ≡ object → OfMap operation → OfStart operation → OfFly place operation
+        → Q (Reply ℕ) (call_at plan worker before place object operation)
+    of_call_at place None operation there on_map on_start on_fly = holds.through.none _
+    of_call_at place (Some object) operation there on_map on_start on_fly = of_call_on place object.kind operation on_map on_start (λ atomic amount key is called. on_fly object atomic amount key there is called)
 
-    pub holds_of_call : (call : Call) → OfMap call.operation → OfStart call.operation → Q (Reply ℕ) (SpellsCall plan worker before call)
-    holds_of_call call on_map on_start = of_call_at call.object (slice_get plan.objects call.object) call.operation on_map on_start
+    pub holds_of_call : (call : Call) → OfMap call.operation → OfStart call.operation → OfFly call.object call.operation → Q (Reply ℕ) (SpellsCall plan worker before call)
+    holds_of_call call on_map on_start on_fly = of_call_at call.object (slice_get plan.objects call.object) call.operation refl on_map on_start on_fly
 
 -- and of what stands before a script, and behind it
 module _ (Q : (O : Type 0) → Part O → Type 0) (through : GoesThrough Q) where

@@ -1,5 +1,5 @@
 -- That the reply of a call shows few pairs, where the cursor of its `range` did.
-use Rattle.std.proofs.Common.{◌≡◌, ℕ, ◌≤◌, true, List, [], ◌∷◌, length, Option, Some, None, slice_get, refl, sym, subst, arith}
+use Rattle.std.proofs.Common.{◌≡◌, ℕ, ◌≤◌, ℤ, true, List, [], ◌∷◌, length, Option, Some, None, slice_get, refl, sym, subst, arith}
 use Rattle.std.specs.Prelude.{Ok, Err}
 use Rattle.std.specs.List.{range_with_len}
 use Rattle.std.proofs.lemmas.Bool.{le-leb}
@@ -18,6 +18,8 @@ use Rattle.sync_types.specs.declared.pool_call.PoolCallReply.TheVariants as pool
 use Rattle.sync_types.specs.declared.wait_call.CondCall.{CondCall}
 use Rattle.sync_types.specs.declared.wait_call.CondCall.TheVariants as cond_calls
 use Rattle.script_calls.specs.Outcome.{has_pairs_to}
+use Rattle.flight_core.specs.declared.calls.FlightOutcome.{FlightOutcome}
+use Rattle.flight_core.specs.declared.calls.FlightOutcome.TheVariants as flown
 use Rattle.pool_core.specs.declared.pool_event.PoolEvent.{PoolEvent}
 use Rattle.protocols.specs.OnceStages.{once_event, once_meaning}
 use Rattle.protocols.specs.Spelling.{CallAnswer}
@@ -37,6 +39,7 @@ use Rattle.run_record.specs.declared.made.Made.{Made}
 use Rattle.run_record.specs.AtomicKind.{adds}
 use Rattle.run_record.specs.Calls.{call_on, call_at, SpellsCall}
 use Rattle.run_record.specs.CondKind.{cond_call}
+use Rattle.run_record.specs.FlightKind.{was_shared, goes_on_flight, flight_part}
 use Rattle.run_record.specs.MapKind.{cursor_showing}
 use Rattle.run_record.specs.OnceKind.{goes_on_once, once_part, failure}
 use Rattle.run_record.specs.Parts.{Part, GoesOn, returns, never, and_then, read_as, with_outcome, Places, stages}
@@ -89,6 +92,11 @@ module _ (most : ℕ) where
     few_once : AnswersFew (once_part part function ran returned)
     few_once = few_then _ _ few_goes_on
 
+  few_lead : (object a : ℕ) (amount : ℤ) (outcome : FlightOutcome) → AnswersFew (goes_on_flight (flight_part object) (adds a amount) outcome)
+  few_lead object a amount flown.Lead = few_then (adds a amount) _ (λ value. few_read (λ outcome. replies.Flown value (was_shared outcome)) _ (λ outcome. refl))
+  few_lead object a amount (flown.Got value) = few_returns (replies.Flown value true) refl
+  few_lead object a amount (flown.Landed shared) = few_never
+
   few_found : (rest : Part (Reply ℕ)) → AnswersFew rest → (outcome : PoolOutcome) → AnswersFew (found_or rest outcome)
   few_found rest few (Item item) = few_returns (replies.Pool (pool_replies.Put item)) refl
   few_found rest few Nothing = few
@@ -131,6 +139,8 @@ module _ (most : ℕ) where
     few_on place (kinds.OnceValue value) operations.OnceValue spelt =
         few_once (stages event.OnceValue reply.OnceValue once_event once_meaning _) (returns value) replies.OnceValue replies.OnceValue (λ kept. refl) (λ kept. refl) items answer spelt
     few_on place kinds.Pool (operations.Pool call) spelt = few_pool _ _ _ call items answer spelt
+    few_on place (kinds.Sema size) (operations.Sema call) (given, made, is) = subst Few (sym is) (few_given replies.Lock (λ reply. refl) given)
+    few_on place (kinds.Flight atomic delta) (operations.Fly key) spelt = few_then _ _ (few_lead _ _ delta) items answer spelt
     few_on place kind operation spelt = absurd spelt
 
     few_at : (place : ℕ) (object : Option ObjectLine) (operation : Operation) → call_at plan worker before place object operation items answer → Few answer

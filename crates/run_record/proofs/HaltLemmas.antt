@@ -116,6 +116,8 @@ of_kind m plan place (kinds.Once atomic delta) journal is has = of_follows event
 of_kind m plan place (kinds.OnceFunc code) journal is has = of_follows event.OnceFunc reply.OnceFunc _ m _ _ _ journal is has
 of_kind m plan place (kinds.OnceValue value) journal is has = of_follows event.OnceValue reply.OnceValue _ m _ _ _ journal is has
 of_kind m plan place kinds.Pool journal is has = absurd (subst (λ (xs : List ObjectEntry). Has (IsRefusal m) xs) is has)
+of_kind m plan place (kinds.Sema size) journal is has = of_follows event.Sema reply.Sema _ m _ _ _ journal is has
+of_kind m plan place (kinds.Flight atomic delta) journal is has = of_follows event.Flight reply.Flight _ m _ _ _ journal is has
 of_kind m plan place kinds.Var journal is has = absurd (subst (λ (xs : List ObjectEntry). Has (IsRefusal m) xs) is has)
 
 of_stop : (m : Misuse) (journal : List ObjectEntry) → IsStops journal → Has (IsRefusal m) journal → ⊥

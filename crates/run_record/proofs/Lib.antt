@@ -6,12 +6,16 @@ mod EachItem
 mod EdgeLemmas
 mod ExampleLemmas
 mod FewLemmas
+mod FlightFinds
+mod FlightLands
+mod FlightReturns
 mod GoLemmas
 mod GroupSums
 mod HaltLemmas
 mod HaltedNumbers
 mod HaltsMade
 mod Having
+mod JournalCuts
 mod JournalParts
 mod Lifts
 mod ListOrder
@@ -37,6 +41,7 @@ mod RoundCounts
 mod RoundLemmas
 mod RunLines
 mod RwReturns
+mod SemaReturns
 mod StartItems
 mod StartLemmas
 mod StartTurns

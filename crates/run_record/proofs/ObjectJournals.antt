@@ -38,6 +38,8 @@ of_kind plan place (kinds.Once atomic delta) journal is = from is.1 (edges_lifte
 of_kind plan place (kinds.OnceFunc code) journal is = from is.1 (edges_lifted event.OnceFunc reply.OnceFunc frees takes is.0 is.3)
 of_kind plan place (kinds.OnceValue value) journal is = from is.1 (edges_lifted event.OnceValue reply.OnceValue frees takes is.0 is.3)
 of_kind plan place kinds.Pool journal is = from is nothing
+of_kind plan place (kinds.Sema size) journal is = from is.1 (edges_lifted event.Sema reply.Sema frees takes is.0 is.3)
+of_kind plan place (kinds.Flight atomic delta) journal is = from is.1 (edges_lifted event.Flight reply.Flight frees takes is.0 is.3)
 of_kind plan place kinds.Var journal is = from is nothing
 
 -- and of a part of a pool

@@ -38,7 +38,7 @@ use Rattle.run_record.specs.Lines.{SpeltCall, LineEnd, whole, misused, halted, u
 use Rattle.run_record.specs.Parts.{Places, lifted, lifted_deed, stages}
 use Rattle.run_record.specs.Record.{Record, ObjectEntry, journal_of, list_of, shared_in}
 use Rattle.run_record.specs.StartsKind.{starts_part, opening, closing}
-use Rattle.run_record.proofs.CallParts.{HoldsOfParts, holds_of_call, of_opening, of_closing}
+use Rattle.run_record.proofs.CallParts.{HoldsOfParts, holds_of_call, of_fly, of_opening, of_closing}
 use Rattle.run_record.proofs.EachItem.{EachOf, through, of_entries, of_stages}
 use Rattle.run_record.proofs.GoLemmas.{Makes, starts_it, ends_it}
 use Rattle.run_record.proofs.Having.{Has, Each, OfEntry, each_both, each_at, place_of, by_has, has_entered, has_in}
@@ -113,6 +113,7 @@ module _ (P : ℕ → Type 0) (M : Type 0) where
     func = λ object from. other_stages event.OnceFunc reply.OnceFunc (λ e r. tt) _ _ object from;
     value = λ object from. other_stages event.OnceValue reply.OnceValue (λ e r. tt) _ _ object from;
     pool = λ object from. other_stages event.Pool reply.Pool (λ e r. tt) _ _ object from;
+    sema = λ object from. other_stages event.Sema reply.Sema (λ e r. tt) _ _ object from;
     added = λ a amount items answer spelt. by_places _ items spelt.1;
     atomic = λ a call items answer spelt. by_places _ items spelt.1;
     range = λ keys m begin items answer spelt. by_places _ items spelt.2;
@@ -128,6 +129,7 @@ module _ (P : ℕ → Type 0) (M : Type 0) where
   of_call plan worker before call starts =
       holds_of_call (λ O part. EachOf (Does P M) part) done_on_starts plan worker before call (λ m op is items answer spelt. by_places _ items spelt.1)
       (λ object started is items answer made. one_start object started (starts started is) items answer (starts_it object started items answer made))
+      (λ object atomic amount key there is called. of_fly (λ O part. EachOf (Does P M) part) (through (Does P M)) _ _ amount _ (λ from. other_stages event.Flight reply.Flight (λ e r. tt) _ _ _ from) (done_on_starts.added _ amount))
 
 -- it starts nobody
 abbrev pub StartsNobody : Made → Type 0

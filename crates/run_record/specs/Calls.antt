@@ -8,10 +8,11 @@ use Rattle.script_calls.specs.declared.call.Reply.{Reply}
 use Rattle.workload.specs.declared.object.ObjectKind.{ObjectKind}
 use Rattle.workload.specs.declared.object.ObjectKind.TheVariants as kinds
 use Rattle.workload.specs.declared.object.ObjectLine.{ObjectLine}
-use Rattle.workload.specs.Keys.{keys_in}
+use Rattle.workload.specs.Keys.{keys_in, key_number}
 use Rattle.workload.specs.Plan.{Plan}
 use Rattle.run_record.specs.AtomicKind.{atomic_call}
 use Rattle.run_record.specs.CondKind.{cond_call, IsCondJournal}
+use Rattle.run_record.specs.FlightKind.{fly_call, IsFlightJournal}
 use Rattle.run_record.specs.MapKind.{map_call, range_call}
 use Rattle.run_record.specs.MutexKind.{mutex_call, IsMutexJournal}
 use Rattle.run_record.specs.Objects.{map_number, atomic_number, first_part, starts_number}
@@ -20,6 +21,7 @@ use Rattle.run_record.specs.Parts.{Part, never}
 use Rattle.run_record.specs.PoolKind.{pool_call}
 use Rattle.run_record.specs.Record.{ObjectEntry, object_number}
 use Rattle.run_record.specs.RwMutexKind.{rw_mutex_call, IsRwMutexJournal}
+use Rattle.run_record.specs.SemaKind.{sema_call, IsSemaJournal}
 use Rattle.run_record.specs.StartsKind.{go_call}
 use Rattle.run_record.specs.Tests.{if_equal_call, wait_for_call}
 use Rattle.run_record.specs.WaitGroupKind.{wait_group_call, IsWaitGroupJournal}
@@ -40,6 +42,8 @@ call_on plan worker before place (kinds.Once atomic delta) operations.Once = do_
 call_on plan worker before place (kinds.OnceFunc code) operations.OnceFunc = func_call (object_number place) code
 call_on plan worker before place (kinds.OnceValue value) operations.OnceValue = value_call (object_number place) value
 call_on plan worker before place kinds.Pool (operations.Pool call) = pool_call plan.workers worker (first_part plan place) call
+call_on plan worker before place (kinds.Sema size) (operations.Sema call) = sema_call (object_number place) call
+call_on plan worker before place (kinds.Flight atomic delta) (operations.Fly key) = fly_call (object_number place) (atomic_number plan.objects atomic) delta (key_number (keys_in plan.scripts) key)
 call_on plan worker before place kind operation = never
 
 abbrev pub call_at : Plan → (worker before place : ℕ) → Option ObjectLine → Operation → Part (Reply ℕ)
@@ -62,4 +66,6 @@ IsJournalOf plan place (kinds.Once atomic delta) journal = IsOnceJournal plan.wo
 IsJournalOf plan place (kinds.OnceFunc code) journal = IsOnceFuncJournal plan.workers journal
 IsJournalOf plan place (kinds.OnceValue value) journal = IsOnceValueJournal plan.workers journal
 IsJournalOf plan place kinds.Pool journal = journal ≡ []
+IsJournalOf plan place (kinds.Sema size) journal = IsSemaJournal plan.workers size journal
+IsJournalOf plan place (kinds.Flight atomic delta) journal = IsFlightJournal plan.workers journal
 IsJournalOf plan place kinds.Var journal = journal ≡ []

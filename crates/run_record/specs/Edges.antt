@@ -3,6 +3,8 @@ use Rattle.std.specs.Prelude.{Bool, false}
 use Rattle.mutex_core.specs.Edges as mutex
 use Rattle.pool_core.specs.Edges as pool
 use Rattle.rw_core.specs.Edges as rw
+use Rattle.flight_core.specs.FlightEdges as flight
+use Rattle.sema_core.specs.SemaEdges as sema
 use Rattle.starts_core.specs.StartsEdges as starts
 use Rattle.wait_cores.specs.GroupEdges as group
 use Rattle.wait_cores.specs.NotifyEdges as notify
@@ -21,6 +23,8 @@ frees (event.Once e) (reply.Once r) = once.once_releases e r
 frees (event.OnceFunc e) (reply.OnceFunc r) = once.once_releases e r
 frees (event.OnceValue e) (reply.OnceValue r) = once.once_releases e r
 frees (event.Pool e) (reply.Pool r) = pool.pool_releases e r
+frees (event.Sema e) (reply.Sema r) = sema.sema_releases e r
+frees (event.Flight e) (reply.Flight r) = flight.flight_releases e r
 frees (event.Starts e) (reply.Starts r) = starts.starts_releases e r
 frees event reply = false
 
@@ -33,5 +37,7 @@ takes (event.Once e) (reply.Once r) = once.once_acquires e r
 takes (event.OnceFunc e) (reply.OnceFunc r) = once.once_acquires e r
 takes (event.OnceValue e) (reply.OnceValue r) = once.once_acquires e r
 takes (event.Pool e) (reply.Pool r) = pool.pool_acquires e r
+takes (event.Sema e) (reply.Sema r) = sema.sema_acquires e r
+takes (event.Flight e) (reply.Flight r) = flight.flight_acquires e r
 takes (event.Starts e) (reply.Starts r) = starts.starts_acquires e r
 takes event reply = false

@@ -5,6 +5,8 @@ pub mod Edges
 pub mod Example
 pub mod Exclusion
 pub mod Explains
+pub mod FlightKind
+pub mod Flights
 pub mod Halts
 pub mod InOneOrder
 pub mod Journals
@@ -24,8 +26,10 @@ pub mod Returns
 pub mod Rounds
 pub mod Runs
 pub mod RwMutexKind
+pub mod SemaKind
 pub mod Starting
 pub mod StartsKind
 pub mod Tests
 pub mod WaitGroupKind
 pub mod Waits
+pub mod Weights

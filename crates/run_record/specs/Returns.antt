@@ -1,5 +1,6 @@
 -- What a call has made when it returns, by its items: what it took in there from earlier calls, and what it left for later ones. A call that is a misuse, or that met a halt, isn't spoken of.
-use Rattle.std.specs.Prelude.{◌≡◌, ◌≢◌, ◌⊎◌, ℕ, ℤ, ◌+◌, ◌<◌, negsuc, Bool, true, List, [], ◌∷◌, ◌++◌, length, Some, slice_get}
+use Rattle.std.specs.Prelude.{◌≡◌, ◌≢◌, ◌⊎◌, ℕ, ℤ, ◌+◌, ◌<◌, negsuc, Bool, true, cond, List, [], ◌∷◌, ◌++◌, map, length, Some, slice_get}
+use Rattle.std.specs.List.{AllByRecursion}
 use Rattle.sync_types.specs.declared.atomic_object.AtomicCall.TheVariants.{Add}
 use Rattle.sync_types.specs.declared.atomic_object.AtomicReply.TheVariants.{Held}
 use Rattle.sync_types.specs.declared.atomic_object.Number.TheVariants.{Int64}
@@ -14,6 +15,8 @@ use Rattle.sync_types.specs.declared.once_call.DoReply.TheVariants as do_replies
 use Rattle.sync_types.specs.declared.pool_call.PoolCall.{PoolCall}
 use Rattle.sync_types.specs.declared.pool_call.PoolCall.TheVariants as pool_calls
 use Rattle.sync_types.specs.declared.pool_call.PoolCallReply.TheVariants as pool_replies
+use Rattle.sync_types.specs.declared.sema_call.SemaCall.{SemaCall}
+use Rattle.sync_types.specs.declared.sema_call.SemaCall.TheVariants as sema_calls
 use Rattle.sync_types.specs.declared.wait_call.CondCall.{CondCall}
 use Rattle.sync_types.specs.declared.wait_call.CondCall.TheVariants as cond_calls
 use Rattle.sync_types.specs.declared.wait_call.WaitGroupCall.{WaitGroupCall}
@@ -23,6 +26,8 @@ use Rattle.sync_model.specs.declared.item.SharedCall.TheVariants as shared
 use Rattle.sync_model.specs.declared.item.SharedReply.TheVariants as shared_replies
 use Rattle.sync_model.specs.declared.journal.Deed.TheVariants.{Event}
 use Rattle.sync_model.specs.Journal.{is_such}
+use Rattle.flight_core.specs.declared.event.FlightEvent.TheVariants as on_flight
+use Rattle.flight_core.specs.declared.event.FlightReply.TheVariants as flight_answers
 use Rattle.mutex_core.specs.declared.event.MutexEvent.TheVariants as on_mutex
 use Rattle.mutex_core.specs.declared.reply.MutexReply.{MutexReply}
 use Rattle.mutex_core.specs.declared.reply.MutexReply.TheVariants as mutex_answers
@@ -34,6 +39,8 @@ use Rattle.pool_core.specs.declared.pool_event.PoolReply.TheVariants as pool_ans
 use Rattle.rw_core.specs.declared.event.RwEvent.TheVariants as on_rw
 use Rattle.rw_core.specs.declared.reply.RwReply.TheVariants as rw_answers
 use Rattle.rw_core.specs.declared.reply.Unlocking.TheVariants as rw_unlocking
+use Rattle.sema_core.specs.declared.event.SemaEvent.TheVariants as on_sema
+use Rattle.sema_core.specs.declared.event.SemaReply.TheVariants as sema_answers
 use Rattle.wait_cores.specs.declared.group.GroupEvent.TheVariants as on_group
 use Rattle.wait_cores.specs.declared.group.GroupReply.TheVariants as group_answers
 use Rattle.wait_cores.specs.declared.notify.NotifyEvent.TheVariants as on_cond
@@ -187,3 +194,34 @@ abbrev pub PoolReturns : (workers worker first : ℕ) → PoolCall → List Made
 PoolReturns workers worker first (pool_calls.Put item) items answer = (given : PoolReply ℕ) × (answer ≡ replies.Pool pool_replies.Done) × IsOnce (first + worker) (event.Pool (on_pool.Put item)) (reply.Pool given) items × ((given ≡ pool_answers.Kept) ⊎ ((dropped : ℕ) × (given ≡ pool_answers.Dropped dropped)))
 PoolReturns workers worker first pool_calls.Get items answer = ((answer ≡ replies.Pool pool_replies.New) × FoundNothing workers worker first items) ⊎ ((item : ℕ) × (answer ≡ replies.Pool (pool_replies.Put item)) × TookLast workers worker first item items)
 PoolReturns workers worker first pool_calls.Sweep items answer = (answer ≡ replies.Pool pool_replies.Done) × SweptAll workers first items
+
+-- of a semaphore. An acquire takes in what releases left, and so does a try that succeeds; a release leaves what its caller knows
+abbrev pub SemaReturns : ℕ → SemaCall → List Made → Reply ℕ → Type 0
+SemaReturns object (sema_calls.Acquire weight) items answer = (answer ≡ replies.Lock lock_replies.Done) × BeginsBy object (event.Sema (on_sema.Acquire weight)) items × EndsTaking object items
+SemaReturns object (sema_calls.TryAcquire weight) items answer = (had : Bool) × (answer ≡ replies.Lock (lock_replies.Tried had)) × IsOnce object (event.Sema (on_sema.Try weight)) (reply.Sema (cond had sema_answers.Done sema_answers.Refused)) items
+SemaReturns object (sema_calls.Release weight) items answer = (answer ≡ replies.Lock lock_replies.Done) × IsOnce object (event.Sema (on_sema.Release weight)) (reply.Sema sema_answers.Done) items
+
+-- the call led a flight of the key, ran the function of the group, which made these items and came to this value, and landed the flight with it
+pub record HasLed (object key : ℕ) (made : List Made) (value : ℤ) (shared : Bool) (items : List Made) : Type 0 where
+  pub led : List Made
+  pub landed : List Made
+  pub are : items ≡ led ++ (made ++ landed)
+  pub leads : IsOnce object (event.Flight (on_flight.Join key)) (reply.Flight flight_answers.Lead) led
+  pub lands : IsOnce object (event.Flight (on_flight.Land value)) (reply.Flight (flight_answers.Landed shared)) landed
+
+-- the call joined a flight of the key, slept, perhaps woke too early, and left with what the flight came to
+pub record HasJoined (object key : ℕ) (value : ℤ) (items : List Made) : Type 0 where
+  pub first : ObjectEntry
+  pub between : List ObjectEntry
+  pub last : ObjectEntry
+  pub are : items ≡ Entered object first ∷ (map (λ entry. Entered object entry) between ++ Entered object last ∷ [])
+  pub joins : first.deed ≡ Event (event.Flight (on_flight.Join key)) (reply.Flight flight_answers.Queued)
+  pub sleeps : AllByRecursion (λ (entry : ObjectEntry). entry.deed ≡ Event (event.Flight on_flight.Leave) (reply.Flight flight_answers.Still)) between
+  pub leaves : last.deed ≡ Event (event.Flight on_flight.Leave) (reply.Flight (flight_answers.Left value))
+
+-- of a group of flights that adds this amount to atomic number a, called for a key
+abbrev pub FlightReturns : (object a : ℕ) → ℤ → (key : ℕ) → List Made → Reply ℕ → Type 0
+FlightReturns object a amount key items answer =
+    ((value : ℤ) × (was_shared : Bool) × (x : Item) × (answer ≡ replies.Flown value was_shared) × HasLed object key (Shared x ∷ []) value was_shared items
+    × (x.call ≡ shared.Atomic a (Add (Int64 amount))) × (x.reply ≡ shared_replies.Atomic (Held (Int64 value))))
+    ⊎ ((value : ℤ) × (answer ≡ replies.Flown value true) × HasJoined object key value items)

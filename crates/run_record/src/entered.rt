@@ -1,7 +1,9 @@
 //! The events of all kinds of objects, and their answers. A kind of object is one line in each.
+use flight_core::{FlightEvent, FlightReply};
 use mutex_core::{MutexEvent, MutexReply};
 use pool_core::{PoolEvent, PoolReply};
 use rw_core::{RwEvent, RwReply};
+use sema_core::{SemaEvent, SemaReply};
 use starts_core::{StartEvent, StartReply};
 use wait_cores::{GroupEvent, GroupReply, NotifyEvent, NotifyReply, OnceEvent, OnceReply};
 
@@ -19,6 +21,9 @@ pub enum ObjectEvent {
     /// Of a function made by `OnceValue`, which comes to its value.
     OnceValue(OnceEvent<u64>),
     Pool(PoolEvent<u64>),
+    Sema(SemaEvent),
+    /// Of a group of flights. A key is its number among the workload's keys.
+    Flight(FlightEvent),
     /// Of Starts, which no workload declares.
     Starts(StartEvent),
 }
@@ -34,5 +39,7 @@ pub enum ObjectReply {
     OnceFunc(OnceReply<u32>),
     OnceValue(OnceReply<u64>),
     Pool(PoolReply<u64>),
+    Sema(SemaReply),
+    Flight(FlightReply),
     Starts(StartReply),
 }

@@ -2,6 +2,7 @@
 pub mod edges;
 pub mod endings;
 pub mod examples;
+pub mod flights;
 pub mod limits;
 pub mod locks;
 pub mod numbers;

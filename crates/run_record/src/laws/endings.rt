@@ -13,11 +13,13 @@ ghost use Rattle.run_record.specs.Record.{Record, ObjectEntry, stop, journal_of,
 use crate::laws::runs::{
     replies_tell_which_calls_were_made, scripts_without_tests_are_spelt_call_by_call,
 };
+use flight_core::FlightCore;
 use mutex_core::MutexCore;
 use pool_core::PoolCore;
 use protocols::laws::endings;
 use rw_core::RwCore;
 use script_calls::{Outcome, Report};
+use sema_core::SemaCore;
 use starts_core::StartsCore;
 use sync_model::Deed;
 use sync_types::Misuse;
@@ -36,6 +38,8 @@ pub fn halts_stand_behind_all_else()
     endings::<OnceCore<u64>>();
     endings::<PoolCore>();
     endings::<StartsCore>();
+    endings::<SemaCore>();
+    endings::<FlightCore>();
 }
 
 /// Each halt is by a worker whose list ends in the misuse by which it halts.
@@ -52,6 +56,8 @@ pub fn a_halt_follows_a_misuse()
     endings::<OnceCore<u64>>();
     endings::<PoolCore>();
     endings::<StartsCore>();
+    endings::<SemaCore>();
+    endings::<FlightCore>();
 }
 
 /// A worker that meets a misuse, and halts each object: the halts in its list are one of each, by that misuse and in their order
@@ -73,6 +79,8 @@ pub fn a_worker_that_meets_a_misuse_halts_each_object()
     endings::<OnceCore<u64>>();
     endings::<PoolCore>();
     endings::<StartsCore>();
+    endings::<SemaCore>();
+    endings::<FlightCore>();
 }
 
 /// Stop says how a run has ended in which all workers have ended, and each that met a misuse halted Stop by it. Where Stop isn't
@@ -95,6 +103,8 @@ pub fn stop_says_how_a_run_ended()
     endings::<OnceCore<u64>>();
     endings::<PoolCore>();
     endings::<StartsCore>();
+    endings::<SemaCore>();
+    endings::<FlightCore>();
 }
 
 /// An outcome that a record explains is Done exactly where no worker met a misuse, and never Deadlocked. Where it is Misused,

@@ -1,20 +1,23 @@
 //! What a call has made when it returns, by its items: what it has taken in from earlier calls, and what it leaves for later
 //! ones. So what is said of a journal's entries is said of the calls that users make.
 ghost use Rattle.std.specs.Prelude.{◌≡◌, ℕ, ℤ, ◌<◌, List, Some, Ok, slice_get};
+ghost use Rattle.workload.specs.Keys.{keys_in, key_number};
 ghost use Rattle.workload.specs.Plan.{Plan};
 ghost use Rattle.run_record.specs.Calls.{SpellsCall};
 ghost use Rattle.run_record.specs.Objects.{atomic_number, first_part};
 ghost use Rattle.run_record.specs.Record.{object_number};
-ghost use Rattle.run_record.specs.Returns.{MutexReturns, RwMutexReturns, CondReturns, WaitGroupReturns, OnceReturns, OnceFuncReturns, OnceValueReturns, PoolReturns};
+ghost use Rattle.run_record.specs.Returns.{MutexReturns, RwMutexReturns, CondReturns, WaitGroupReturns, OnceReturns, OnceFuncReturns, OnceValueReturns, PoolReturns, SemaReturns, FlightReturns};
 
 use crate::made::Made;
+use flight_core::FlightCore;
 use mutex_core::MutexCore;
 use pool_core::laws::looks_everywhere;
 use protocols::laws::{calls_gain_at_their_end, calls_give_what_they_may};
 use rw_core::RwCore;
 use script_calls::{Call, Operation, Reply};
+use sema_core::SemaCore;
 use sync_model::Answer;
-use sync_types::{CondCall, MutexCall, PoolCall, RwMutexCall, WaitGroupCall};
+use sync_types::{CondCall, MutexCall, PoolCall, RwMutexCall, SemaCall, WaitGroupCall};
 use wait_cores::{GroupCore, NotifyCore, OnceCore};
 use workload::{ObjectKind, ObjectLine};
 
@@ -94,4 +97,26 @@ pub fn what_a_pool_call_has_done()
         → SpellsCall plan worker before call items (Answer.Done (Ok answer)) → PoolReturns plan.workers worker (first_part plan call.object) of items answer }
 {
     looks_everywhere();
+}
+
+/// An acquire of a semaphore takes in, by its last event, what each release before it left. A try is one event, and tells whether it
+/// has its weight. A release that is done is one event, which leaves what its caller knows.
+pub fn what_a_semaphore_call_has_done()
+    ensures { (plan : Plan) (worker before size : ℕ) (object : ObjectLine) (call : Call) (of : SemaCall) (items : List Made) (answer : Reply ℕ)
+        → slice_get plan.objects call.object ≡ Some object → object.kind ≡ ObjectKind.Sema size → call.operation ≡ Operation.Sema of
+        → SpellsCall plan worker before call items (Answer.Done (Ok answer)) → SemaReturns (object_number call.object) of items answer }
+{
+    calls_gain_at_their_end::<SemaCore>();
+    calls_give_what_they_may::<SemaCore>();
+}
+
+/// A `fly` led a flight of its key or joined one. Where it led, it added once, between the events that lead and land the flight, and
+/// answers the sum, and whether somebody joined it. Where it joined, it was told by its last event what the flight had come to.
+pub fn what_a_fly_has_done()
+    ensures { (plan : Plan) (worker before atomic : ℕ) (amount : ℤ) (key : List ℕ) (object : ObjectLine) (call : Call) (items : List Made) (answer : Reply ℕ)
+        → slice_get plan.objects call.object ≡ Some object → object.kind ≡ ObjectKind.Flight atomic amount → call.operation ≡ Operation.Fly key
+        → SpellsCall plan worker before call items (Answer.Done (Ok answer))
+        → FlightReturns (object_number call.object) (atomic_number plan.objects atomic) amount (key_number (keys_in plan.scripts) key) items answer }
+{
+    calls_give_what_they_may::<FlightCore>();
 }

@@ -1,6 +1,8 @@
-//! What stands before the return of a wait, by the journals of conds and wait groups.
-ghost use Rattle.std.specs.Prelude.{◌≡◌, ℕ, ◌<◌, negsuc, List, ◌∷◌, ◌++◌, Some, Ok, slice_get};
+//! What stands before the return of a wait, by the journals of conds, wait groups and semaphores.
+ghost use Rattle.std.specs.Prelude.{◌≡◌, ℕ, ◌<◌, true, negsuc, List, ◌∷◌, ◌++◌, Some, Ok, slice_get};
 ghost use Rattle.sync_model.specs.Front.{AtLeast};
+ghost use Rattle.sema_core.specs.SemaEdges.{sema_acquires};
+ghost use Rattle.sema_core.specs.SemaLaws as sema;
 ghost use Rattle.wait_cores.specs.GroupLaws as group;
 ghost use Rattle.wait_cores.specs.NotifyLaws as notify;
 ghost use Rattle.workload.specs.Plan.{Plan};
@@ -10,11 +12,13 @@ ghost use Rattle.run_record.specs.Lines.{Line, SpeltCall};
 ghost use Rattle.run_record.specs.Logs.{Shows};
 ghost use Rattle.run_record.specs.Record.{Record, ObjectEntry, object_number, journal_of, list_of};
 ghost use Rattle.run_record.specs.Waits.{IsOnCond, IsOnGroup, WasNotified, IsNotifiedWait, ReturnsAtZero};
+ghost use Rattle.run_record.specs.Weights.{IsOnSema, ServesAll};
 
 use crate::entered::{ObjectEvent, ObjectReply};
 use crate::laws::edges::a_list_keeps_the_order_of_its_journals;
 use crate::made::Made;
 use script_calls::{Call, Operation, Outcome, Reply};
+use sema_core::{SemaCore, SemaEvent, SemaReply};
 use sync_model::Answer;
 use sync_model::laws::journals::journal_is_log;
 use sync_model::laws::logs::logs_go_on;
@@ -78,4 +82,24 @@ pub fn a_group_waits_for_zero()
     logs_go_on::<GroupCore>();
     wait_cores::laws::group::waits_for_zero();
     wait_cores::laws::group::counts_additions();
+}
+
+/// A semaphore never holds more than its size, and serves those who wait in the order in which they came: nobody passes one who
+/// waits in front, and where somebody waits, the weight of the first in line doesn't fit beside what is held. Whoever has its weight,
+/// at once or once it is granted, knows from then on what the caller of each earlier release knew.
+pub fn a_semaphore_serves_in_order()
+    ensures serves { (plan : Plan) (r : Record) (place size : ℕ) (object : ObjectLine)
+        → IsRecordOf plan r → slice_get plan.objects place ≡ Some object → object.kind ≡ ObjectKind.Sema size
+        → (log : sema.Log) × Shows ObjectEvent.Sema ObjectReply.Sema (journal_of r (object_number place)) log × ServesAll plan.workers size log }
+    ensures knows { (plan : Plan) (r : Record) (place m n weight : ℕ) (event : SemaEvent) (released had : ObjectEntry)
+        → IsRecordOf plan r → m < n → slice_get (journal_of r (object_number place)) m ≡ Some released → slice_get (journal_of r (object_number place)) n ≡ Some had
+        → IsOnSema (SemaEvent.Release weight) SemaReply.Done released → IsOnSema event SemaReply.Done had → sema_acquires event SemaReply.Done ≡ true
+        → AtLeast had.front released.front }
+{
+    journal_is_log::<SemaCore>();
+    logs_go_on::<SemaCore>();
+    sema_core::laws::holds_no_more_than_its_size();
+    sema_core::laws::counts_weights();
+    sema_core::laws::serves_in_order();
+    sema_core::laws::leaves_no_weight_idle();
 }

@@ -1,9 +1,11 @@
 use Rattle.run_cuts.proofs.CondCut.{cond_cuts}
+use Rattle.run_cuts.proofs.FlightCut.{fly_cuts}
 use Rattle.run_cuts.proofs.GroupCut.{group_cuts}
 use Rattle.run_cuts.proofs.MutexCut.{mutex_cuts}
 use Rattle.run_cuts.proofs.OnceCut.{do_cuts, func_cuts, value_cuts}
 use Rattle.run_cuts.proofs.PoolCut.{pool_cuts}
 use Rattle.run_cuts.proofs.RwMutexCut.{rw_mutex_cuts}
+use Rattle.run_cuts.proofs.SemaCut.{sema_cuts}
 use Rattle.run_cuts.proofs.SharedCut.{adds_cuts, atomic_cuts, if_equal_cuts, map_cuts}
 use Rattle.run_cuts.proofs.StartsCut.{go_cuts, wait_start_cuts, end_cuts}
 use Rattle.run_cuts.proofs.WaitForCut.{wait_for_cuts}
@@ -47,6 +49,12 @@ returns-clause-once_value c object value = value_cuts object value
 
 pub returns-clause-pool : goal.returns-clause-pool
 returns-clause-pool c workers worker first call = pool_cuts workers worker first call
+
+pub returns-clause-sema : goal.returns-clause-sema
+returns-clause-sema c object call = sema_cuts object call
+
+pub returns-clause-flight : goal.returns-clause-flight
+returns-clause-flight c object a amount key = fly_cuts object a amount key
 
 pub returns-clause-go : goal.returns-clause-go
 returns-clause-go c group starts worker = go_cuts group starts worker

@@ -3,7 +3,7 @@ use Rattle.std.proofs.lemmas.Bool.{cases_Bool}
 use Rattle.mutex_core.specs.MutexMachine as mutex
 use Rattle.pool_core.specs.PartMachine.{part_next}
 use Rattle.rw_core.specs.RwMachine as rw
-use Rattle.run_laws.proofs.EdgesByAnswer.{of_a_mutex, of_an_rw_mutex, of_a_group, of_a_cond, of_a_once, of_a_part, of_starts_edges}
+use Rattle.run_laws.proofs.EdgesByAnswer.{of_a_mutex, of_an_rw_mutex, of_a_group, of_a_cond, of_a_once, of_a_part, of_a_sema, of_a_flight, of_starts_edges}
 use Rattle.run_laws.proofs.edges.the_edges_are_those_that_go_documents.Goals as goal
 
 pub returns-clause-mutex : goal.returns-clause-mutex
@@ -35,6 +35,12 @@ returns-clause-cond c event reply = of_a_cond event reply
 
 pub returns-clause-pool : goal.returns-clause-pool
 returns-clause-pool c state caller event = of_a_part event (part_next state caller event).1 (c.a_part_answers.ensures state caller event)
+
+pub returns-clause-sema : goal.returns-clause-sema
+returns-clause-sema c event reply = of_a_sema event reply
+
+pub returns-clause-flight : goal.returns-clause-flight
+returns-clause-flight c state caller event = of_a_flight c.knows_where_it_stands-3.ensures.answers state caller event
 
 pub returns-clause-starts : goal.returns-clause-starts
 returns-clause-starts c event reply = of_starts_edges event reply
