@@ -15,4 +15,6 @@ mod shared;
 #[cfg(test)]
 mod texts;
 #[cfg(test)]
+mod unrecorded;
+#[cfg(test)]
 mod written;

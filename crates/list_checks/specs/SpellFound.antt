@@ -5,17 +5,20 @@ use Rattle.std.specs.Ordering.{int_eq}
 use Rattle.script_calls.specs.declared.call.Reply.{Reply}
 use Rattle.script_calls.specs.declared.call.Reply.TheVariants as replies
 use Rattle.sync_types.specs.declared.once_call.DoReply.TheVariants as do_replies
+use Rattle.flight_core.specs.declared.calls.FlightStage.TheVariants as flight_stage
 use Rattle.protocols.specs.OnceStages.{once_meaning}
 use Rattle.protocols.specs.declared.once.OnceStage.TheVariants as stage
 use Rattle.sync_model.specs.declared.answer.Answer.TheVariants.{Done, Halted}
 use Rattle.sync_model.specs.declared.item.SharedCall.{SharedCall}
 use Rattle.sync_model.specs.declared.item.SharedReply.{SharedReply}
+use Rattle.run_record.specs.FlightKind.{was_shared}
 use Rattle.run_record.specs.OnceKind.{failure}
 use Rattle.run_record.specs.declared.made.Made.{Made}
 use Rattle.run_record.specs.declared.made.Made.TheVariants.{Shared, Entered}
 use Rattle.run_cuts.specs.Cuts.{Beginning, whole, within, wrong, Cutter, Move, answers_by, goes_to, no_call, move, never_cut, read_cut, returns_cut, stages_cut, then_cut}
 use Rattle.run_cuts.specs.OnceCuts.{do_event_in, do_reply_in, func_event_in, func_reply_in, value_event_in, value_reply_in, is_once_event}
 use Rattle.run_cuts.specs.CondCuts.{cond_cut}
+use Rattle.run_cuts.specs.FlightCuts.{flight_cut}
 use Rattle.run_cuts.specs.RangeCuts.{is_begin, is_step, shows_cut}
 use Rattle.run_cuts.specs.SharedCuts.{adds_cut, tests_cut}
 use Rattle.run_cuts.specs.PoolCuts.{pool_part_cut}
@@ -89,6 +92,14 @@ end_value_cut object value = read_cut (λ ended. replies.OnceValue value) (stage
 -- what a once's function does, and its end
 abbrev pub run_do_cut : ℕ → ℕ → ℤ → Cutter (Reply ℕ)
 run_do_cut object a amount = then_cut (adds_cut a amount) (λ sum. sum_cut object sum)
+
+-- the landing of a flight that came to this
+abbrev pub land_cut : ℕ → ℤ → Cutter (Reply ℕ)
+land_cut object sum = read_cut (λ outcome. replies.Flown sum (was_shared outcome)) (flight_cut object (flight_stage.Land sum))
+
+-- what the leader of a flight does: the function, and the landing
+abbrev pub lead_cut : ℕ → ℕ → ℤ → Cutter (Reply ℕ)
+lead_cut object a amount = then_cut (adds_cut a amount) (λ sum. land_cut object sum)
 
 -- the start of a worker
 abbrev pub start_cut : ℕ → ℕ → Cutter (Reply ℕ)

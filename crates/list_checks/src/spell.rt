@@ -2,6 +2,7 @@
 pub mod automaton;
 pub mod call;
 pub mod cond;
+pub mod flight;
 pub mod group;
 pub mod line;
 pub mod mutex;
@@ -13,6 +14,7 @@ pub mod range;
 pub mod renamed;
 pub mod rw_mutex;
 pub mod same;
+pub mod sema;
 pub mod spelt;
 pub mod starts;
 pub mod tests;

@@ -1,8 +1,10 @@
 -- The law of a journal of each kind falls into its two parts.
 use Rattle.std.proofs.Common.{◌≡◌, ◌↔◌, ℕ, List, []}
 use Rattle.sync_model.specs.Journal.{KeepsEdges}
+use Rattle.flight_core.specs.FlightMachine as flight
 use Rattle.mutex_core.specs.MutexMachine as mutex
 use Rattle.rw_core.specs.RwMachine as rw
+use Rattle.sema_core.specs.SemaMachine as sema
 use Rattle.wait_cores.specs.GroupMachine as group
 use Rattle.wait_cores.specs.NotifyMachine as notify
 use Rattle.wait_cores.specs.OnceMachine as once
@@ -33,3 +35,5 @@ halves plan place (kinds.Once atomic delta) journal = is_two event.Once reply.On
 halves plan place (kinds.OnceFunc code) journal = is_two event.OnceFunc reply.OnceFunc once.next (once.start plan.workers) journal
 halves plan place (kinds.OnceValue value) journal = is_two event.OnceValue reply.OnceValue once.next (once.start plan.workers) journal
 halves plan place kinds.Pool journal = no_journal journal
+halves plan place (kinds.Sema size) journal = is_two event.Sema reply.Sema sema.next (sema.start plan.workers size) journal
+halves plan place (kinds.Flight atomic delta) journal = is_two event.Flight reply.Flight flight.next (flight.start plan.workers) journal

@@ -50,6 +50,8 @@ no_pool (kinds.WaitGroup start) other = refl
 no_pool (kinds.Once atomic delta) other = refl
 no_pool (kinds.OnceFunc code) other = refl
 no_pool (kinds.OnceValue value) other = refl
+no_pool (kinds.Sema size) other = refl
+no_pool (kinds.Flight atomic delta) other = refl
 no_pool kinds.Pool other = absurd (other refl)
 
 -- ---- the parts of one pool

@@ -40,6 +40,8 @@ pool_is (kinds.WaitGroup start) is = absurd cc
 pool_is (kinds.Once atomic delta) is = absurd cc
 pool_is (kinds.OnceFunc code) is = absurd cc
 pool_is (kinds.OnceValue value) is = absurd cc
+pool_is (kinds.Sema size) is = absurd cc
+pool_is (kinds.Flight atomic delta) is = absurd cc
 pool_is kinds.Pool is = refl
 
 module _ (plan : Plan)

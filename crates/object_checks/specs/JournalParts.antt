@@ -3,9 +3,11 @@ use Rattle.std.specs.Prelude.{◌≡◌, ℕ, ◌+◌, ◌<◌, Bool, true, List
 use Rattle.sync_model.specs.declared.journal.Entry.{Entry}
 use Rattle.sync_model.specs.Journal.{by, Follows, KeepsEdges}
 use Rattle.sync_model.specs.SharedCalls.{Lawful}
+use Rattle.flight_core.specs.FlightMachine as flight
 use Rattle.mutex_core.specs.MutexMachine as mutex
 use Rattle.pool_core.specs.PartMachine.{part_next, part_start}
 use Rattle.rw_core.specs.RwMachine as rw
+use Rattle.sema_core.specs.SemaMachine as sema
 use Rattle.starts_core.specs.StartsMachine as starts
 use Rattle.wait_cores.specs.GroupMachine as group
 use Rattle.wait_cores.specs.NotifyMachine as notify
@@ -45,6 +47,8 @@ IsMachineJournal workers (kinds.Once atomic delta) journal = FollowsMachine even
 IsMachineJournal workers (kinds.OnceFunc code) journal = FollowsMachine event.OnceFunc reply.OnceFunc once.next (once.start workers) journal
 IsMachineJournal workers (kinds.OnceValue value) journal = FollowsMachine event.OnceValue reply.OnceValue once.next (once.start workers) journal
 IsMachineJournal workers kinds.Pool journal = journal ≡ []
+IsMachineJournal workers (kinds.Sema size) journal = FollowsMachine event.Sema reply.Sema sema.next (sema.start workers size) journal
+IsMachineJournal workers (kinds.Flight atomic delta) journal = FollowsMachine event.Flight reply.Flight flight.next (flight.start workers) journal
 
 -- that of a part of a pool, which has this much room
 abbrev pub IsMachinePart : ℕ → List ObjectEntry → Type 0

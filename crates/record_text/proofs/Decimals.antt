@@ -1,15 +1,15 @@
 -- Which words are numbers.
-use Rattle.std.proofs.Common.{◌≡◌, ℕ, ◌^◌, ◌<◌, ◌≤◌, zero, suc, Bool, true, false, ◌&&◌, cond, eqb, nat_le, List, [], ◌∷◌, length, get_or, Option, Some, None, refl, sym, ap, ◌∙◌, subst, arith}
+use Rattle.std.proofs.Common.{◌≡◌, ℕ, ◌+◌, ◌-◌, ℤ, pos, negsuc, ◌^◌, ◌<◌, ◌≤◌, zero, suc, Bool, true, false, ◌&&◌, cond, eqb, nat_le, List, [], ◌∷◌, length, get_or, Option, Some, None, refl, sym, ap, ◌∙◌, subst, arith}
 use Rattle.std.specs.Prelude.{nat_lt, IfNone, IfSome}
 use Rattle.std.specs.Str.{all_ascii_digits}
 use Rattle.std.specs.Str.Parse.{digits_value}
-use Rattle.std.specs.Fmt.{decimal}
+use Rattle.std.specs.Fmt.{decimal, signed_decimal}
 use Rattle.std.proofs.lemmas.Bool.{eqb-true, eq-eqb, false≢true, leb-true, le-leb, ltb-true, lt-ltb}
 use Rattle.std.proofs.lemmas.Fmt.{digits_value-decimal, digits_decimal, first_decimal, decimal_nonempty, decimal_digit, decimal_injective}
 use Rattle.std.proofs.lemmas.Str.Parse.{IsNumeralModel, numerals_by_value, tells_all_ascii_digits}
 use Rattle.workload.specs.NumberWords.{is_number, is_number_to, number_of}
 use Rattle.record_text.specs.declared.item_line.Whole.TheVariants.{Natural, Below}
-use Rattle.record_text.specs.Numbers.{has_64_bits, is_whole, whole_word}
+use Rattle.record_text.specs.Numbers.{has_32_bits, has_64_bits, is_int64, is_whole, whole_word}
 use Rattle.record_text.specs.Reading.{IsNone, IsRead}
 
 numerals : IsNumeralModel (λ ds. all_ascii_digits ds ≡ true) (digits_value 10)
@@ -48,6 +48,9 @@ is_to n small =
 
 pub small : (n : ℕ) → has_64_bits n ≡ true → n < 2 ^ 64
 small n h = ltb-true n (2 ^ 64) h
+
+pub smaller : (n : ℕ) → has_32_bits n ≡ true → n < 2 ^ 64
+smaller n h = let low = ltb-true n (2 ^ 32) h in omega (arith, low)
 
 -- the word of a number is what `number` reads it from
 pub as_read : (word : List ℕ) (read : Option ℕ) → IfNone read (is_number_to 18446744073709551615 word ≡ false) → IfSome read (λ n. (n ≡ number_of word) × (n ≤ 18446744073709551615)) → IfSome read (λ n. decimal n ≡ word) → IsRead has_64_bits decimal word read
@@ -108,3 +111,24 @@ no_whole_natural byte bytes other none (Below n) fits e = other (sym (head 45 by
 pub no_whole_empty : (word : List ℕ) → length word ≡ 0 → IsNone is_whole whole_word word
 no_whole_empty word empty (Natural n) fits e = let some = decimal_nonempty n (small n fits) in let same = ap length e in omega (arith, some, same, empty)
 no_whole_empty word empty (Below n) fits e = let same = ap length e in omega (arith, same, empty)
+
+-- ---- numbers with a sign
+
+pub int_below : (bytes : List ℕ) (n : ℕ) → is_magnitude n ≡ true → decimal n ≡ bytes → (is_int64 (negsuc (n - 1)) ≡ true) × (signed_decimal (negsuc (n - 1)) ≡ 45 ∷ bytes)
+int_below bytes n fits is =
+    let (low, high) = magnitude n fits in
+    let same : suc (n - 1) ≡ n = omega (arith, low) in
+    (lt-ltb (n - 1) (2 ^ 63) (omega (arith, low, high)), ap (λ k. 45 ∷ decimal k) same ∙ ap (λ (ds : List ℕ). 45 ∷ ds) is)
+
+pub no_int_below : (bytes : List ℕ) → IsNone is_magnitude decimal bytes → IsNone is_int64 signed_decimal (45 ∷ bytes)
+no_int_below bytes none (pos n) fits e = no_sign n bytes (let low = ltb-true n (2 ^ 63) fits in omega (arith, low)) e
+no_int_below bytes none (negsuc n) fits e =
+    none (suc n) (is_magnitude_of (suc n) (λ same. omega (arith, same)) (let low = ltb-true n (2 ^ 63) fits in omega (arith, low))) (tail 45 45 (decimal (suc n)) bytes e)
+
+pub no_int_natural : (byte : ℕ) (bytes : List ℕ) → (byte ≡ 45 → ⊥) → IsNone (λ n. nat_lt n (2 ^ 63)) decimal (byte ∷ bytes) → IsNone is_int64 signed_decimal (byte ∷ bytes)
+no_int_natural byte bytes other none (pos n) fits e = none n fits e
+no_int_natural byte bytes other none (negsuc n) fits e = other (sym (head 45 byte (decimal (suc n)) bytes e))
+
+pub no_int_empty : (word : List ℕ) → length word ≡ 0 → IsNone is_int64 signed_decimal word
+no_int_empty word empty (pos n) fits e = let some = decimal_nonempty n (let low = ltb-true n (2 ^ 63) fits in omega (arith, low)) in let same = ap length e in omega (arith, some, same, empty)
+no_int_empty word empty (negsuc n) fits e = let same = ap length e in omega (arith, same, empty)

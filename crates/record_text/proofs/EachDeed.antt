@@ -1,7 +1,13 @@
 -- What holds of each deed of a call, and of each item of what calls are put together from.
-use Rattle.std.proofs.Common.{◌≡◌, ℕ, Bool, true, false, List, [], ◌∷◌, map, Ok, Err, refl, sym, subst}
+use Rattle.std.proofs.Common.{◌≡◌, ℕ, ℤ, Bool, true, false, List, [], ◌∷◌, map, Ok, Err, refl, sym, subst}
 use Rattle.std.specs.Prelude.{if◌then◌else◌}
 use Rattle.std.specs.List.{AllByRecursion}
+use Rattle.script_calls.specs.declared.call.Reply.{Reply}
+use Rattle.script_calls.specs.declared.call.Reply.TheVariants as replies
+use Rattle.flight_core.specs.declared.calls.FlightOutcome.{FlightOutcome}
+use Rattle.flight_core.specs.declared.calls.FlightOutcome.TheVariants.{Lead, Got, Landed}
+use Rattle.flight_core.specs.declared.calls.FlightStage.{FlightStage}
+use Rattle.flight_core.specs.declared.calls.FlightStage.TheVariants as flight_stage
 use Rattle.sync_types.specs.declared.misuse.Misuse.{Misuse}
 use Rattle.sync_model.specs.declared.answer.Answer.TheVariants.{Done, Halted}
 use Rattle.sync_model.specs.declared.item.Item.{Item}
@@ -17,6 +23,7 @@ use Rattle.run_record.specs.declared.entered.ObjectEvent.{ObjectEvent}
 use Rattle.run_record.specs.declared.entered.ObjectReply.{ObjectReply}
 use Rattle.run_record.specs.declared.made.Made.{Made}
 use Rattle.run_record.specs.declared.made.Made.TheVariants.{Entered, Shared}
+use Rattle.run_record.specs.FlightKind.{goes_on_flight, was_shared}
 use Rattle.run_record.specs.Parts.{GoesOn, Part, Places, and_then, lifted, never, read_as, returns}
 use Rattle.run_record.specs.RwMutexKind.{RwDeed, is_still, up_to_the_last, without_stills}
 use Rattle.record_text.proofs.OwnWords.{each_both}
@@ -138,6 +145,16 @@ module _ (P : Made → Type 0) where
 
     pub by_read : (f : O → Q) (part : Part O) → EachOf part → EachOf (read_as f part)
     by_read f part one items answer (given, made, is) = one items given made
+
+  -- a call on flights
+  module _ (part : FlightStage → Part FlightOutcome) (function : Part ℤ) (of_part : (stage : FlightStage) → EachOf (part stage)) (of_function : EachOf function) where
+    by_outcome : (outcome : FlightOutcome) → EachOf (goes_on_flight part function outcome)
+    by_outcome Lead = by_then function _ of_function (λ value. by_read (λ outcome. replies.Flown value (was_shared outcome)) _ (of_part (flight_stage.Land value)))
+    by_outcome (Got value) = by_returns (replies.Flown value true)
+    by_outcome (Landed shared) = by_never
+
+    pub by_flight : (key : ℕ) → EachOf (and_then (part (flight_stage.Join key)) (goes_on_flight part function))
+    by_flight key = by_then (part (flight_stage.Join key)) _ (of_part (flight_stage.Join key)) by_outcome
 
   module _ {E R : Type 0} (event : E → ObjectEvent) (reply : R → ObjectReply) (object : ℕ) where
     pub of_entries : (entries : List (Entry E R)) → AllByRecursion (λ (entry : Entry E R). P (Entered object (lifted event reply entry))) entries → AllByRecursion P (map (λ entry. Entered object (lifted event reply entry)) entries)

@@ -28,6 +28,12 @@ use Rattle.pool_core.specs.declared.pool_event.PoolEvent.TheVariants as pool_eve
 use Rattle.pool_core.specs.declared.pool_event.PoolReply.{PoolReply}
 use Rattle.pool_core.specs.declared.pool_event.PoolReply.TheVariants as pool_replies
 use Rattle.pool_core.specs.PartMachine.{part_next, part_start}
+use Rattle.sema_core.specs.declared.event.SemaEvent.{SemaEvent}
+use Rattle.sema_core.specs.declared.event.SemaEvent.TheVariants as sema_events
+use Rattle.sema_core.specs.SemaMachine as sema
+use Rattle.flight_core.specs.declared.event.FlightEvent.{FlightEvent}
+use Rattle.flight_core.specs.declared.event.FlightEvent.TheVariants as flight_events
+use Rattle.flight_core.specs.FlightMachine as flight
 use Rattle.starts_core.specs.StartsMachine.{begun, next as starts_next}
 use Rattle.starts_core.specs.declared.starts.StartEvent.{StartEvent}
 use Rattle.starts_core.specs.declared.starts.StartEvent.TheVariants as start_events
@@ -67,7 +73,7 @@ use Rattle.record_text.proofs.EachDeed.{IsMeantBy}
 use Rattle.record_text.proofs.MeantItems.{IsMeant, IsMeantDeed, StartsOne}
 use Rattle.record_text.proofs.NumberedObjects.{IsObject, is_declared, is_part, is_starts, is_stop, object_of}
 use Rattle.record_text.proofs.OwnWords.{each_at}
-use Rattle.record_text.proofs.Rows.{HasRow, IsAnswered, answered_at, cond_has, group_has, mutex_has, once_has, pool_has, rw_has, starts_has}
+use Rattle.record_text.proofs.Rows.{HasRow, IsAnswered, answered_at, cond_has, flight_has, group_has, mutex_has, once_has, pool_has, rw_has, sema_has, starts_has}
 
 -- ---- a deed has a row
 
@@ -119,6 +125,17 @@ pool_word workers pool_events.LookOwn m = ((refl, λ h. refl), λ h. h)
 pool_word workers (pool_events.LookOther part) m = ((refl, λ h. refl), λ h. h)
 pool_word workers (pool_events.LookVictim part) m = ((refl, λ h. refl), λ h. h)
 pool_word workers pool_events.Sweep m = ((refl, λ h. refl), λ h. h)
+
+sema_word : (workers : ℕ) (e : SemaEvent) (m : Misuse) → WordRow workers kinds.Sema (written.sema_event e) m
+sema_word workers (sema_events.Acquire weight) m = ((refl, λ h. refl), λ h. h)
+sema_word workers (sema_events.Try weight) m = ((refl, λ h. refl), λ h. h)
+sema_word workers (sema_events.Release weight) m = ((refl, λ h. refl), λ h. h)
+sema_word workers sema_events.Leave m = ((refl, λ h. refl), λ h. h)
+
+flight_word : (workers : ℕ) (e : FlightEvent) (m : Misuse) → WordRow workers kinds.Flight (written.flight_event e) m
+flight_word workers (flight_events.Join key) m = ((refl, λ h. refl), λ h. h)
+flight_word workers (flight_events.Land value) m = ((refl, λ h. refl), λ h. h)
+flight_word workers flight_events.Leave m = ((refl, λ h. refl), λ h. h)
 
 start_word : (workers : ℕ) (e : StartEvent) (m : Misuse) → StartsOne workers (object_events.Starts e) → WordRow workers kinds.Starts (written.start_event e) m
 start_word workers (start_events.Start worker) m one = ((refl, λ h. refl), λ h. lt-ltb worker workers one)
@@ -253,6 +270,14 @@ module _ (plan : Plan) (begins : (callers : ℕ) → mutex.IsValid (mutex.start 
       fits_at object_events.OnceValue object_replies.OnceValue once.next (λ s. Unit {0}) (λ s caller e kept. tt) plan.workers kinds.Once (λ m. (refl, λ h. refl))
       (λ e m one. once_word plan.workers e m) (λ caller s e r kept same means dropped. (written.once_answer r, refl, once_has plan.workers e r means))
       _ _ (once.start plan.workers) journal i entry tt is at meant dropped
+  fits_kind place (object_kinds.Sema size) journal i entry is at meant dropped =
+      fits_at object_events.Sema object_replies.Sema sema.next (λ s. Unit {0}) (λ s caller e kept. tt) plan.workers kinds.Sema (λ m. (refl, λ h. refl))
+      (λ e m one. sema_word plan.workers e m) (λ caller s e r kept same means dropped. (written.sema_answer r, refl, sema_has plan.workers caller s e r same means))
+      _ _ (sema.start plan.workers size) journal i entry tt is at meant dropped
+  fits_kind place (object_kinds.Flight atomic delta) journal i entry is at meant dropped =
+      fits_at object_events.Flight object_replies.Flight flight.next (λ s. Unit {0}) (λ s caller e kept. tt) plan.workers kinds.Flight (λ m. (refl, λ h. refl))
+      (λ e m one. flight_word plan.workers e m) (λ caller s e r kept same means dropped. (written.flight_answer r, refl, flight_has plan.workers e r means))
+      _ _ (flight.start plan.workers) journal i entry tt is at meant dropped
 
   -- an item that was kept has a word
   part_has : (e : PoolEvent ℕ) (r : PoolReply ℕ) → IsMeantBy pool_event pool_meaning e r → KeepsItem (object_replies.Pool r) → HasWord plan.workers kinds.PoolPart (object_events.Pool e) (object_replies.Pool r)

@@ -1,10 +1,10 @@
 -- The bytes of an item's line are cut into its words again.
-use Rattle.std.proofs.Common.{◌≡◌, ℕ, zero, suc, ◌^◌, ◌<◌, ◌≤◌, Bool, true, false, ◌&&◌, cond, eqb, nat_le, List, [], ◌∷◌, ◌++◌, map, length, get_or, slice_get, codes, Option, Some, None, refl, sym, ap, ◌∙◌, subst, arith}
+use Rattle.std.proofs.Common.{◌≡◌, ℕ, zero, suc, ℤ, pos, negsuc, ◌^◌, ◌<◌, ◌≤◌, Bool, true, false, ◌&&◌, cond, eqb, nat_le, List, [], ◌∷◌, ◌++◌, map, length, get_or, slice_get, codes, Option, Some, None, refl, sym, ap, ◌∙◌, subst, arith}
 use Rattle.std.specs.Prelude.{nat_lt, ◌||◌}
 use Rattle.std.specs.List.{AllByRecursion, flat_map, join_with_byte, list_all, list_any, onto_first, slice_split}
 use Rattle.std.specs.Option.{option_map_or, option_to_list}
 use Rattle.std.specs.Str.{all_ascii_digits, bytes_eq}
-use Rattle.std.specs.Fmt.{decimal}
+use Rattle.std.specs.Fmt.{decimal, signed_decimal}
 use Rattle.std.proofs.lemmas.Bool.{eqb-true, leb-true, lt-ltb, ltb-true, ne_eqb}
 use Rattle.std.proofs.lemmas.List.Folds.{list_all-append}
 use Rattle.std.proofs.lemmas.List.Splits.{join_with_byte-slice_split, slice_split-cons_no, slice_split-cons_yes}
@@ -37,14 +37,14 @@ use Rattle.record_text.specs.AnswerWords.{answer_word, is_answer, small_misuse_w
 use Rattle.record_text.specs.EventWords.{event_word, is_event, misuse_word}
 use Rattle.record_text.specs.ItemLines.{index_word, is_index, is_item, is_place, is_reply, is_said, is_shown, item_text, item_words, object_word, reply_words, said_word, said_words, shown_word, spaced, IsItemLine}
 use Rattle.record_text.specs.Journals.{named_in, named_object, named_parts}
-use Rattle.record_text.specs.Numbers.{front_word, has_64_bits, is_front, is_whole, whole_word}
+use Rattle.record_text.specs.Numbers.{front_word, has_64_bits, is_front, is_int64, is_whole, whole_word}
 use Rattle.record_text.specs.Told.{is_short_line, AreItemLines}
-use Rattle.record_text.proofs.Decimals.{both, digits, pair, small}
+use Rattle.record_text.proofs.Decimals.{both, digits, pair, small, smaller}
 use Rattle.record_text.proofs.OwnWords.{Anything, IsNamed, IsPart, all_parts, any, are_declared, each_at, each_both, each_mapped, each_mono, name_bytes}
 use Rattle.record_text.proofs.ReadPlans.{short_script}
 use Rattle.record_text.proofs.SaidLemmas.{entry_fits}
 use Rattle.sync_types.specs.declared.misuse.Misuse.{Misuse}
-use Rattle.sync_types.specs.declared.misuse.Misuse.TheVariants.{UnlockOfUnlockedMutex, RUnlockOfUnlockedRwMutex, UnlockOfUnlockedRwMutex, NegativeWaitGroupCounter, WaitGroupReused}
+use Rattle.sync_types.specs.declared.misuse.Misuse.TheVariants.{UnlockOfUnlockedMutex, RUnlockOfUnlockedRwMutex, UnlockOfUnlockedRwMutex, NegativeWaitGroupCounter, WaitGroupReused, SemaphoreOverReleased}
 
 -- ---- words without a space
 
@@ -100,6 +100,10 @@ whole_solid : (w : Whole) → is_whole w ≡ true → Solid (whole_word w)
 whole_solid (Natural n) fits = number_solid n (small n fits)
 whole_solid (Below n) fits = number_solid n (let high = leb-true n (2 ^ 63) (both (nat_lt 0 n) (nat_le n (2 ^ 63)) fits).1 in omega (arith, high))
 
+signed_solid : (z : ℤ) → is_int64 z ≡ true → Solid (signed_decimal z)
+signed_solid (pos n) fits = number_solid n (let low = ltb-true n (2 ^ 63) fits in omega (arith, low))
+signed_solid (negsuc n) fits = number_solid (suc n) (let low = ltb-true n (2 ^ 63) fits in omega (arith, low))
+
 -- a letter, a digit or `_`
 solid_name_byte : (byte : ℕ) → is_name_byte byte ≡ true → is_solid byte ≡ true
 solid_name_byte byte h = by (is_letter byte) (nat_le 48 byte && nat_le byte 57) refl refl where
@@ -129,6 +133,7 @@ misuse_solid RUnlockOfUnlockedRwMutex = refl
 misuse_solid UnlockOfUnlockedRwMutex = refl
 misuse_solid NegativeWaitGroupCounter = refl
 misuse_solid WaitGroupReused = refl
+misuse_solid SemaphoreOverReleased = refl
 
 small_misuse_solid : (m : Misuse) → Solid (small_misuse_word m ++ [])
 small_misuse_solid UnlockOfUnlockedMutex = refl
@@ -136,6 +141,7 @@ small_misuse_solid RUnlockOfUnlockedRwMutex = refl
 small_misuse_solid UnlockOfUnlockedRwMutex = refl
 small_misuse_solid NegativeWaitGroupCounter = refl
 small_misuse_solid WaitGroupReused = refl
+small_misuse_solid SemaphoreOverReleased = refl
 
 truth_solid : (truth : Bool) → Solid (truth_word truth)
 truth_solid true = refl
@@ -151,6 +157,11 @@ event_solid workers few (events.WriteArrive n) fits = solid_both (codes "w_arriv
 event_solid workers few (events.WriteWoken n) fits = solid_both (codes "w_woken@") (decimal n) refl (number_solid n (small n fits))
 event_solid workers few (events.Add w) fits = solid_both (codes "add=") (whole_word w) refl (whole_solid w fits)
 event_solid workers few (events.Put n) fits = solid_both (codes "put=") (decimal n) refl (number_solid n (small n fits))
+event_solid workers few (events.Acquire n) fits = solid_both (codes "acquire=") (decimal n) refl (number_solid n (small n fits))
+event_solid workers few (events.TryAcquire n) fits = solid_both (codes "try=") (decimal n) refl (number_solid n (small n fits))
+event_solid workers few (events.Release n) fits = solid_both (codes "release=") (decimal n) refl (number_solid n (small n fits))
+event_solid workers few (events.Join n) fits = solid_both (codes "join=") (decimal n) refl (number_solid n (smaller n fits))
+event_solid workers few (events.Land z) fits = solid_both (codes "land=") (signed_decimal z) refl (signed_solid z fits)
 event_solid workers few (events.Start n) fits = solid_both (codes "start=") (decimal n) refl (worker_solid n workers few fits)
 event_solid workers few (events.Halt m) fits = solid_both (codes "halt=") (misuse_word m) refl (misuse_solid m)
 event_solid workers few events.Try fits = refl
@@ -176,6 +187,7 @@ answer_solid : (workers : ℕ) → workers ≤ 32 → (a : AnswerWord) → is_an
 answer_solid workers few (answers.Woke n) fits = solid_both (codes "woke=") (decimal n) refl (worker_solid n workers few fits)
 answer_solid workers few (answers.Handed n) fits = solid_both (codes "handed=") (decimal n) refl (worker_solid n workers few fits)
 answer_solid workers few (answers.Item n) fits = solid_both (codes "item=") (decimal n) refl (number_solid n (small n fits))
+answer_solid workers few (answers.Left z) fits = solid_both (codes "left=") (signed_decimal z) refl (signed_solid z fits)
 answer_solid workers few (answers.Halted m) fits = solid_both (codes "halted=") (misuse_word m) refl (misuse_solid m)
 answer_solid workers few (answers.Misused m) fits = small_misuse_solid m
 answer_solid workers few (answers.Tried true) fits = refl
@@ -189,6 +201,8 @@ answer_solid workers few answers.Done fits = refl
 answer_solid workers few answers.Run fits = refl
 answer_solid workers few answers.Ran fits = refl
 answer_solid workers few answers.Nothing fits = refl
+answer_solid workers few answers.Refused fits = refl
+answer_solid workers few answers.Lead fits = refl
 answer_solid workers few answers.Go fits = refl
 answer_solid workers few answers.Never fits = refl
 
@@ -233,6 +247,8 @@ module _ (P : List ℕ → Type 0) (named : (name : List ℕ) → is_name name �
   operation_each operations.OnceFunc h = tt
   operation_each operations.OnceValue h = tt
   operation_each (operations.Pool call) h = tt
+  operation_each (operations.Sema call) h = tt
+  operation_each (operations.Fly key) h = (named key h, tt)
   operation_each (operations.Var call) h = tt
   operation_each (operations.Composed call) h = tt
 

@@ -72,6 +72,8 @@ not_declared plan place (object_kinds.WaitGroup start) journal i entry is at of 
 not_declared plan place (object_kinds.Once atomic delta) journal i entry is at of = other_kind object_events.Once object_replies.Once _ _ _ _ journal i entry (λ e r no. no) is at of
 not_declared plan place (object_kinds.OnceFunc code) journal i entry is at of = other_kind object_events.OnceFunc object_replies.OnceFunc _ _ _ _ journal i entry (λ e r no. no) is at of
 not_declared plan place (object_kinds.OnceValue value) journal i entry is at of = other_kind object_events.OnceValue object_replies.OnceValue _ _ _ _ journal i entry (λ e r no. no) is at of
+not_declared plan place (object_kinds.Sema size) journal i entry is at of = other_kind object_events.Sema object_replies.Sema _ _ _ _ journal i entry (λ e r no. no) is at of
+not_declared plan place (object_kinds.Flight atomic delta) journal i entry is at of = other_kind object_events.Flight object_replies.Flight _ _ _ _ journal i entry (λ e r no. no) is at of
 
 -- ---- a part
 

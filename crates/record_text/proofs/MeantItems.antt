@@ -39,6 +39,10 @@ use Rattle.pool_core.specs.declared.pool_event.PoolEvent.TheVariants as pool_eve
 use Rattle.pool_core.specs.declared.pool_event.PoolReply.{PoolReply}
 use Rattle.pool_core.specs.declared.pool_event.PoolReply.TheVariants as pool_replies
 use Rattle.pool_core.specs.Looks.{look}
+use Rattle.sema_core.specs.declared.calls.SemaStage.{SemaStage}
+use Rattle.sema_core.specs.SemaStages.{sema_event, sema_meaning}
+use Rattle.flight_core.specs.declared.calls.FlightStage.{FlightStage}
+use Rattle.flight_core.specs.FlightStages.{flight_event, flight_meaning}
 use Rattle.starts_core.specs.declared.protocol.StartsStage.{StartsStage}
 use Rattle.starts_core.specs.declared.protocol.StartsStage.TheVariants as starts_stage
 use Rattle.starts_core.specs.declared.starts.StartEvent.TheVariants as start_events
@@ -82,18 +86,20 @@ use Rattle.run_record.specs.declared.made.Made.TheVariants.{Entered, Shared}
 use Rattle.run_record.specs.AtomicKind.{adds, atomic_call}
 use Rattle.run_record.specs.Calls.{SpellsCall, call_at, call_on}
 use Rattle.run_record.specs.CondKind.{cond_call, cond_part, wait_part}
+use Rattle.run_record.specs.FlightKind.{flight_part}
 use Rattle.run_record.specs.MapKind.{cursor_showing, map_call, range_call, step_showing}
 use Rattle.run_record.specs.MutexKind.{mutex_part}
 use Rattle.run_record.specs.OnceKind.{failure, goes_on_once, once_part}
 use Rattle.run_record.specs.Parts.{Part, and_then, lifted_deed, returns, stages}
 use Rattle.run_record.specs.PoolKind.{found_by, found_or, looks_of, part_of, pool_call, pool_part, stage_of, swept_by}
 use Rattle.run_record.specs.RwMutexKind.{RwDeed, asks, is_still, rw_part, says_still, write_part}
+use Rattle.run_record.specs.SemaKind.{sema_part}
 use Rattle.run_record.specs.StartsKind.{closing, done_part, done_under, end_part, opening, starts_part, wait_start_part, was_started}
 use Rattle.run_record.specs.Objects.{starts_number}
 use Rattle.run_record.specs.Record.{object_number}
 use Rattle.run_record.specs.Tests.{compared, holds, tests, unless_met, waits_for}
 use Rattle.run_record.specs.WaitGroupKind.{wait_group_part}
-use Rattle.record_text.proofs.EachDeed.{EachOf, IsMeantBy, IsStep, LeadsOn, any_leads, by_never, by_read, by_returns, by_then, each_deed, of_deeds, of_entries, of_places, with_stills}
+use Rattle.record_text.proofs.EachDeed.{EachOf, IsMeantBy, IsStep, LeadsOn, any_leads, by_flight, by_never, by_read, by_returns, by_then, each_deed, of_deeds, of_entries, of_places, with_stills}
 use Rattle.record_text.proofs.OneItem.{same_some}
 use Rattle.record_text.proofs.OwnWords.{each_both}
 
@@ -125,6 +131,8 @@ IsMeant (object_events.Once e) (object_replies.Once r) = IsMeantBy once_event on
 IsMeant (object_events.OnceFunc e) (object_replies.OnceFunc r) = IsMeantBy once_event once_meaning e r
 IsMeant (object_events.OnceValue e) (object_replies.OnceValue r) = IsMeantBy once_event once_meaning e r
 IsMeant (object_events.Pool e) (object_replies.Pool r) = IsMeantBy pool_event pool_meaning e r
+IsMeant (object_events.Sema e) (object_replies.Sema r) = IsMeantBy sema_event sema_meaning e r
+IsMeant (object_events.Flight e) (object_replies.Flight r) = IsMeantBy flight_event flight_meaning e r
 IsMeant (object_events.Starts e) (object_replies.Starts r) = IsMeantBy starts_event starts_meaning e r
 IsMeant event reply = ⊥
 
@@ -223,6 +231,12 @@ module _ (Puts : Type 0) (workers count : ℕ) where
 
   of_group : (object : ℕ) (from : GroupStage) → EachOf Is (wait_group_part object from)
   of_group = of_kind object_events.WaitGroup object_replies.WaitGroup group_event group_meaning (λ stage now r means. (((stage, now, refl, means), tt), tt)) (λ stage now misuse. (tt, tt))
+
+  of_sema : (object : ℕ) (from : SemaStage) → EachOf Is (sema_part object from)
+  of_sema = of_kind object_events.Sema object_replies.Sema sema_event sema_meaning (λ stage now r means. (((stage, now, refl, means), tt), tt)) (λ stage now misuse. (tt, tt))
+
+  of_flight : (object : ℕ) (from : FlightStage) → EachOf Is (flight_part object from)
+  of_flight = of_kind object_events.Flight object_replies.Flight flight_event flight_meaning (λ stage now r means. (((stage, now, refl, means), tt), tt)) (λ stage now misuse. (tt, tt))
 
   -- a stage puts only where puts may be
   abbrev MayStage : PoolStage → Type 0
@@ -450,6 +464,8 @@ module _ (Puts : Type 0) (workers count : ℕ) where
     of_call_on place (object_kinds.OnceValue value) operations.OnceValue among may =
         of_once (stages object_events.OnceValue object_replies.OnceValue once_event once_meaning _) (returns value) replies.OnceValue replies.OnceValue (of_value_kind _) (by_returns Is value)
     of_call_on place object_kinds.Pool (operations.Pool call) among may = of_pool_call _ _ _ call may
+    of_call_on place (object_kinds.Sema size) (operations.Sema call) among may = by_read Is replies.Lock _ (of_sema _ _)
+    of_call_on place (object_kinds.Flight atomic delta) (operations.Fly key) among may = by_flight Is (flight_part _) (adds _ delta) (of_flight _) (of_adds _ delta) _
     of_call_on place kind operation among may = λ items answer spelt. absurd spelt
 
     of_call_at : (place : ℕ) (object : Option ObjectLine) (operation : Operation) → IsAmong workers count (keys_in plan.scripts) operation → PutsAmong Puts operation → EachOf Is (call_at plan worker before place object operation)

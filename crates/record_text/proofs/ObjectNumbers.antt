@@ -52,6 +52,8 @@ parts_of workers (object_kinds.WaitGroup start) = omega arith
 parts_of workers (object_kinds.Once atomic delta) = omega arith
 parts_of workers (object_kinds.OnceFunc code) = omega arith
 parts_of workers (object_kinds.OnceValue value) = omega arith
+parts_of workers (object_kinds.Sema size) = omega arith
+parts_of workers (object_kinds.Flight atomic delta) = omega arith
 parts_of workers object_kinds.Var = omega arith
 
 part_length : (workers : ℕ) (object : ObjectLine) → length (named_parts workers object) ≡ cond (is_pool object.kind) 1 0 * workers

@@ -5,7 +5,7 @@ use Rattle.std.specs.List.{list_all}
 use Rattle.std.proofs.lemmas.Bool.{false≢true}
 use Rattle.std.proofs.lemmas.List.Folds.{list_all-append}
 use Rattle.sync_types.specs.declared.misuse.Misuse.{Misuse}
-use Rattle.sync_types.specs.declared.misuse.Misuse.TheVariants.{UnlockOfUnlockedMutex, RUnlockOfUnlockedRwMutex, UnlockOfUnlockedRwMutex, NegativeWaitGroupCounter, WaitGroupReused}
+use Rattle.sync_types.specs.declared.misuse.Misuse.TheVariants.{UnlockOfUnlockedMutex, RUnlockOfUnlockedRwMutex, UnlockOfUnlockedRwMutex, NegativeWaitGroupCounter, WaitGroupReused, SemaphoreOverReleased}
 use Rattle.workload.specs.declared.reason.Reason.{Reason}
 use Rattle.workload.specs.KeywordWords.{first_named}
 use Rattle.workload.specs.Plan.{Plan}
@@ -32,7 +32,7 @@ tail x y xs ys e = cc
 
 outcome_from : List ℕ → Option (Option Misuse)
 outcome_from line =
-    first_named outcome_line (None ∷ Some UnlockOfUnlockedMutex ∷ Some RUnlockOfUnlockedRwMutex ∷ Some UnlockOfUnlockedRwMutex ∷ Some NegativeWaitGroupCounter ∷ Some WaitGroupReused ∷ []) line
+    first_named outcome_line (None ∷ Some UnlockOfUnlockedMutex ∷ Some RUnlockOfUnlockedRwMutex ∷ Some UnlockOfUnlockedRwMutex ∷ Some NegativeWaitGroupCounter ∷ Some WaitGroupReused ∷ Some SemaphoreOverReleased ∷ []) line
 
 outcome_back : (m : Option Misuse) → outcome_from (outcome_line m) ≡ Some m
 unfolding outcome_from
@@ -42,6 +42,7 @@ outcome_back (Some RUnlockOfUnlockedRwMutex) = refl
 outcome_back (Some UnlockOfUnlockedRwMutex) = refl
 outcome_back (Some NegativeWaitGroupCounter) = refl
 outcome_back (Some WaitGroupReused) = refl
+outcome_back (Some SemaphoreOverReleased) = refl
 
 same_outcome : (m n : Option Misuse) → outcome_line m ≡ outcome_line n → m ≡ n
 same_outcome m n e = same_some m n (sym (outcome_back m) ∙ ap outcome_from e ∙ outcome_back n) where
@@ -60,6 +61,7 @@ outcome_letter (Some RUnlockOfUnlockedRwMutex) = refl
 outcome_letter (Some UnlockOfUnlockedRwMutex) = refl
 outcome_letter (Some NegativeWaitGroupCounter) = refl
 outcome_letter (Some WaitGroupReused) = refl
+outcome_letter (Some SemaphoreOverReleased) = refl
 
 said_letter : (said : Said) → get_or (said_word said) 0 0 ≡ 111 → ⊥
 said_letter (Call place reply) e = absurd (let other : 99 ≡ 111 = e in omega (arith, other))

@@ -219,6 +219,8 @@ few_parts workers (object_kinds.WaitGroup start) = omega arith
 few_parts workers (object_kinds.Once atomic delta) = omega arith
 few_parts workers (object_kinds.OnceFunc code) = omega arith
 few_parts workers (object_kinds.OnceValue value) = omega arith
+few_parts workers (object_kinds.Sema size) = omega arith
+few_parts workers (object_kinds.Flight atomic delta) = omega arith
 few_parts workers object_kinds.Var = omega arith
 
 parts_are : (sort : ObjectLine → Type 0) (workers : ℕ) (object : ObjectLine) → workers ≤ 32 → IsNamed object → sort object → AllByRecursion (IsPart sort) (named_parts workers object)

@@ -4,7 +4,7 @@ use Rattle.std.specs.Prelude.{nat_lt, if◌then◌else◌, ◌==◌, ◌+ℤ◌}
 use Rattle.std.specs.List.{AllByRecursion}
 use Rattle.std.proofs.lemmas.Bool.{lt-ltb}
 use Rattle.sync_types.specs.declared.misuse.Misuse.{Misuse}
-use Rattle.sync_types.specs.declared.misuse.Misuse.TheVariants.{UnlockOfUnlockedMutex, RUnlockOfUnlockedRwMutex, UnlockOfUnlockedRwMutex, NegativeWaitGroupCounter, WaitGroupReused}
+use Rattle.sync_types.specs.declared.misuse.Misuse.TheVariants.{UnlockOfUnlockedMutex, RUnlockOfUnlockedRwMutex, UnlockOfUnlockedRwMutex, NegativeWaitGroupCounter, WaitGroupReused, SemaphoreOverReleased}
 use Rattle.sync_model.specs.declared.journal.Deed.{Deed}
 use Rattle.sync_model.specs.declared.journal.Deed.TheVariants.{Event, Refused, Halt}
 use Rattle.sync_model.specs.declared.journal.Entry.{Entry}
@@ -45,6 +45,20 @@ use Rattle.wait_cores.specs.GroupMachine as group
 use Rattle.pool_core.specs.declared.pool_event.PoolEvent.{PoolEvent}
 use Rattle.pool_core.specs.declared.pool_event.PoolReply.{PoolReply}
 use Rattle.pool_core.specs.declared.pool_event.PoolReply.TheVariants as pool_replies
+use Rattle.sema_core.specs.declared.calls.SemaStage.{SemaStage}
+use Rattle.sema_core.specs.declared.calls.SemaStage.TheVariants as sema_stage
+use Rattle.sema_core.specs.declared.event.SemaEvent.{SemaEvent}
+use Rattle.sema_core.specs.declared.event.SemaEvent.TheVariants as sema_events
+use Rattle.sema_core.specs.declared.event.SemaReply.{SemaReply}
+use Rattle.sema_core.specs.declared.event.SemaReply.TheVariants as sema_replies
+use Rattle.sema_core.specs.SemaMachine as sema
+use Rattle.sema_core.specs.SemaStages.{release_meaning, sema_event, sema_meaning}
+use Rattle.flight_core.specs.declared.calls.FlightStage.{FlightStage}
+use Rattle.flight_core.specs.declared.calls.FlightStage.TheVariants as flight_stage
+use Rattle.flight_core.specs.declared.event.FlightEvent.{FlightEvent}
+use Rattle.flight_core.specs.declared.event.FlightReply.{FlightReply}
+use Rattle.flight_core.specs.declared.event.FlightReply.TheVariants as flight_replies
+use Rattle.flight_core.specs.FlightStages.{flight_event, flight_meaning}
 use Rattle.starts_core.specs.declared.protocol.StartsStage.{StartsStage}
 use Rattle.starts_core.specs.declared.protocol.StartsStage.TheVariants as starts_stage
 use Rattle.starts_core.specs.declared.starts.StartEvent.{StartEvent}
@@ -305,7 +319,43 @@ group_has workers caller s e r is (stage, now, at, means) =
     (λ delta add. subst (TellsGroup NegativeWaitGroupCounter) (sym (is ∙ ap (λ (x : GroupEvent). (group.next s caller x).1) (at ∙ add))) (add_tells s caller delta))
     (λ leave. subst (TellsGroup WaitGroupReused) (sym (is ∙ ap (λ (x : GroupEvent). (group.next s caller x).1) (at ∙ leave))) (leave_tells s caller)))
 
--- ---- conds, onces, parts of pools, and Starts
+-- ---- weighted semaphores
+
+abbrev TellsSema : SemaReply → Type 0
+TellsSema (sema_replies.Misused misuse) = misuse ≡ SemaphoreOverReleased
+TellsSema reply = Unit {0}
+
+release_tells : (s : sema.SemaState) (caller weight : ℕ) → TellsSema (sema.next s caller (sema_events.Release weight)).1
+release_tells s caller weight = by (nat_lt caller (sema.callers_of s)) where
+  released : (b : Bool) → TellsSema (if◌then◌else◌ {A = sema.SemaState × SemaReply} b (s, sema_replies.Misused SemaphoreOverReleased) (sema.settled (record s { held = s.held - weight }), sema_replies.Done)).1
+  released true = refl
+  released false = tt
+
+  by : (b : Bool) → TellsSema (if b then sema.made s caller (sema_events.Release weight) else (s, sema_replies.Still)).1
+  by true = released (nat_lt s.held weight)
+  by false = tt
+
+release_row : (workers weight : ℕ) (r : SemaReply) → IsStep (release_meaning r) → TellsSema r → HasRow workers kinds.Sema (events.Release weight) (written.sema_answer r)
+release_row workers weight sema_replies.Done means tells = (refl, λ h. refl)
+release_row workers weight (sema_replies.Misused misuse) means tells = subst (λ (m : Misuse). HasRow workers kinds.Sema (events.Release weight) (answers.Misused m)) (sym tells) (refl, λ h. refl)
+release_row workers weight r means tells = absurd means
+
+sema_row : (workers now : ℕ) (stage : SemaStage) (r : SemaReply) → IsStep (sema_meaning stage r) → ((weight : ℕ) → sema_event stage now ≡ sema_events.Release weight → TellsSema r) → HasRow workers kinds.Sema (written.sema_event (sema_event stage now)) (written.sema_answer r)
+sema_row workers now (sema_stage.Release weight) r means releases = release_row workers weight r means (releases weight refl)
+sema_row workers now (sema_stage.Acquire weight) sema_replies.Done means releases = (refl, λ h. refl)
+sema_row workers now (sema_stage.Acquire weight) sema_replies.Queued means releases = (refl, λ h. refl)
+sema_row workers now (sema_stage.Try weight) sema_replies.Done means releases = (refl, λ h. refl)
+sema_row workers now (sema_stage.Try weight) sema_replies.Refused means releases = (refl, λ h. refl)
+sema_row workers now sema_stage.Leave sema_replies.Done means releases = (refl, λ h. refl)
+sema_row workers now sema_stage.Leave sema_replies.Still means releases = (refl, λ h. refl)
+sema_row workers now stage r means releases = absurd means
+
+pub sema_has : (workers caller : ℕ) (s : sema.SemaState) (e : SemaEvent) (r : SemaReply) → r ≡ (sema.next s caller e).1 → IsMeantBy sema_event sema_meaning e r → HasRow workers kinds.Sema (written.sema_event e) (written.sema_answer r)
+sema_has workers caller s e r is (stage, now, at, means) =
+    subst (λ (x : SemaEvent). HasRow workers kinds.Sema (written.sema_event x) (written.sema_answer r)) (sym at)
+    (sema_row workers now stage r means (λ weight release. subst TellsSema (sym (is ∙ ap (λ (x : SemaEvent). (sema.next s caller x).1) (at ∙ release))) (release_tells s caller weight)))
+
+-- ---- conds, onces, parts of pools, flights, and Starts
 
 cond_row : (workers now : ℕ) (stage : CondStage) (r : NotifyReply) → IsStep (cond_meaning stage r) → HasRow workers kinds.Cond (written.cond_event (cond_event stage now)) (written.cond_answer r)
 cond_row workers now cond_stage.Ticket cond_replies.Done means = (refl, λ h. refl)
@@ -349,6 +399,17 @@ pool_row workers now stage r answer means is = absurd means
 
 pub pool_has : (workers : ℕ) (e : PoolEvent ℕ) (r : PoolReply ℕ) (answer : AnswerWord) → IsMeantBy pool_event pool_meaning e r → written.pool_answer r ≡ Some answer → HasRow workers kinds.PoolPart (written.pool_event e) answer
 pool_has workers e r answer (stage, now, at, means) is = subst (λ (x : PoolEvent ℕ). HasRow workers kinds.PoolPart (written.pool_event x) answer) (sym at) (pool_row workers now stage r answer means is)
+
+flight_row : (workers now : ℕ) (stage : FlightStage) (r : FlightReply) → IsStep (flight_meaning stage r) → HasRow workers kinds.Flight (written.flight_event (flight_event stage now)) (written.flight_answer r)
+flight_row workers now (flight_stage.Join key) flight_replies.Lead means = (refl, λ h. refl)
+flight_row workers now (flight_stage.Join key) flight_replies.Queued means = (refl, λ h. refl)
+flight_row workers now (flight_stage.Land value) (flight_replies.Landed shared) means = (refl, λ h. refl)
+flight_row workers now flight_stage.Leave (flight_replies.Left value) means = (refl, λ h. h)
+flight_row workers now flight_stage.Leave flight_replies.Still means = (refl, λ h. refl)
+flight_row workers now stage r means = absurd means
+
+pub flight_has : (workers : ℕ) (e : FlightEvent) (r : FlightReply) → IsMeantBy flight_event flight_meaning e r → HasRow workers kinds.Flight (written.flight_event e) (written.flight_answer r)
+flight_has workers e r (stage, now, at, means) = subst (λ (x : FlightEvent). HasRow workers kinds.Flight (written.flight_event x) (written.flight_answer r)) (sym at) (flight_row workers now stage r means)
 
 starts_row : (workers now : ℕ) (stage : StartsStage) (r : StartReply) → IsStep (starts_meaning stage r) → HasRow workers kinds.Starts (written.start_event (starts_event stage now)) (written.start_answer r)
 starts_row workers now (starts_stage.Start worker) start_replies.Done means = (refl, λ h. refl)

@@ -1,12 +1,12 @@
 -- An event, and an answer, is determined by its word.
-use Rattle.std.proofs.Common.{◌≡◌, ℕ, ◌^◌, ◌<◌, ◌≤◌, true, cond, eqb, List, [], ◌∷◌, Some, refl, sym, ap, ◌∙◌, arith}
+use Rattle.std.proofs.Common.{◌≡◌, ℕ, suc, ◌-◌, ℤ, pos, negsuc, ◌^◌, ◌<◌, ◌≤◌, true, cond, eqb, List, [], ◌∷◌, Some, refl, sym, ap, ◌∙◌, arith}
 use Rattle.std.specs.Prelude.{nat_lt, nat_le, ◌&&◌}
-use Rattle.std.specs.Fmt.{decimal}
+use Rattle.std.specs.Fmt.{decimal, signed_decimal}
 use Rattle.std.specs.Option.{option_map_or}
 use Rattle.std.specs.Str.{all_ascii_digits}
-use Rattle.std.proofs.lemmas.Bool.{ltb-true, leb-true, ne_eqb}
+use Rattle.std.proofs.lemmas.Bool.{lt-ltb, ltb-true, le-leb, leb-true, ne_eqb}
 use Rattle.sync_types.specs.declared.misuse.Misuse.{Misuse}
-use Rattle.sync_types.specs.declared.misuse.Misuse.TheVariants.{UnlockOfUnlockedMutex, RUnlockOfUnlockedRwMutex, UnlockOfUnlockedRwMutex, NegativeWaitGroupCounter, WaitGroupReused}
+use Rattle.sync_types.specs.declared.misuse.Misuse.TheVariants.{UnlockOfUnlockedMutex, RUnlockOfUnlockedRwMutex, UnlockOfUnlockedRwMutex, NegativeWaitGroupCounter, WaitGroupReused, SemaphoreOverReleased}
 use Rattle.workload.specs.KeywordWords.{first_named}
 use Rattle.workload.specs.NumberWords.{number_of}
 use Rattle.record_text.specs.declared.event.EventWord.{EventWord}
@@ -18,8 +18,8 @@ use Rattle.record_text.specs.declared.item_line.Whole.TheVariants.{Natural, Belo
 use Rattle.record_text.specs.EventWords.{event_name, event_operand, event_word, is_event, misuse_word}
 use Rattle.record_text.specs.AnswerWords.{answer_name, answer_operand, answer_word, is_answer}
 use Rattle.record_text.specs.Names.{up_to_mark, behind_mark, plain_event, plain_events, plain_answer, plain_answers}
-use Rattle.record_text.specs.Numbers.{is_whole, whole_word}
-use Rattle.record_text.proofs.Decimals.{both, digits, number_of-decimal, small}
+use Rattle.record_text.specs.Numbers.{is_int64, is_whole, whole_word}
+use Rattle.record_text.proofs.Decimals.{both, digits, number_of-decimal, small, smaller}
 use Rattle.record_text.proofs.NameLemmas.{event_name_is, event_operand_is, event_found, answer_name_is, answer_operand_is, answer_found}
 
 same_some : {X : Type 0} (x y : X) → Some x ≡ Some y → x ≡ y
@@ -50,8 +50,23 @@ whole_back (Below n) fits = ap (λ k. Below k) (number_of-decimal n (let high = 
 pub same_whole : (w v : Whole) → is_whole w ≡ true → is_whole v ≡ true → whole_word w ≡ whole_word v → w ≡ v
 same_whole w v fits other same = sym (whole_back w fits) ∙ ap whole_from same ∙ whole_back v other
 
+signed_in : Whole → ℤ
+signed_in (Natural n) = pos n
+signed_in (Below n) = negsuc (n - 1)
+
+signed_from : List ℕ → ℤ
+signed_from word = signed_in (whole_from word)
+
+signed_back : (z : ℤ) → is_int64 z ≡ true → signed_from (signed_decimal z) ≡ z
+unfolding signed_from signed_in
+signed_back (pos n) fits = ap signed_in (whole_back (Natural n) (lt-ltb n (2 ^ 64) (let low = ltb-true n (2 ^ 63) fits in omega (arith, low))))
+signed_back (negsuc n) fits =
+    let low = ltb-true n (2 ^ 63) fits in
+    ap signed_in (whole_back (Below (suc n)) (ap (λ b. b && nat_le (suc n) (2 ^ 63)) (lt-ltb 0 (suc n) (omega arith)) ∙ le-leb (suc n) (2 ^ 63) (omega (arith, low))))
+    ∙ ap negsuc (let same : suc n - 1 ≡ n = omega arith in same)
+
 misuse_from : List ℕ → Misuse
-misuse_from word = option_map_or (λ m. m) (first_named misuse_word (UnlockOfUnlockedMutex ∷ RUnlockOfUnlockedRwMutex ∷ UnlockOfUnlockedRwMutex ∷ NegativeWaitGroupCounter ∷ WaitGroupReused ∷ []) word) UnlockOfUnlockedMutex
+misuse_from word = option_map_or (λ m. m) (first_named misuse_word (UnlockOfUnlockedMutex ∷ RUnlockOfUnlockedRwMutex ∷ UnlockOfUnlockedRwMutex ∷ NegativeWaitGroupCounter ∷ WaitGroupReused ∷ SemaphoreOverReleased ∷ []) word) UnlockOfUnlockedMutex
 
 misuse_back : (m : Misuse) → misuse_from (misuse_word m) ≡ m
 unfolding misuse_from
@@ -60,6 +75,7 @@ misuse_back RUnlockOfUnlockedRwMutex = refl
 misuse_back UnlockOfUnlockedRwMutex = refl
 misuse_back NegativeWaitGroupCounter = refl
 misuse_back WaitGroupReused = refl
+misuse_back SemaphoreOverReleased = refl
 
 -- ---- events
 
@@ -70,6 +86,11 @@ event_from (events.WriteArrive n) word = events.WriteArrive (number_of word)
 event_from (events.WriteWoken n) word = events.WriteWoken (number_of word)
 event_from (events.Add n) word = events.Add (whole_from word)
 event_from (events.Put n) word = events.Put (number_of word)
+event_from (events.Acquire n) word = events.Acquire (number_of word)
+event_from (events.TryAcquire n) word = events.TryAcquire (number_of word)
+event_from (events.Release n) word = events.Release (number_of word)
+event_from (events.Join n) word = events.Join (number_of word)
+event_from (events.Land n) word = events.Land (signed_from word)
 event_from (events.Start n) word = events.Start (number_of word)
 event_from (events.Halt m) word = events.Halt (misuse_from word)
 event_from event word = event
@@ -100,6 +121,11 @@ event_back workers low events.LookOwn fits = refl
 event_back workers low events.LookOther fits = refl
 event_back workers low events.LookVictim fits = refl
 event_back workers low events.Sweep fits = refl
+event_back workers low (events.Acquire n) fits = ap (λ k. events.Acquire k) (number_of-decimal n (small n fits))
+event_back workers low (events.TryAcquire n) fits = ap (λ k. events.TryAcquire k) (number_of-decimal n (small n fits))
+event_back workers low (events.Release n) fits = ap (λ k. events.Release k) (number_of-decimal n (small n fits))
+event_back workers low (events.Join n) fits = ap (λ k. events.Join k) (number_of-decimal n (smaller n fits))
+event_back workers low (events.Land z) fits = ap (λ k. events.Land k) (signed_back z fits)
 event_back workers low (events.Start n) fits = ap (λ k. events.Start k) (number_of-decimal n (few n workers low fits))
 event_back workers low (events.Halt m) fits = ap (λ k. events.Halt k) (misuse_back m)
 
@@ -116,6 +142,7 @@ answer_from : AnswerWord → List ℕ → AnswerWord
 answer_from (answers.Woke n) word = answers.Woke (number_of word)
 answer_from (answers.Handed n) word = answers.Handed (number_of word)
 answer_from (answers.Item n) word = answers.Item (number_of word)
+answer_from (answers.Left n) word = answers.Left (signed_from word)
 answer_from (answers.Halted m) word = answers.Halted (misuse_from word)
 answer_from answer word = answer
 
@@ -130,6 +157,8 @@ answer_back workers low answers.Done fits = refl
 answer_back workers low answers.Run fits = refl
 answer_back workers low answers.Ran fits = refl
 answer_back workers low answers.Nothing fits = refl
+answer_back workers low answers.Refused fits = refl
+answer_back workers low answers.Lead fits = refl
 answer_back workers low answers.Go fits = refl
 answer_back workers low answers.Never fits = refl
 answer_back workers low (answers.Tried t) fits = refl
@@ -137,6 +166,7 @@ answer_back workers low (answers.Misused m) fits = refl
 answer_back workers low (answers.Woke n) fits = ap (λ k. answers.Woke k) (number_of-decimal n (few n workers low fits))
 answer_back workers low (answers.Handed n) fits = ap (λ k. answers.Handed k) (number_of-decimal n (few n workers low fits))
 answer_back workers low (answers.Item n) fits = ap (λ k. answers.Item k) (number_of-decimal n (small n fits))
+answer_back workers low (answers.Left z) fits = ap (λ k. answers.Left k) (signed_back z fits)
 answer_back workers low (answers.Halted m) fits = ap (λ k. answers.Halted k) (misuse_back m)
 
 pub same_answer : (workers : ℕ) → workers ≤ 32 → (a b : AnswerWord) → is_answer workers a ≡ true → is_answer workers b ≡ true → answer_word a ≡ answer_word b → a ≡ b

@@ -1,12 +1,12 @@
 -- A line of small counts is short.
-use Rattle.std.proofs.Common.{◌≡◌, ℕ, suc, ◌+◌, ◌*◌, ◌^◌, ◌<◌, ◌≤◌, Bool, true, false, ◌&&◌, eqb, nat_le, List, [], ◌∷◌, ◌++◌, length, get_or, codes, Option, Some, None, arith, length-append}
+use Rattle.std.proofs.Common.{◌≡◌, ℕ, suc, ℤ, pos, negsuc, ◌+◌, ◌*◌, ◌^◌, ◌<◌, ◌≤◌, Bool, true, false, ◌&&◌, eqb, nat_le, List, [], ◌∷◌, ◌++◌, length, get_or, codes, Option, Some, None, arith, length-append}
 use Rattle.std.specs.Prelude.{nat_lt}
 use Rattle.std.specs.List.{join_with_byte, list_all}
-use Rattle.std.specs.Fmt.{decimal}
+use Rattle.std.specs.Fmt.{decimal, signed_decimal}
 use Rattle.std.proofs.lemmas.Bool.{eqb-true, leb-true, ltb-true}
 use Rattle.std.proofs.lemmas.Fmt.{length-decimal-le}
 use Rattle.sync_types.specs.declared.misuse.Misuse.{Misuse}
-use Rattle.sync_types.specs.declared.misuse.Misuse.TheVariants.{UnlockOfUnlockedMutex, RUnlockOfUnlockedRwMutex, UnlockOfUnlockedRwMutex, NegativeWaitGroupCounter, WaitGroupReused}
+use Rattle.sync_types.specs.declared.misuse.Misuse.TheVariants.{UnlockOfUnlockedMutex, RUnlockOfUnlockedRwMutex, UnlockOfUnlockedRwMutex, NegativeWaitGroupCounter, WaitGroupReused, SemaphoreOverReleased}
 use Rattle.workload.specs.Keys.{key_name, keys_in}
 use Rattle.workload.specs.Plan.{Plan}
 use Rattle.workload.specs.Readable.{IsReadable}
@@ -25,9 +25,9 @@ use Rattle.record_text.specs.declared.limits.TheConstants.{MAX_RECORD_LINE}
 use Rattle.record_text.specs.AnswerWords.{answer_word, is_answer, small_misuse_word, truth_word}
 use Rattle.record_text.specs.EventWords.{event_word, is_event, misuse_word}
 use Rattle.record_text.specs.ItemLines.{index_word, is_index, is_item, is_place, is_reply, is_said, is_shown, item_text, item_words, object_word, reply_words, said_word, said_words, shown_word}
-use Rattle.record_text.specs.Numbers.{front_word, has_64_bits, is_front, is_whole, whole_word}
+use Rattle.record_text.specs.Numbers.{front_word, has_64_bits, is_front, is_int64, is_whole, whole_word}
 use Rattle.record_text.specs.WrittenLines.{count_in, has_small_counts, is_small}
-use Rattle.record_text.proofs.Decimals.{both, small}
+use Rattle.record_text.proofs.Decimals.{both, small, smaller}
 use Rattle.record_text.proofs.ItemTexts.{keys_each, name_of_key}
 use Rattle.record_text.proofs.ReadPlans.{few_calls}
 use Rattle.record_text.proofs.SaidLemmas.{entry_fits}
@@ -47,6 +47,13 @@ whole_short (Below n) fits =
     let high = leb-true n (2 ^ 63) (both (nat_lt 0 n) (nat_le n (2 ^ 63)) fits).1 in
     let digits = length-decimal-le 19 n (omega arith) (omega (arith, high)) (omega (arith, high)) in
     let e : suc (length (decimal n)) ≤ 20 = omega (arith, digits) in e
+
+signed_short : (z : ℤ) → is_int64 z ≡ true → length (signed_decimal z) ≤ 20
+signed_short (pos n) fits = wide n (let low = ltb-true n (2 ^ 63) fits in omega (arith, low))
+signed_short (negsuc n) fits =
+    let high = ltb-true n (2 ^ 63) fits in
+    let digits = length-decimal-le 19 (suc n) (omega arith) (omega (arith, high)) (omega (arith, high)) in
+    let e : suc (length (decimal (suc n))) ≤ 20 = omega (arith, digits) in e
 
 front_short : (front : List ℕ) → list_all is_small front ≡ true → length (front_word front) ≤ 8 * length front
 front_short [] h = omega arith
@@ -72,6 +79,7 @@ misuse_short RUnlockOfUnlockedRwMutex = omega arith
 misuse_short UnlockOfUnlockedRwMutex = omega arith
 misuse_short NegativeWaitGroupCounter = omega arith
 misuse_short WaitGroupReused = omega arith
+misuse_short SemaphoreOverReleased = omega arith
 
 small_misuse_short : (m : Misuse) → length (small_misuse_word m ++ []) ≤ 27
 small_misuse_short UnlockOfUnlockedMutex = omega arith
@@ -79,6 +87,7 @@ small_misuse_short RUnlockOfUnlockedRwMutex = omega arith
 small_misuse_short UnlockOfUnlockedRwMutex = omega arith
 small_misuse_short NegativeWaitGroupCounter = omega arith
 small_misuse_short WaitGroupReused = omega arith
+small_misuse_short SemaphoreOverReleased = omega arith
 
 truth_short : (truth : Bool) → length (truth_word truth) ≤ 5
 truth_short true = omega arith
@@ -95,6 +104,11 @@ event_short workers few (events.WriteArrive n) fits = behind_name (codes "w_arri
 event_short workers few (events.WriteWoken n) fits = behind_name (codes "w_woken@") (decimal n) (omega arith) (wide n (small n fits))
 event_short workers few (events.Add w) fits = behind_name (codes "add=") (whole_word w) (omega arith) (whole_short w fits)
 event_short workers few (events.Put n) fits = behind_name (codes "put=") (decimal n) (omega arith) (wide n (small n fits))
+event_short workers few (events.Acquire n) fits = behind_name (codes "acquire=") (decimal n) (omega arith) (wide n (small n fits))
+event_short workers few (events.TryAcquire n) fits = behind_name (codes "try=") (decimal n) (omega arith) (wide n (small n fits))
+event_short workers few (events.Release n) fits = behind_name (codes "release=") (decimal n) (omega arith) (wide n (small n fits))
+event_short workers few (events.Join n) fits = behind_name (codes "join=") (decimal n) (omega arith) (wide n (smaller n fits))
+event_short workers few (events.Land z) fits = behind_name (codes "land=") (signed_decimal z) (omega arith) (signed_short z fits)
 event_short workers few (events.Start n) fits = behind_name (codes "start=") (decimal n) (omega arith) (let short = worker_short n workers few fits in omega (arith, short))
 event_short workers few (events.Halt m) fits = behind_name (codes "halt=") (misuse_word m) (omega arith) (let short = misuse_short m in omega (arith, short))
 event_short workers few events.Try fits = omega arith
@@ -124,6 +138,7 @@ answer_short : (workers : ℕ) → workers ≤ 32 → (a : AnswerWord) → is_an
 answer_short workers few (answers.Woke n) fits = behind_short (codes "woke=") (decimal n) (omega arith) (let short = worker_short n workers few fits in omega (arith, short))
 answer_short workers few (answers.Handed n) fits = behind_short (codes "handed=") (decimal n) (omega arith) (let short = worker_short n workers few fits in omega (arith, short))
 answer_short workers few (answers.Item n) fits = behind_short (codes "item=") (decimal n) (omega arith) (wide n (small n fits))
+answer_short workers few (answers.Left z) fits = behind_short (codes "left=") (signed_decimal z) (omega arith) (signed_short z fits)
 answer_short workers few (answers.Halted m) fits = behind_short (codes "halted=") (misuse_word m) (omega arith) (let short = misuse_short m in omega (arith, short))
 answer_short workers few (answers.Misused m) fits = small_misuse_short m
 answer_short workers few (answers.Tried true) fits = omega arith
@@ -137,6 +152,8 @@ answer_short workers few answers.Done fits = omega arith
 answer_short workers few answers.Run fits = omega arith
 answer_short workers few answers.Ran fits = omega arith
 answer_short workers few answers.Nothing fits = omega arith
+answer_short workers few answers.Refused fits = omega arith
+answer_short workers few answers.Lead fits = omega arith
 answer_short workers few answers.Go fits = omega arith
 answer_short workers few answers.Never fits = omega arith
 

@@ -6,12 +6,12 @@ use Rattle.std.proofs.lemmas.List.{length-map}
 use Rattle.std.proofs.lemmas.List.Folds.{list_all-append}
 use Rattle.std.proofs.lemmas.Slice.Eq.{bytes_eq-Decides}
 use Rattle.sync_types.specs.declared.misuse.Misuse.{Misuse}
-use Rattle.sync_types.specs.declared.misuse.Misuse.TheVariants.{UnlockOfUnlockedMutex, RUnlockOfUnlockedRwMutex, UnlockOfUnlockedRwMutex, NegativeWaitGroupCounter, WaitGroupReused}
+use Rattle.sync_types.specs.declared.misuse.Misuse.TheVariants.{UnlockOfUnlockedMutex, RUnlockOfUnlockedRwMutex, UnlockOfUnlockedRwMutex, NegativeWaitGroupCounter, WaitGroupReused, SemaphoreOverReleased}
 use Rattle.workload.specs.declared.keyword.Dialect.TheVariants.{Plain}
 use Rattle.workload.specs.declared.line.Line.{Line}
 use Rattle.workload.specs.declared.line.Line.TheVariants as lines
 use Rattle.workload.specs.Canonical.{canonical, lines_text, text_line}
-use Rattle.workload.specs.Dialect.{has_variables}
+use Rattle.workload.specs.Dialect.{has_unrecorded}
 use Rattle.workload.specs.Draft.{Draft}
 use Rattle.workload.specs.Lines.{is_significant, lines_of, words_of}
 use Rattle.workload.specs.Plan.{Plan}
@@ -162,6 +162,7 @@ outcome_plain (Some RUnlockOfUnlockedRwMutex) = refl
 outcome_plain (Some UnlockOfUnlockedRwMutex) = refl
 outcome_plain (Some NegativeWaitGroupCounter) = refl
 outcome_plain (Some WaitGroupReused) = refl
+outcome_plain (Some SemaphoreOverReleased) = refl
 
 record_plain : (plan : Plan) (items : List ItemLine) (misused : Option Misuse) → IsReadable plan → list_all (is_item plan) items ≡ true → AllByRecursion IsPlain (record_lines plan items misused)
 record_plain plan items misused readable fits = (refl, each_both IsPlain (map (item_text plan) items) (outcome_line misused ∷ []) (items_plain plan items readable fits) (outcome_plain misused, tt))
@@ -200,8 +201,8 @@ before_record (line ∷ texts) before plan (after, read, rest) =
 
 -- ---- the whole text
 
-pub tells : ((plan : Plan) → IsReadable plan → has_variables plan ≡ false → Reads (canonical plan) plan)
-    → (plan : Plan) (items : List ItemLine) (misused : Option Misuse) (report : List ℕ) → IsReadable plan → has_variables plan ≡ false
+pub tells : ((plan : Plan) → IsReadable plan → has_unrecorded plan ≡ false → Reads (canonical plan) plan)
+    → (plan : Plan) (items : List ItemLine) (misused : Option Misuse) (report : List ℕ) → IsReadable plan → has_unrecorded plan ≡ false
     → list_all (is_item plan) items ≡ true → list_all is_short_line (map (item_text plan) items) ≡ true → length items ≤ MAX_ITEMS
     → list_all is_short_line (lines_of report) ≡ true → length (record_text plan items misused report) ≤ MAX_RECORD
     → IsTold (record_text plan items misused report) (record { plan = plan; items = items; misused = misused; report = lines_of report })

@@ -1,19 +1,19 @@
 -- The words of what an object answers, and which answers an event may have.
 use Rattle.std.specs.Prelude.{ℕ, Bool, true, false, nat_lt, List, ◌++◌, codes, Option, Some, None}
-use Rattle.std.specs.Fmt.{decimal}
+use Rattle.std.specs.Fmt.{decimal, signed_decimal}
 use Rattle.std.specs.Option.{option_map_or}
 use Rattle.sync_types.specs.declared.misuse.Misuse.{Misuse}
-use Rattle.sync_types.specs.declared.misuse.Misuse.TheVariants.{UnlockOfUnlockedMutex, RUnlockOfUnlockedRwMutex, UnlockOfUnlockedRwMutex, NegativeWaitGroupCounter, WaitGroupReused}
+use Rattle.sync_types.specs.declared.misuse.Misuse.TheVariants.{UnlockOfUnlockedMutex, RUnlockOfUnlockedRwMutex, UnlockOfUnlockedRwMutex, NegativeWaitGroupCounter, WaitGroupReused, SemaphoreOverReleased}
 use Rattle.record_text.specs.declared.event.EventWord.{EventWord}
 use Rattle.record_text.specs.declared.event.EventWord.TheVariants as events
 use Rattle.record_text.specs.declared.event.JournalKind.{JournalKind}
 use Rattle.record_text.specs.declared.event.JournalKind.TheVariants as kinds
 use Rattle.record_text.specs.declared.answer.AnswerWord.{AnswerWord}
-use Rattle.record_text.specs.declared.answer.AnswerWord.TheVariants.{Acquired, Queued, Requeued, Still, Tried, Free, Woke, Handed, Misused, Done, Run, Ran, Item, Nothing, Go, Never, Halted}
+use Rattle.record_text.specs.declared.answer.AnswerWord.TheVariants.{Acquired, Queued, Requeued, Still, Tried, Free, Woke, Handed, Misused, Done, Run, Ran, Item, Nothing, Refused, Lead, Left, Go, Never, Halted}
 use Rattle.record_text.specs.declared.answer.AnswerRow.{AnswerRow}
 use Rattle.record_text.specs.declared.answer.AnswerRow.TheVariants as rows
 use Rattle.record_text.specs.EventWords.{misuse_word}
-use Rattle.record_text.specs.Numbers.{has_64_bits}
+use Rattle.record_text.specs.Numbers.{has_64_bits, is_int64}
 
 -- the word of a misuse that the event itself is
 abbrev pub small_misuse_word : Misuse → List ℕ
@@ -22,6 +22,7 @@ small_misuse_word RUnlockOfUnlockedRwMutex = codes "m2"
 small_misuse_word UnlockOfUnlockedRwMutex = codes "m3"
 small_misuse_word NegativeWaitGroupCounter = codes "m4"
 small_misuse_word WaitGroupReused = codes "m5"
+small_misuse_word SemaphoreOverReleased = codes "m6"
 
 abbrev pub truth_word : Bool → List ℕ
 truth_word true = codes "true"
@@ -43,6 +44,9 @@ answer_name Run = codes "run"
 answer_name Ran = codes "done"
 answer_name (Item item) = codes "item="
 answer_name Nothing = codes "none"
+answer_name Refused = codes "refused"
+answer_name Lead = codes "lead"
+answer_name (Left value) = codes "left="
 answer_name Go = codes "go"
 answer_name Never = codes "never"
 answer_name (Halted misuse) = codes "halted="
@@ -52,6 +56,7 @@ abbrev pub answer_operand : AnswerWord → List ℕ
 answer_operand (Woke worker) = decimal worker
 answer_operand (Handed worker) = decimal worker
 answer_operand (Item item) = decimal item
+answer_operand (Left value) = signed_decimal value
 answer_operand (Halted misuse) = misuse_word misuse
 answer_operand answer = codes ""
 
@@ -63,6 +68,7 @@ abbrev pub is_answer : ℕ → AnswerWord → Bool
 is_answer workers (Woke worker) = nat_lt worker workers
 is_answer workers (Handed worker) = nat_lt worker workers
 is_answer workers (Item item) = has_64_bits item
+is_answer workers (Left value) = is_int64 value
 is_answer workers answer = true
 
 -- whether the answer is one of the row. Where an object was halted it answers any event so, but for a halt
@@ -103,6 +109,14 @@ is_in rows.Beginning Queued = true
 is_in rows.Beginning Ran = true
 is_in rows.Look (Item item) = true
 is_in rows.Look Nothing = true
+is_in rows.WeightTrial Done = true
+is_in rows.WeightTrial Refused = true
+is_in rows.WeightRelease Done = true
+is_in rows.WeightRelease (Misused SemaphoreOverReleased) = true
+is_in rows.Joining Lead = true
+is_in rows.Joining Queued = true
+is_in rows.FlightLeaving (Left value) = true
+is_in rows.FlightLeaving Still = true
 is_in rows.StartLeaving Go = true
 is_in rows.StartLeaving Never = true
 is_in rows.StartLeaving Still = true
@@ -155,6 +169,19 @@ pool_part_row events.LookVictim = Some rows.Look
 pool_part_row events.Sweep = Some rows.Made
 pool_part_row event = None
 
+abbrev pub sema_row : EventWord → Option AnswerRow
+sema_row (events.Acquire weight) = Some rows.Waiting
+sema_row (events.TryAcquire weight) = Some rows.WeightTrial
+sema_row (events.Release weight) = Some rows.WeightRelease
+sema_row events.Leave = Some rows.Leaving
+sema_row event = None
+
+abbrev pub flight_row : EventWord → Option AnswerRow
+flight_row (events.Join key) = Some rows.Joining
+flight_row (events.Land value) = Some rows.Trial
+flight_row events.Leave = Some rows.FlightLeaving
+flight_row event = None
+
 abbrev pub starts_row : EventWord → Option AnswerRow
 starts_row (events.Start worker) = Some rows.Made
 starts_row events.End = Some rows.Made
@@ -172,6 +199,8 @@ row_of kinds.Cond event = cond_row event
 row_of kinds.WaitGroup event = wait_group_row event
 row_of kinds.Once event = once_row event
 row_of kinds.PoolPart event = pool_part_row event
+row_of kinds.Sema event = sema_row event
+row_of kinds.Flight event = flight_row event
 row_of kinds.Starts event = starts_row event
 
 -- whether a journal of this kind may have the event with the answer

@@ -1,11 +1,11 @@
 -- The words of what is done on an object.
 use Rattle.std.specs.Prelude.{ℕ, Bool, true, nat_lt, List, ◌++◌, codes}
-use Rattle.std.specs.Fmt.{decimal}
+use Rattle.std.specs.Fmt.{decimal, signed_decimal}
 use Rattle.sync_types.specs.declared.misuse.Misuse.{Misuse}
-use Rattle.sync_types.specs.declared.misuse.Misuse.TheVariants.{UnlockOfUnlockedMutex, RUnlockOfUnlockedRwMutex, UnlockOfUnlockedRwMutex, NegativeWaitGroupCounter, WaitGroupReused}
+use Rattle.sync_types.specs.declared.misuse.Misuse.TheVariants.{UnlockOfUnlockedMutex, RUnlockOfUnlockedRwMutex, UnlockOfUnlockedRwMutex, NegativeWaitGroupCounter, WaitGroupReused, SemaphoreOverReleased}
 use Rattle.record_text.specs.declared.event.EventWord.{EventWord}
-use Rattle.record_text.specs.declared.event.EventWord.TheVariants.{Arrive, Try, Unlock, Woken, ReadArrive, ReadTry, ReadUnlock, WriteArrive, WriteTry, WriteWoken, WriteUnlock, Leave, Ticket, Signal, Broadcast, Add, Wait, Begin, End, Put, LookOwn, LookOther, LookVictim, Sweep, Start, Halt}
-use Rattle.record_text.specs.Numbers.{has_64_bits, is_whole, whole_word}
+use Rattle.record_text.specs.declared.event.EventWord.TheVariants.{Arrive, Try, Unlock, Woken, ReadArrive, ReadTry, ReadUnlock, WriteArrive, WriteTry, WriteWoken, WriteUnlock, Leave, Ticket, Signal, Broadcast, Add, Wait, Begin, End, Put, LookOwn, LookOther, LookVictim, Sweep, Acquire, TryAcquire, Release, Join, Land, Start, Halt}
+use Rattle.record_text.specs.Numbers.{has_32_bits, has_64_bits, is_int64, is_whole, whole_word}
 
 -- the word of a misuse
 abbrev pub misuse_word : Misuse → List ℕ
@@ -14,6 +14,7 @@ misuse_word RUnlockOfUnlockedRwMutex = codes "M2"
 misuse_word UnlockOfUnlockedRwMutex = codes "M3"
 misuse_word NegativeWaitGroupCounter = codes "M4"
 misuse_word WaitGroupReused = codes "M5"
+misuse_word SemaphoreOverReleased = codes "M6"
 
 -- what the word of an event begins with: all of it, or up to an `@` or a `=`
 abbrev pub event_name : EventWord → List ℕ
@@ -41,6 +42,11 @@ event_name LookOwn = codes "look_own"
 event_name LookOther = codes "look_other"
 event_name LookVictim = codes "look_victim"
 event_name Sweep = codes "sweep"
+event_name (Acquire weight) = codes "acquire="
+event_name (TryAcquire weight) = codes "try="
+event_name (Release weight) = codes "release="
+event_name (Join key) = codes "join="
+event_name (Land value) = codes "land="
 event_name (Start worker) = codes "start="
 event_name (Halt misuse) = codes "halt="
 
@@ -52,6 +58,11 @@ event_operand (WriteArrive now) = decimal now
 event_operand (WriteWoken now) = decimal now
 event_operand (Add amount) = whole_word amount
 event_operand (Put item) = decimal item
+event_operand (Acquire weight) = decimal weight
+event_operand (TryAcquire weight) = decimal weight
+event_operand (Release weight) = decimal weight
+event_operand (Join key) = decimal key
+event_operand (Land value) = signed_decimal value
 event_operand (Start worker) = decimal worker
 event_operand (Halt misuse) = misuse_word misuse
 event_operand event = codes ""
@@ -67,5 +78,10 @@ is_event workers (WriteArrive now) = has_64_bits now
 is_event workers (WriteWoken now) = has_64_bits now
 is_event workers (Add amount) = is_whole amount
 is_event workers (Put item) = has_64_bits item
+is_event workers (Acquire weight) = has_64_bits weight
+is_event workers (TryAcquire weight) = has_64_bits weight
+is_event workers (Release weight) = has_64_bits weight
+is_event workers (Join key) = has_32_bits key
+is_event workers (Land value) = is_int64 value
 is_event workers (Start worker) = nat_lt worker workers
 is_event workers event = true

@@ -23,6 +23,8 @@ kind_of (objects.Once atomic delta) = kinds.Once
 kind_of (objects.OnceFunc code) = kinds.Once
 kind_of (objects.OnceValue value) = kinds.Once
 kind_of objects.Pool = kinds.Empty
+kind_of (objects.Sema size) = kinds.Sema
+kind_of (objects.Flight atomic delta) = kinds.Flight
 kind_of objects.Var = kinds.Empty
 
 -- an object that the workload declares goes by its name

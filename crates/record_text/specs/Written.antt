@@ -37,6 +37,14 @@ use Rattle.pool_core.specs.declared.pool_event.PoolEvent.{PoolEvent}
 use Rattle.pool_core.specs.declared.pool_event.PoolEvent.TheVariants as pool_events
 use Rattle.pool_core.specs.declared.pool_event.PoolReply.{PoolReply}
 use Rattle.pool_core.specs.declared.pool_event.PoolReply.TheVariants as pool_replies
+use Rattle.sema_core.specs.declared.event.SemaEvent.{SemaEvent}
+use Rattle.sema_core.specs.declared.event.SemaEvent.TheVariants as sema_events
+use Rattle.sema_core.specs.declared.event.SemaReply.{SemaReply}
+use Rattle.sema_core.specs.declared.event.SemaReply.TheVariants as sema_replies
+use Rattle.flight_core.specs.declared.event.FlightEvent.{FlightEvent}
+use Rattle.flight_core.specs.declared.event.FlightEvent.TheVariants as flight_events
+use Rattle.flight_core.specs.declared.event.FlightReply.{FlightReply}
+use Rattle.flight_core.specs.declared.event.FlightReply.TheVariants as flight_replies
 use Rattle.starts_core.specs.declared.starts.StartEvent.{StartEvent}
 use Rattle.starts_core.specs.declared.starts.StartEvent.TheVariants as start_events
 use Rattle.starts_core.specs.declared.starts.StartReply.{StartReply}
@@ -140,6 +148,17 @@ pool_event (pool_events.LookOther part) = events.LookOther
 pool_event (pool_events.LookVictim part) = events.LookVictim
 pool_event pool_events.Sweep = events.Sweep
 
+abbrev pub sema_event : SemaEvent → EventWord
+sema_event (sema_events.Acquire weight) = events.Acquire weight
+sema_event (sema_events.Try weight) = events.TryAcquire weight
+sema_event (sema_events.Release weight) = events.Release weight
+sema_event sema_events.Leave = events.Leave
+
+abbrev pub flight_event : FlightEvent → EventWord
+flight_event (flight_events.Join key) = events.Join key
+flight_event (flight_events.Land value) = events.Land value
+flight_event flight_events.Leave = events.Leave
+
 abbrev pub start_event : StartEvent → EventWord
 start_event (start_events.Start worker) = events.Start worker
 start_event start_events.End = events.End
@@ -154,6 +173,8 @@ event_of (object_events.Once event) = once_event event
 event_of (object_events.OnceFunc event) = once_event event
 event_of (object_events.OnceValue event) = once_event event
 event_of (object_events.Pool event) = pool_event event
+event_of (object_events.Sema event) = sema_event event
+event_of (object_events.Flight event) = flight_event event
 event_of (object_events.Starts event) = start_event event
 
 -- ---- the answer
@@ -210,6 +231,20 @@ pool_answer pool_replies.Nothing = Some words.Nothing
 pool_answer pool_replies.Swept = Some words.Done
 pool_answer pool_replies.Still = Some words.Still
 
+abbrev pub sema_answer : SemaReply → AnswerWord
+sema_answer sema_replies.Done = words.Done
+sema_answer sema_replies.Queued = words.Queued
+sema_answer sema_replies.Refused = words.Refused
+sema_answer (sema_replies.Misused misuse) = words.Misused misuse
+sema_answer sema_replies.Still = words.Still
+
+abbrev pub flight_answer : FlightReply → AnswerWord
+flight_answer flight_replies.Lead = words.Lead
+flight_answer flight_replies.Queued = words.Queued
+flight_answer (flight_replies.Landed shared) = words.Tried shared
+flight_answer (flight_replies.Left value) = words.Left value
+flight_answer flight_replies.Still = words.Still
+
 abbrev pub start_answer : StartReply → AnswerWord
 start_answer start_replies.Done = words.Done
 start_answer start_replies.Go = words.Go
@@ -225,6 +260,8 @@ answer_of (object_replies.Once reply) = Some (once_answer reply)
 answer_of (object_replies.OnceFunc reply) = Some (once_answer reply)
 answer_of (object_replies.OnceValue reply) = Some (once_answer reply)
 answer_of (object_replies.Pool reply) = pool_answer reply
+answer_of (object_replies.Sema reply) = Some (sema_answer reply)
+answer_of (object_replies.Flight reply) = Some (flight_answer reply)
 answer_of (object_replies.Starts reply) = Some (start_answer reply)
 
 -- what is said of an entry of an object's journal, by its number there

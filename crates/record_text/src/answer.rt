@@ -12,7 +12,7 @@ pub enum AnswerWord {
     Requeued,
     /// `still`.
     Still,
-    /// `true` or `false`.
+    /// `true` or `false`: whether a lock was had, or whether a flight was shared.
     Tried(bool),
     /// `free`.
     Free,
@@ -20,7 +20,7 @@ pub enum AnswerWord {
     Woke { worker: u32 },
     /// `handed=I`.
     Handed { worker: u32 },
-    /// `m1` to `m5`.
+    /// `m1` to `m6`.
     Misused(Misuse),
     /// `ok`.
     Done,
@@ -32,6 +32,12 @@ pub enum AnswerWord {
     Item { item: u64 },
     /// `none`.
     Nothing,
+    /// `refused`.
+    Refused,
+    /// `lead`.
+    Lead,
+    /// `left=X`.
+    Left { value: i64 },
     /// `go`.
     Go,
     /// `never`.
@@ -71,6 +77,14 @@ pub enum AnswerRow {
     Beginning,
     /// `item=V none`.
     Look,
+    /// `ok refused`.
+    WeightTrial,
+    /// `ok m6`.
+    WeightRelease,
+    /// `lead queued`.
+    Joining,
+    /// `left=X still`.
+    FlightLeaving,
     /// `go never still`.
     StartLeaving,
     /// `ok`, and nothing that a halt answers.

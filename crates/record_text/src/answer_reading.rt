@@ -1,18 +1,18 @@
 //! The answer that a word is, and whether an event may have it.
 ghost use Rattle.std.specs.Prelude.{◌≡◌, ◌≤◌, true, length, MatchOption};
 ghost use Rattle.workload.specs.KeywordWords.{first_named};
-ghost use Rattle.record_text.specs.AnswerWords.{answer_name, answer_operand, answer_word, cond_row, has_answer, is_answer, is_in, mutex_row, once_row, pool_part_row, row_of, rw_mutex_row, starts_row, wait_group_row};
+ghost use Rattle.record_text.specs.AnswerWords.{answer_name, answer_operand, answer_word, cond_row, flight_row, has_answer, is_answer, is_in, mutex_row, once_row, pool_part_row, row_of, rw_mutex_row, sema_row, starts_row, wait_group_row};
 ghost use Rattle.record_text.specs.Names.{plain_answer, plain_answers};
 ghost use Rattle.record_text.specs.Reading.{IsRead};
 
 use crate::answer::{AnswerRow, AnswerWord};
 use crate::event::{EventWord, JournalKind};
-use crate::number::{read_number, read_worker};
+use crate::number::{read_int64, read_number, read_worker};
 use crate::word::{read_misuse, split_name, truth_word};
 use sync_types::Misuse;
 
 /// One answer of each name.
-const ANSWERS: [AnswerWord; 22] = [
+const ANSWERS: [AnswerWord; 26] = [
     AnswerWord::Acquired,
     AnswerWord::Queued,
     AnswerWord::Free,
@@ -28,10 +28,14 @@ const ANSWERS: [AnswerWord; 22] = [
     AnswerWord::Misused(Misuse::UnlockOfUnlockedRwMutex),
     AnswerWord::Misused(Misuse::NegativeWaitGroupCounter),
     AnswerWord::Misused(Misuse::WaitGroupReused),
+    AnswerWord::Misused(Misuse::SemaphoreOverReleased),
     AnswerWord::Run,
     AnswerWord::Ran,
     AnswerWord::Item { item: 0 },
     AnswerWord::Nothing,
+    AnswerWord::Refused,
+    AnswerWord::Lead,
+    AnswerWord::Left { value: 0 },
     AnswerWord::Go,
     AnswerWord::Never,
     AnswerWord::Halted(Misuse::UnlockOfUnlockedMutex),
@@ -57,11 +61,15 @@ impl AnswerWord {
             AnswerWord::Misused(Misuse::UnlockOfUnlockedRwMutex) => b"m3",
             AnswerWord::Misused(Misuse::NegativeWaitGroupCounter) => b"m4",
             AnswerWord::Misused(Misuse::WaitGroupReused) => b"m5",
+            AnswerWord::Misused(Misuse::SemaphoreOverReleased) => b"m6",
             AnswerWord::Done => b"ok",
             AnswerWord::Run => b"run",
             AnswerWord::Ran => b"done",
             AnswerWord::Item { .. } => b"item=",
             AnswerWord::Nothing => b"none",
+            AnswerWord::Refused => b"refused",
+            AnswerWord::Lead => b"lead",
+            AnswerWord::Left { .. } => b"left=",
             AnswerWord::Go => b"go",
             AnswerWord::Never => b"never",
             AnswerWord::Halted(_) => b"halted=",
@@ -119,6 +127,13 @@ impl AnswerRow {
             ) => true,
             (AnswerRow::Beginning, AnswerWord::Run | AnswerWord::Queued | AnswerWord::Ran) => true,
             (AnswerRow::Look, AnswerWord::Item { .. } | AnswerWord::Nothing) => true,
+            (AnswerRow::WeightTrial, AnswerWord::Done | AnswerWord::Refused) => true,
+            (
+                AnswerRow::WeightRelease,
+                AnswerWord::Done | AnswerWord::Misused(Misuse::SemaphoreOverReleased),
+            ) => true,
+            (AnswerRow::Joining, AnswerWord::Lead | AnswerWord::Queued) => true,
+            (AnswerRow::FlightLeaving, AnswerWord::Left { .. } | AnswerWord::Still) => true,
             (AnswerRow::StartLeaving, AnswerWord::Go | AnswerWord::Never | AnswerWord::Still) => {
                 true
             }
@@ -154,6 +169,9 @@ fn with_operand(answer: AnswerWord, operand: &[u8], workers: u32) -> Option<Answ
         }),
         AnswerWord::Item { .. } => Some(AnswerWord::Item {
             item: read_number(operand)?,
+        }),
+        AnswerWord::Left { .. } => Some(AnswerWord::Left {
+            value: read_int64(operand)?,
         }),
         AnswerWord::Halted(_) => Some(AnswerWord::Halted(read_misuse(operand)?)),
         other => {
@@ -249,6 +267,31 @@ fn pool_part_row(event: EventWord) -> Option<AnswerRow>
     }
 }
 
+/// Those that an event of a weighted semaphore may have.
+fn sema_row(event: EventWord) -> Option<AnswerRow>
+    ensures { result ≡ sema_row event }
+{
+    match event {
+        EventWord::Acquire { .. } => Some(AnswerRow::Waiting),
+        EventWord::TryAcquire { .. } => Some(AnswerRow::WeightTrial),
+        EventWord::Release { .. } => Some(AnswerRow::WeightRelease),
+        EventWord::Leave => Some(AnswerRow::Leaving),
+        _ => None,
+    }
+}
+
+/// Those that an event of a group of flights may have.
+fn flight_row(event: EventWord) -> Option<AnswerRow>
+    ensures { result ≡ flight_row event }
+{
+    match event {
+        EventWord::Join { .. } => Some(AnswerRow::Joining),
+        EventWord::Land { .. } => Some(AnswerRow::Trial),
+        EventWord::Leave => Some(AnswerRow::FlightLeaving),
+        _ => None,
+    }
+}
+
 /// Those that an event of Starts may have.
 fn starts_row(event: EventWord) -> Option<AnswerRow>
     ensures { result ≡ starts_row event }
@@ -279,6 +322,8 @@ impl JournalKind {
             JournalKind::WaitGroup => wait_group_row(event),
             JournalKind::Once => once_row(event),
             JournalKind::PoolPart => pool_part_row(event),
+            JournalKind::Sema => sema_row(event),
+            JournalKind::Flight => flight_row(event),
             JournalKind::Starts => starts_row(event),
         }
     }

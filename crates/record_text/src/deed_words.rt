@@ -5,17 +5,19 @@ ghost use Rattle.record_text.specs.AnswerWords.{is_answer};
 ghost use Rattle.record_text.specs.EventWords.{is_event};
 ghost use Rattle.record_text.specs.ItemLines.{is_reply};
 ghost use Rattle.record_text.specs.Numbers.{has_64_bits, is_whole};
-ghost use Rattle.record_text.specs.Written.{whole_of, number_reply, atomic_reply, map_reply, mutex_event, rw_event, cond_event, group_event, once_event, pool_event, start_event, event_of, mutex_answer, rw_answer, cond_answer, group_answer, once_answer, pool_answer, start_answer, answer_of};
+ghost use Rattle.record_text.specs.Written.{whole_of, number_reply, atomic_reply, map_reply, mutex_event, rw_event, cond_event, group_event, once_event, pool_event, sema_event, flight_event, start_event, event_of, mutex_answer, rw_answer, cond_answer, group_answer, once_answer, pool_answer, sema_answer, flight_answer, start_answer, answer_of};
 
 use crate::answer::AnswerWord;
 use crate::event::EventWord;
 use crate::item_line::{PlacedReply, Whole};
+use flight_core::{FlightEvent, FlightReply};
 use mutex_core::{Arrival, MutexEvent, MutexReply, Resumption, Unlocking};
 use pool_core::{PoolEvent, PoolReply};
 use run_record::{ObjectEvent, ObjectReply};
 use rw_core::{
     Arrival as RwArrival, Resumption as RwResumption, RwEvent, RwReply, Unlocking as RwUnlocking,
 };
+use sema_core::{SemaEvent, SemaReply};
 use starts_core::{StartEvent, StartReply};
 use sync_types::{AtomicReply, MapReply, Number};
 use wait_cores::{GroupEvent, GroupReply, NotifyEvent, NotifyReply, OnceEvent, OnceReply};
@@ -163,6 +165,29 @@ fn pool_event(event: PoolEvent<u64>) -> EventWord
     }
 }
 
+fn sema_event(event: SemaEvent) -> EventWord
+    ensures word { result ≡ sema_event event }
+    ensures fits { is_event (2 ^ 64) result ≡ true }
+{
+    match event {
+        SemaEvent::Acquire(weight) => EventWord::Acquire { weight },
+        SemaEvent::Try(weight) => EventWord::TryAcquire { weight },
+        SemaEvent::Release(weight) => EventWord::Release { weight },
+        SemaEvent::Leave => EventWord::Leave,
+    }
+}
+
+fn flight_event(event: FlightEvent) -> EventWord
+    ensures word { result ≡ flight_event event }
+    ensures fits { is_event (2 ^ 64) result ≡ true }
+{
+    match event {
+        FlightEvent::Join(key) => EventWord::Join { key },
+        FlightEvent::Land(value) => EventWord::Land { value },
+        FlightEvent::Leave => EventWord::Leave,
+    }
+}
+
 fn start_event(event: StartEvent) -> EventWord
     ensures word { result ≡ start_event event }
     ensures fits { is_event (2 ^ 64) result ≡ true }
@@ -188,6 +213,8 @@ pub fn event_of(event: ObjectEvent) -> EventWord
         ObjectEvent::OnceFunc(event) => once_event(event),
         ObjectEvent::OnceValue(event) => once_event(event),
         ObjectEvent::Pool(event) => pool_event(event),
+        ObjectEvent::Sema(event) => sema_event(event),
+        ObjectEvent::Flight(event) => flight_event(event),
         ObjectEvent::Starts(event) => start_event(event),
     }
 }
@@ -276,6 +303,32 @@ fn pool_answer(reply: PoolReply<u64>) -> Option<AnswerWord>
     }
 }
 
+fn sema_answer(reply: SemaReply) -> AnswerWord
+    ensures word { result ≡ sema_answer reply }
+    ensures fits { is_answer (2 ^ 64) result ≡ true }
+{
+    match reply {
+        SemaReply::Done => AnswerWord::Done,
+        SemaReply::Queued => AnswerWord::Queued,
+        SemaReply::Refused => AnswerWord::Refused,
+        SemaReply::Misused(misuse) => AnswerWord::Misused(misuse),
+        SemaReply::Still => AnswerWord::Still,
+    }
+}
+
+fn flight_answer(reply: FlightReply) -> AnswerWord
+    ensures word { result ≡ flight_answer reply }
+    ensures fits { is_answer (2 ^ 64) result ≡ true }
+{
+    match reply {
+        FlightReply::Lead => AnswerWord::Lead,
+        FlightReply::Queued => AnswerWord::Queued,
+        FlightReply::Landed(shared) => AnswerWord::Tried(shared),
+        FlightReply::Left(value) => AnswerWord::Left { value },
+        FlightReply::Still => AnswerWord::Still,
+    }
+}
+
 fn start_answer(reply: StartReply) -> AnswerWord
     ensures word { result ≡ start_answer reply }
     ensures fits { is_answer (2 ^ 64) result ≡ true }
@@ -302,6 +355,8 @@ pub fn answer_of(reply: ObjectReply) -> Option<AnswerWord>
         ObjectReply::OnceFunc(reply) => Some(once_answer(reply)),
         ObjectReply::OnceValue(reply) => Some(once_answer(reply)),
         ObjectReply::Pool(reply) => pool_answer(reply),
+        ObjectReply::Sema(reply) => Some(sema_answer(reply)),
+        ObjectReply::Flight(reply) => Some(flight_answer(reply)),
         ObjectReply::Starts(reply) => Some(start_answer(reply)),
     }
 }

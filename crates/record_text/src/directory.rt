@@ -53,6 +53,8 @@ fn kind_of(kind: ObjectKind) -> JournalKind
         ObjectKind::Once { .. } | ObjectKind::OnceFunc { .. } | ObjectKind::OnceValue { .. } => {
             JournalKind::Once
         }
+        ObjectKind::Sema { .. } => JournalKind::Sema,
+        ObjectKind::Flight { .. } => JournalKind::Flight,
     }
 }
 

@@ -17,6 +17,9 @@ pub enum JournalKind {
     Once,
     /// A part of a pool.
     PoolPart,
+    Sema,
+    /// A group of flights.
+    Flight,
     /// Starts, on which workers start each other.
     Starts,
 }
@@ -72,6 +75,16 @@ pub enum EventWord {
     LookVictim,
     /// `sweep`.
     Sweep,
+    /// `acquire=W`, of a weighted semaphore.
+    Acquire { weight: u64 },
+    /// `try=W`.
+    TryAcquire { weight: u64 },
+    /// `release=W`.
+    Release { weight: u64 },
+    /// `join=N`, of a group of flights: a key by its number among the workload's.
+    Join { key: u32 },
+    /// `land=X`.
+    Land { value: i64 },
     /// `start=I`, of Starts.
     Start { worker: u32 },
     /// `halt=M`.

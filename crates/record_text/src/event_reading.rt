@@ -7,12 +7,12 @@ ghost use Rattle.record_text.specs.Reading.{IsRead};
 
 use crate::event::EventWord;
 use crate::item_line::Whole;
-use crate::number::{read_number, read_whole, read_worker};
+use crate::number::{read_int64, read_key, read_number, read_whole, read_worker};
 use crate::word::{read_misuse, split_name};
 use sync_types::Misuse;
 
 /// One event of each name; those of mutexes come first, since most lines are theirs.
-const EVENTS: [EventWord; 26] = [
+const EVENTS: [EventWord; 31] = [
     EventWord::Arrive { now: 0 },
     EventWord::Unlock,
     EventWord::Woken { now: 0 },
@@ -39,6 +39,11 @@ const EVENTS: [EventWord; 26] = [
     EventWord::LookOther,
     EventWord::LookVictim,
     EventWord::Sweep,
+    EventWord::Acquire { weight: 0 },
+    EventWord::TryAcquire { weight: 0 },
+    EventWord::Release { weight: 0 },
+    EventWord::Join { key: 0 },
+    EventWord::Land { value: 0 },
     EventWord::Start { worker: 0 },
     EventWord::Halt(Misuse::UnlockOfUnlockedMutex),
 ];
@@ -74,6 +79,11 @@ impl EventWord {
             EventWord::LookOther => b"look_other",
             EventWord::LookVictim => b"look_victim",
             EventWord::Sweep => b"sweep",
+            EventWord::Acquire { .. } => b"acquire=",
+            EventWord::TryAcquire { .. } => b"try=",
+            EventWord::Release { .. } => b"release=",
+            EventWord::Join { .. } => b"join=",
+            EventWord::Land { .. } => b"land=",
             EventWord::Start { .. } => b"start=",
             EventWord::Halt(_) => b"halt=",
         }
@@ -116,6 +126,21 @@ fn with_operand(event: EventWord, operand: &[u8], workers: u32) -> Option<EventW
         }),
         EventWord::Put { .. } => Some(EventWord::Put {
             item: read_number(operand)?,
+        }),
+        EventWord::Acquire { .. } => Some(EventWord::Acquire {
+            weight: read_number(operand)?,
+        }),
+        EventWord::TryAcquire { .. } => Some(EventWord::TryAcquire {
+            weight: read_number(operand)?,
+        }),
+        EventWord::Release { .. } => Some(EventWord::Release {
+            weight: read_number(operand)?,
+        }),
+        EventWord::Join { .. } => Some(EventWord::Join {
+            key: read_key(operand)?,
+        }),
+        EventWord::Land { .. } => Some(EventWord::Land {
+            value: read_int64(operand)?,
         }),
         EventWord::Start { .. } => Some(EventWord::Start {
             worker: read_worker(operand, workers)?,

@@ -15,7 +15,7 @@ use crate::directory::Directory;
 use crate::event::EventWord;
 use crate::item_line::{ItemLine, PlacedReply, Said};
 use crate::limits::RECORD_LINE_ROOM;
-use crate::number_writing::{push_front, push_number, push_number_word, push_whole};
+use crate::number_writing::{push_front, push_number, push_number_word, push_signed, push_whole};
 use crate::word::{misuse_word, truth_word};
 use workload::Workload;
 use workload::keys::key_name;
@@ -121,6 +121,11 @@ fn push_event_operand(line: &mut Vec<u8>, event: EventWord)
         | EventWord::WriteWoken { now } => push_number(line, now),
         EventWord::Add { amount } => push_whole(line, amount),
         EventWord::Put { item } => push_number(line, item),
+        EventWord::Acquire { weight }
+        | EventWord::TryAcquire { weight }
+        | EventWord::Release { weight } => push_number(line, weight),
+        EventWord::Join { key } => push_number(line, u64::from(key)),
+        EventWord::Land { value } => push_signed(line, value),
         EventWord::Start { worker } => push_number(line, u64::from(worker)),
         EventWord::Halt(misuse) => push(line, misuse_word(misuse)),
         _ => {}
@@ -146,6 +151,7 @@ fn push_answer_operand(line: &mut Vec<u8>, answer: AnswerWord)
             push_number(line, u64::from(worker));
         }
         AnswerWord::Item { item } => push_number(line, item),
+        AnswerWord::Left { value } => push_signed(line, value),
         AnswerWord::Halted(misuse) => push(line, misuse_word(misuse)),
         _ => {}
     }

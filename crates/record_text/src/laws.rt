@@ -2,7 +2,7 @@
 ghost use Rattle.std.specs.Prelude.{◌≡◌, ℕ, ◌+◌, ◌<◌, ◌≤◌, true, false, ◌∷◌, List, Option, Some, codes, length, map, slice_get, get_or, []};
 ghost use Rattle.std.specs.List.{list_all};
 ghost use Rattle.sync_types.specs.declared.misuse.Misuse.{Misuse};
-ghost use Rattle.workload.specs.Dialect.{has_variables};
+ghost use Rattle.workload.specs.Dialect.{has_unrecorded};
 ghost use Rattle.workload.specs.Lines.{lines_of};
 ghost use Rattle.workload.specs.Plan.{Plan};
 ghost use Rattle.workload.specs.Readable.{IsReadable};
@@ -102,9 +102,9 @@ pub fn a_line_of_small_counts_is_short()
 
 /// What is written is read back: the text of a record tells the workload, the items, the misuse and the lines of the report that it was
 /// written from. The items are in range, no more than 40,000, and their lines and those of the report have at most 400 bytes each;
-/// the text has at most 16,777,216; and the workload has no plain variable, for plain texts have none.
+/// the text has at most 16,777,216; and the workload has no plain variable, no weighted semaphore and no flights, for plain texts have none.
 pub fn a_written_text_tells_what_was_written()
-    ensures { (plan : Plan) (items : List ItemLine) (misused : Option Misuse) (report : List ℕ) → IsReadable plan → has_variables plan ≡ false
+    ensures { (plan : Plan) (items : List ItemLine) (misused : Option Misuse) (report : List ℕ) → IsReadable plan → has_unrecorded plan ≡ false
         → list_all (is_item plan) items ≡ true → list_all is_short_line (map (item_text plan) items) ≡ true → length items ≤ MAX_ITEMS
         → list_all is_short_line (lines_of report) ≡ true → length (record_text plan items misused report) ≤ MAX_RECORD
         → IsTold (record_text plan items misused report) (record { plan = plan; items = items; misused = misused; report = lines_of report }) }

@@ -1,6 +1,6 @@
 //! The numbers of a record's lines, as they are written.
 ghost use Rattle.std.specs.Prelude.{◌≡◌, ◌*◌, ◌∷◌, length};
-ghost use Rattle.std.specs.Fmt.{decimal};
+ghost use Rattle.std.specs.Fmt.{decimal, signed_decimal};
 ghost use Rattle.workload_text.specs.Adding.{Adds, HasRoom};
 ghost use Rattle.record_text.specs.Numbers.{front_word, whole_word};
 ghost use Rattle.record_text.specs.WrittenLines.{behind_commas};
@@ -30,6 +30,15 @@ pub fn push_whole(line: &mut Vec<u8>, number: Whole)
             push_number(line, n);
         }
     }
+}
+
+/// Adds a number with a sign.
+pub fn push_signed(line: &mut Vec<u8>, number: i64)
+    requires { HasRoom line.old 20 }
+    ensures { Adds line.old line.new (signed_decimal number) 20 }
+{
+    let mut digits = Buffer::new();
+    push(line, digits.format(number).as_bytes());
 }
 
 /// Adds a number behind a space.

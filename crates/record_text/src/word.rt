@@ -18,6 +18,7 @@ pub fn misuse_word(misuse: Misuse) -> &'static [u8]
         Misuse::UnlockOfUnlockedRwMutex => b"M3",
         Misuse::NegativeWaitGroupCounter => b"M4",
         Misuse::WaitGroupReused => b"M5",
+        Misuse::SemaphoreOverReleased => b"M6",
     }
 }
 
@@ -39,6 +40,9 @@ pub fn read_misuse(word: &[u8]) -> Option<Misuse>
     }
     if word == misuse_word(Misuse::WaitGroupReused) {
         return Some(Misuse::WaitGroupReused);
+    }
+    if word == misuse_word(Misuse::SemaphoreOverReleased) {
+        return Some(Misuse::SemaphoreOverReleased);
     }
     None
 }

@@ -21,6 +21,14 @@ use Rattle.wait_cores.specs.declared.once.OnceReply.{OnceReply}
 use Rattle.pool_core.specs.declared.pool_event.PoolEvent.{PoolEvent}
 use Rattle.pool_core.specs.declared.pool_event.PoolEvent.TheVariants as pool_events
 use Rattle.pool_core.specs.declared.pool_event.PoolReply.{PoolReply}
+use Rattle.sema_core.specs.declared.event.SemaEvent.{SemaEvent}
+use Rattle.sema_core.specs.declared.event.SemaEvent.TheVariants as sema_events
+use Rattle.sema_core.specs.declared.event.SemaReply.{SemaReply}
+use Rattle.sema_core.specs.declared.event.SemaReply.TheVariants as sema_replies
+use Rattle.flight_core.specs.declared.event.FlightEvent.{FlightEvent}
+use Rattle.flight_core.specs.declared.event.FlightEvent.TheVariants as flight_events
+use Rattle.flight_core.specs.declared.event.FlightReply.{FlightReply}
+use Rattle.flight_core.specs.declared.event.FlightReply.TheVariants as flight_replies
 use Rattle.starts_core.specs.declared.starts.StartEvent.{StartEvent}
 use Rattle.starts_core.specs.declared.starts.StartReply.{StartReply}
 use Rattle.run_record.specs.declared.entered.ObjectEvent.{ObjectEvent}
@@ -31,10 +39,10 @@ use Rattle.record_text.specs.declared.answer.AnswerWord.TheVariants as words
 use Rattle.record_text.specs.declared.event.EventWord.{EventWord}
 use Rattle.record_text.specs.declared.event.EventWord.TheVariants as events
 use Rattle.record_text.specs.declared.item_line.Said.TheVariants as said
-use Rattle.record_text.specs.Written.{answer_of, cond_answer, cond_event, entry_said, event_of, group_answer, group_event, mutex_answer, mutex_event, once_answer, once_event, pool_answer, pool_event, rw_answer, rw_event, start_answer, start_event}
+use Rattle.record_text.specs.Written.{answer_of, cond_answer, cond_event, entry_said, event_of, group_answer, group_event, flight_answer, flight_event, mutex_answer, mutex_event, once_answer, once_event, pool_answer, pool_event, rw_answer, rw_event, sema_answer, sema_event, start_answer, start_event}
 use Rattle.run_check.specs.declared.told.deeds.Speaker.{Speaker}
 use Rattle.run_check.specs.declared.told.deeds.Speaker.TheVariants as speakers
-use Rattle.run_check.specs.Deeds.{answer_told, answered, halted_in, cond_event_told, cond_reply_told, deed_told, entry_told, event_told, group_event_told, group_reply_told, look_reply_told, mutex_event_told, mutex_reply_told, once_event_told, once_reply_told, pool_event_told, pool_reply_told, put_reply_told, rw_arrival_told, rw_event_told, rw_leaving_told, rw_reply_told, rw_resumption_told, rw_trial_told, rw_unlocking_told, start_event_told, start_reply_told, sweep_reply_told}
+use Rattle.run_check.specs.Deeds.{answer_told, answered, halted_in, cond_event_told, cond_reply_told, deed_told, entry_told, event_told, flight_event_told, flight_reply_told, group_event_told, group_reply_told, look_reply_told, mutex_event_told, mutex_reply_told, once_event_told, once_reply_told, pool_event_told, pool_reply_told, put_reply_told, rw_arrival_told, rw_event_told, rw_leaving_told, rw_reply_told, rw_resumption_told, rw_trial_told, rw_unlocking_told, sema_event_told, sema_reply_told, start_event_told, start_reply_told, sweep_reply_told}
 use Rattle.run_check.specs.Replies.{int32_told}
 use Rattle.sync_types.specs.declared.misuse.Misuse.{Misuse}
 use Rattle.mutex_core.specs.declared.reply.MutexReply.TheVariants as mutex_replies
@@ -102,6 +110,19 @@ pool_event_again part events.LookOther event is = sym (ap pool_event (same_Some 
 pool_event_again part events.LookVictim event is = sym (ap pool_event (same_Some (pool_events.LookVictim part) event is))
 pool_event_again part events.Sweep event is = sym (ap pool_event (same_Some pool_events.Sweep event is))
 pool_event_again part word event is = absurd cc
+
+sema_event_again : (word : EventWord) (event : SemaEvent) → sema_event_told word ≡ Some event → sema_event event ≡ word
+sema_event_again (events.Acquire weight) event is = sym (ap sema_event (same_Some (sema_events.Acquire weight) event is))
+sema_event_again (events.TryAcquire weight) event is = sym (ap sema_event (same_Some (sema_events.Try weight) event is))
+sema_event_again (events.Release weight) event is = sym (ap sema_event (same_Some (sema_events.Release weight) event is))
+sema_event_again events.Leave event is = sym (ap sema_event (same_Some sema_events.Leave event is))
+sema_event_again word event is = absurd cc
+
+flight_event_again : (word : EventWord) (event : FlightEvent) → flight_event_told word ≡ Some event → flight_event event ≡ word
+flight_event_again (events.Join key) event is = sym (ap flight_event (same_Some (flight_events.Join key) event is))
+flight_event_again (events.Land value) event is = sym (ap flight_event (same_Some (flight_events.Land value) event is))
+flight_event_again events.Leave event is = sym (ap flight_event (same_Some flight_events.Leave event is))
+flight_event_again word event is = absurd cc
 
 start_event_again : (word : EventWord) (event : StartEvent) → start_event_told word ≡ Some event → start_event event ≡ word
 start_event_again (events.Start worker) event is = sym (ap start_event (same_Some (start_events.Start worker) event is))
@@ -201,6 +222,22 @@ pool_reply_again (pool_events.LookOther part) word reply is = look_reply_again w
 pool_reply_again (pool_events.LookVictim part) word reply is = look_reply_again word reply is
 pool_reply_again pool_events.Sweep word reply is = sweep_reply_again word reply is
 
+sema_reply_again : (word : AnswerWord) (reply : SemaReply) → sema_reply_told word ≡ Some reply → sema_answer reply ≡ word
+sema_reply_again words.Done reply is = sym (ap sema_answer (same_Some sema_replies.Done reply is))
+sema_reply_again words.Queued reply is = sym (ap sema_answer (same_Some sema_replies.Queued reply is))
+sema_reply_again words.Refused reply is = sym (ap sema_answer (same_Some sema_replies.Refused reply is))
+sema_reply_again (words.Misused misuse) reply is = sym (ap sema_answer (same_Some (sema_replies.Misused misuse) reply is))
+sema_reply_again words.Still reply is = sym (ap sema_answer (same_Some sema_replies.Still reply is))
+sema_reply_again word reply is = absurd cc
+
+flight_reply_again : (word : AnswerWord) (reply : FlightReply) → flight_reply_told word ≡ Some reply → flight_answer reply ≡ word
+flight_reply_again words.Lead reply is = sym (ap flight_answer (same_Some flight_replies.Lead reply is))
+flight_reply_again words.Queued reply is = sym (ap flight_answer (same_Some flight_replies.Queued reply is))
+flight_reply_again (words.Tried shared) reply is = sym (ap flight_answer (same_Some (flight_replies.Landed shared) reply is))
+flight_reply_again (words.Left value) reply is = sym (ap flight_answer (same_Some (flight_replies.Left value) reply is))
+flight_reply_again words.Still reply is = sym (ap flight_answer (same_Some flight_replies.Still reply is))
+flight_reply_again word reply is = absurd cc
+
 start_reply_again : (word : AnswerWord) (reply : StartReply) → start_reply_told word ≡ Some reply → start_answer reply ≡ word
 start_reply_again words.Done reply is = sym (ap start_answer (same_Some start_replies.Done reply is))
 start_reply_again words.Go reply is = sym (ap start_answer (same_Some start_replies.Go reply is))
@@ -220,6 +257,8 @@ event_again (speakers.Once comes_to kept) word event is = let (e, found, same) =
 event_again (speakers.OnceFunc code) word event is = let (e, found, same) = mapped object_events.OnceFunc (once_event_told code word) event is in sym (ap event_of same) ∙ once_event_again code word e found
 event_again (speakers.OnceValue value) word event is = let (e, found, same) = mapped object_events.OnceValue (once_event_told value word) event is in sym (ap event_of same) ∙ once_event_again value word e found
 event_again (speakers.PoolPart part) word event is = let (e, found, same) = mapped object_events.Pool (pool_event_told part word) event is in sym (ap event_of same) ∙ pool_event_again part word e found
+event_again speakers.Sema word event is = let (e, found, same) = mapped object_events.Sema (sema_event_told word) event is in sym (ap event_of same) ∙ sema_event_again word e found
+event_again speakers.Flight word event is = let (e, found, same) = mapped object_events.Flight (flight_event_told word) event is in sym (ap event_of same) ∙ flight_event_again word e found
 event_again speakers.Starts word event is = let (e, found, same) = mapped object_events.Starts (start_event_told word) event is in sym (ap event_of same) ∙ start_event_again word e found
 
 answer_again : (speaker : Speaker) (event : ObjectEvent) (word : AnswerWord) (reply : ObjectReply) → answer_told speaker event word ≡ Some reply → answer_of reply ≡ Some word
@@ -231,6 +270,8 @@ answer_again (speakers.Once comes_to kept) (object_events.Once e) word reply is 
 answer_again (speakers.OnceFunc code) (object_events.OnceFunc e) word reply is = let (r, found, same) = mapped object_replies.OnceFunc (once_reply_told code e word) reply is in sym (ap answer_of same) ∙ ap Some (once_reply_again code e word r found)
 answer_again (speakers.OnceValue value) (object_events.OnceValue e) word reply is = let (r, found, same) = mapped object_replies.OnceValue (once_reply_told value e word) reply is in sym (ap answer_of same) ∙ ap Some (once_reply_again value e word r found)
 answer_again (speakers.PoolPart part) (object_events.Pool e) word reply is = let (r, found, same) = mapped object_replies.Pool (pool_reply_told e word) reply is in sym (ap answer_of same) ∙ pool_reply_again e word r found
+answer_again speakers.Sema (object_events.Sema e) word reply is = let (r, found, same) = mapped object_replies.Sema (sema_reply_told word) reply is in sym (ap answer_of same) ∙ ap Some (sema_reply_again word r found)
+answer_again speakers.Flight (object_events.Flight e) word reply is = let (r, found, same) = mapped object_replies.Flight (flight_reply_told word) reply is in sym (ap answer_of same) ∙ ap Some (flight_reply_again word r found)
 answer_again speakers.Starts (object_events.Starts e) word reply is = let (r, found, same) = mapped object_replies.Starts (start_reply_told word) reply is in sym (ap answer_of same) ∙ ap Some (start_reply_again word r found)
 answer_again speaker event word reply is = absurd cc
 

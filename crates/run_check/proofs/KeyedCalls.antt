@@ -202,6 +202,7 @@ module _ (plan : Plan) (are : AreNumbered plan) where
   known_on place (kinds.Atomic type) (operations.Composed (IfEqual value passes)) named = tt
   known_on place (kinds.Cond mutex) (operations.Composed (WaitFor atomic value tries)) named = tt
   known_on place (kinds.Once atomic delta) operations.Once named = tt
+  known_on place (kinds.Flight atomic delta) (operations.Fly key) named = tt
   known_on place kind operation named = tt
 
   known_at : (object : Option ObjectLine) (call : Call) → IsNamed plan call.operation → KnownAsked count (asked_at plan object call)

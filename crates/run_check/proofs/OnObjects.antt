@@ -30,6 +30,7 @@ use Rattle.script_calls.specs.declared.call.ComposedCall.TheVariants.{IfEqual, W
 use Rattle.script_calls.specs.declared.call.Operation.{Operation}
 use Rattle.script_calls.specs.declared.call.Operation.TheVariants as operations
 use Rattle.script_calls.specs.declared.call.Reply.{Reply}
+use Rattle.script_calls.specs.declared.call.Reply.TheVariants as replies
 use Rattle.script_calls.specs.Runs.{RunsAlong, passed_over}
 use Rattle.script_calls.specs.Starts.{group_of}
 use Rattle.sync_types.specs.declared.atomic_object.AtomicCall.{AtomicCall}
@@ -68,6 +69,13 @@ use Rattle.protocols.specs.MutexStages.{mutex_event, mutex_meaning}
 use Rattle.protocols.specs.OnceStages.{once_event, once_meaning}
 use Rattle.protocols.specs.PoolStages.{pool_event, pool_meaning}
 use Rattle.protocols.specs.RwMutexStages.{rw_event, rw_meaning}
+use Rattle.sema_core.specs.declared.calls.SemaStage.{SemaStage}
+use Rattle.sema_core.specs.SemaStages.{sema_event, sema_meaning}
+use Rattle.flight_core.specs.declared.calls.FlightOutcome.{FlightOutcome}
+use Rattle.flight_core.specs.declared.calls.FlightOutcome.TheVariants as flight_outcome
+use Rattle.flight_core.specs.declared.calls.FlightStage.{FlightStage}
+use Rattle.flight_core.specs.declared.calls.FlightStage.TheVariants as flight_stage
+use Rattle.flight_core.specs.FlightStages.{flight_event, flight_meaning}
 use Rattle.starts_core.specs.declared.protocol.StartsStage.{StartsStage}
 use Rattle.starts_core.specs.declared.protocol.StartsStage.TheVariants as starts_stage
 use Rattle.starts_core.specs.StartsStages.{starts_event, starts_meaning}
@@ -80,7 +88,7 @@ use Rattle.std.proofs.lemmas.List.Elements.{All-head, All-tail}
 use Rattle.sync_types.specs.Name.{is_name}
 use Rattle.workload.specs.Draft.{count_of, declared_from, is_kind, limit_of}
 use Rattle.workload.specs.Readable.{IsReadable, may_declare, may_join}
-use Rattle.workload.specs.Keys.{keys_in}
+use Rattle.workload.specs.Keys.{key_number, keys_in}
 use Rattle.workload.specs.Plan.{Plan, has_among, has_dormant, is_amount, is_dormant, is_on, is_target, is_turn, may_hold, refers, starts_dormant, word_of}
 use Rattle.run_record.specs.declared.entered.ObjectEvent.TheVariants as event
 use Rattle.run_record.specs.declared.entered.ObjectReply.TheVariants as reply
@@ -89,6 +97,7 @@ use Rattle.run_record.specs.Calls.{SpellsCall, call_at, call_on}
 use Rattle.run_record.specs.CondKind.{cond_call, cond_part, wait_part}
 use Rattle.run_record.specs.Lines.{AreHalts, AreSpelt, EndsBy, IsHalt, IsLineOf, Line, LineEnd, OpensBy, SpeltCall, Stay, StaysBy, calls_made, halted, items_of, misused, never as never_started, stayed, stopped, unfinished, waits, whole}
 use Rattle.sync_types.specs.declared.map_object.MapCall.{MapCall}
+use Rattle.run_record.specs.FlightKind.{flight_part, goes_on_flight}
 use Rattle.run_record.specs.MapKind.{map_call, range_call, step_showing}
 use Rattle.run_record.specs.MutexKind.{mutex_part, mutex_stage as mutex_stage_of}
 use Rattle.run_record.specs.Objects.{atomic_number, contents_of, first_part, is_atomic, is_map, map_number, starts_number, types_of}
@@ -96,6 +105,7 @@ use Rattle.run_record.specs.OnceKind.{goes_on_once, once_part}
 use Rattle.run_record.specs.PoolKind.{found_by, found_or, looks_of, part_of, pool_call, pool_part, stage_of, swept_by}
 use Rattle.run_record.specs.Record.{object_number}
 use Rattle.run_record.specs.RwMutexKind.{rw_mutex_stage, rw_part, write_part}
+use Rattle.run_record.specs.SemaKind.{sema_part, sema_stage}
 use Rattle.run_record.specs.StartsKind.{closing, done_part, done_under, end_part, go_call, opening, starts_part, wait_start_part}
 use Rattle.run_record.specs.Tests.{tests, unless_met, waits_for}
 use Rattle.run_record.specs.WaitGroupKind.{wait_group_call, wait_group_part, wait_group_stage}
@@ -265,6 +275,9 @@ module _ (plan : Plan) where
   pool_on : (object : ℕ) (from : PoolStage) → Keeps start (pool_part object from)
   pool_on object from = keeps_stages start event.Pool reply.Pool pool_event pool_meaning object from
 
+  sema_on : (object : ℕ) (from : SemaStage) → Keeps start (sema_part object from)
+  sema_on object from = keeps_stages start event.Sema reply.Sema sema_event sema_meaning object from
+
   starts_on : (object : ℕ) (from : StartsStage) → Keeps start (starts_part object from)
   starts_on object from = keeps_stages start event.Starts reply.Starts starts_event starts_meaning object from
 
@@ -313,6 +326,15 @@ module _ (plan : Plan) where
     once_on : Keeps start (once_part part function ran returned)
     once_on = keeps_then start (part once_stage.Begin) _ (parts_on once_stage.Begin) once_goes_on
 
+  module _ (part : FlightStage → Part FlightOutcome) (function : Part ℤ) (parts_on : (stage : FlightStage) → Keeps start (part stage)) (function_on : Keeps start function) where
+    flight_goes_on : (outcome : FlightOutcome) → Keeps start (goes_on_flight part function outcome)
+    flight_goes_on flight_outcome.Lead = keeps_then start function _ function_on (λ value. keeps_read start _ (part (flight_stage.Land value)) (parts_on (flight_stage.Land value)))
+    flight_goes_on (flight_outcome.Got value) = keeps_returns start (replies.Flown value true)
+    flight_goes_on (flight_outcome.Landed shared) = keeps_never start
+
+    fly_on : (key : ℕ) → Keeps start (and_then (part (flight_stage.Join key)) (goes_on_flight part function))
+    fly_on key = keeps_then start (part (flight_stage.Join key)) _ (parts_on (flight_stage.Join key)) flight_goes_on
+
   found_on : (rest : Part (Reply ℕ)) → Keeps start rest → (outcome : PoolOutcome) → Keeps start (found_or rest outcome)
   found_on rest keeps (pool_outcome.Item item) = keeps_returns start _
   found_on rest keeps pool_outcome.Nothing = keeps
@@ -350,6 +372,10 @@ module _ (plan : Plan) where
   int64 atomic delta (kinds.Atomic types.Int64) h = refl
   int64 atomic delta kind h = absurd cc
 
+  pub flown : (atomic : ℕ) (delta : ℤ) (kind : ObjectKind) → is_target (kinds.Flight atomic delta) kind ≡ true → kind ≡ kinds.Atomic types.Int64
+  flown atomic delta (kinds.Atomic types.Int64) h = refl
+  flown atomic delta kind h = absurd cc
+
   pub an_atomic : (value : Number) (kind : ObjectKind) → may_hold value kind ≡ true → (type : AtomicKind) × (kind ≡ kinds.Atomic type)
   an_atomic value (kinds.Atomic type) h = (type, refl)
   an_atomic value kind h = absurd cc
@@ -384,6 +410,11 @@ module _ (plan : Plan) where
   call_on_on worker before place (kinds.OnceFunc code) operations.OnceFunc h has = once_on _ (returns code) _ _ (λ stage. keeps_stages start event.OnceFunc reply.OnceFunc once_event once_meaning (object_number place) stage) (keeps_returns start code)
   call_on_on worker before place (kinds.OnceValue value) operations.OnceValue h has = once_on _ (returns value) _ _ (λ stage. keeps_stages start event.OnceValue reply.OnceValue once_event once_meaning (object_number place) stage) (keeps_returns start value)
   call_on_on worker before place kinds.Pool (operations.Pool call) h has = pool_call_on plan.workers worker (first_part plan place) call
+  call_on_on worker before place (kinds.Sema size) (operations.Sema call) h has = keeps_read start _ (sema_part (object_number place) (sema_stage call)) (sema_on (object_number place) (sema_stage call))
+  call_on_on worker before place (kinds.Flight atomic delta) (operations.Fly key) h has =
+      let (held, at, target) = referred (is_target (kinds.Flight atomic delta)) (slice_get plan.objects atomic) h.refers_so in
+      fly_on (flight_part (object_number place)) (adds (atomic_number plan.objects atomic) delta) (λ stage. keeps_stages start event.Flight reply.Flight flight_event flight_meaning (object_number place) stage)
+      (adds_on atomic delta held at (flown atomic delta held.kind target) h.in_range) (key_number (keys_in plan.scripts) key)
   call_on_on worker before place kind operation h has = keeps_never start
 
   both : (x y : Bool) → (x && y) ≡ true → (x ≡ true) × (y ≡ true)

@@ -50,6 +50,7 @@ use Rattle.run_record.specs.Lines.{IsLineOf, Line, SpeltCall, calls_made}
 use Rattle.run_cuts.specs.CallsAlong.{calls_along}
 use Rattle.script_calls.specs.Runs.{RunsAlong}
 use Rattle.run_check.proofs.ToldPlaces.{AllOf, of_line}
+use Rattle.run_record.specs.FlightKind.{flight_part}
 use Rattle.run_record.specs.MapKind.{map_call, range_call, step_showing}
 use Rattle.run_record.specs.Objects.{atomic_number, map_number, starts_number}
 use Rattle.run_record.specs.OnceKind.{failure, goes_on_once, once_part}
@@ -57,8 +58,9 @@ use Rattle.run_record.specs.Parts.{Part, and_then, lifted, returns, stages}
 use Rattle.run_record.specs.PoolKind.{found_by, found_or, looks_of, pool_call, swept_by}
 use Rattle.run_record.specs.RwMutexKind.{rw_part}
 use Rattle.run_record.specs.StartsKind.{closing, done_part, done_under, end_part, opening, wait_start_part, was_started}
+use Rattle.run_record.specs.Record.{object_number}
 use Rattle.run_record.specs.Tests.{compared, holds, tests, unless_met, waits_for}
-use Rattle.record_text.proofs.EachDeed.{EachOf, by_never, by_read, by_returns, by_then, of_entries, of_places}
+use Rattle.record_text.proofs.EachDeed.{EachOf, by_flight, by_never, by_read, by_returns, by_then, of_entries, of_places}
 use Rattle.record_text.proofs.OwnWords.{each_both}
 use Rattle.run_check.specs.declared.told.placing.Asked.{Asked}
 use Rattle.run_check.specs.ToldItems.{asked_at, asked_by, asked_on, ranged_at, ranged_by, ranged_on}
@@ -210,6 +212,9 @@ module _ (plan : Plan) (worker before : ℕ) where
       of_once _ _ (returns code) (λ kept. replies.OnceFunc (failure kept)) (λ kept. replies.OnceFunc (failure kept)) (of_stages _ _ _ _ _ _) (by_returns _ code)
   of_call_on place (kinds.OnceValue value) operations.OnceValue = of_once _ _ (returns value) replies.OnceValue replies.OnceValue (of_stages _ _ _ _ _ _) (by_returns _ value)
   of_call_on place kinds.Pool (operations.Pool call) = of_pool_call _ _ _ _ call
+  of_call_on place (kinds.Sema size) (operations.Sema call) = by_read _ replies.Lock _ (of_stages _ _ _ _ _ _ _)
+  of_call_on place (kinds.Flight atomic delta) (operations.Fly key) =
+      by_flight _ (flight_part (object_number place)) (adds (atomic_number plan.objects atomic) delta) (of_stages _ _ _ _ _ _) (of_adds _ (atomic_number plan.objects atomic) delta (_, refl, refl)) _
   of_call_on place kind operation = λ items answer spelt. absurd spelt
 
   of_call_at : (object : Option ObjectLine) (call : Call) → EachOf (Fits (FitsCall (asked_at plan object call) (ranged_at plan object call))) (call_at plan worker before call.object object call.operation)

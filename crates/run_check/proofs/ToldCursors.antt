@@ -23,13 +23,14 @@ use Rattle.run_record.specs.declared.made.Made.TheVariants.{Shared, Entered}
 use Rattle.run_record.specs.AtomicKind.{adds}
 use Rattle.run_record.specs.Calls.{SpellsCall, call_at, call_on}
 use Rattle.run_record.specs.Lines.{AreSpelt, EndsBy, IsLineOf, Line, LineEnd, OpensBy, SpeltCall, whole, misused, halted, unfinished, stayed, never, stopped, waits}
+use Rattle.run_record.specs.FlightKind.{flight_part}
 use Rattle.run_record.specs.MapKind.{cursor_showing, step_showing}
 use Rattle.run_record.specs.Objects.{atomic_number, map_number}
 use Rattle.run_record.specs.OnceKind.{failure}
 use Rattle.run_record.specs.Parts.{returns}
-use Rattle.run_record.specs.Record.{shared_in}
+use Rattle.run_record.specs.Record.{object_number, shared_in}
 use Rattle.run_record.specs.Tests.{compared}
-use Rattle.record_text.proofs.EachDeed.{EachOf, by_read, by_returns, by_then}
+use Rattle.record_text.proofs.EachDeed.{EachOf, by_flight, by_read, by_returns, by_then}
 use Rattle.protocols.specs.Spelling.{CallAnswer}
 use Rattle.sync_model.specs.declared.answer.Answer.TheVariants.{Done, Halted}
 use Rattle.record_text.proofs.OwnWords.{each_split}
@@ -132,6 +133,9 @@ module _ (plan : Plan) (worker before : ℕ) where
       of_once _ _ (returns code) (λ kept. replies.OnceFunc (failure kept)) (λ kept. replies.OnceFunc (failure kept)) (of_stages _ _ _ _ _ _) (by_returns _ code)
   no_next_on place (kinds.OnceValue value) operations.OnceValue not_range = of_once _ _ (returns value) replies.OnceValue replies.OnceValue (of_stages _ _ _ _ _ _) (by_returns _ value)
   no_next_on place kinds.Pool (operations.Pool call) not_range = of_pool_call _ _ _ _ call
+  no_next_on place (kinds.Sema size) (operations.Sema call) not_range = by_read _ replies.Lock _ (of_stages _ _ _ _ _ _ _)
+  no_next_on place (kinds.Flight atomic delta) (operations.Fly key) not_range =
+      by_flight _ (flight_part (object_number place)) (adds (atomic_number plan.objects atomic) delta) (of_stages _ _ _ _ _ _) (of_adds _ (atomic_number plan.objects atomic) delta tt) _
   no_next_on place kind operation not_range = λ items answer spelt. absurd spelt
 
   nexts_on : (place : ℕ) (kind : ObjectKind) (operation : Operation) (items : List Made) (answer : CallAnswer (Reply ℕ)) → call_on plan worker before place kind operation items answer → (begin : ℕ) → NextsAre before begin items

@@ -62,6 +62,7 @@ use Rattle.run_record.specs.Calls.{SpellsCall, call_at, call_on}
 use Rattle.run_record.specs.CondKind.{cond_call, cond_part, wait_part}
 use Rattle.run_record.specs.Lines.{AreHalts, AreSpelt, EndsBy, IsHalt, IsLineOf, Line, LineEnd, OpensBy, SpeltCall, whole, misused, halted, unfinished, stayed, never as never_started, stopped, waits, items_of}
 use Rattle.run_record.specs.MutexKind.{mutex_part}
+use Rattle.run_record.specs.FlightKind.{flight_part}
 use Rattle.run_record.specs.Objects.{atomic_number, starts_number}
 use Rattle.run_record.specs.OnceKind.{failure, goes_on_once, once_part}
 use Rattle.run_record.specs.Parts.{GoesOn, Part, Places, and_then, lifted, lifted_deed, read_as, returns, stages}
@@ -71,7 +72,7 @@ use Rattle.run_record.specs.RwMutexKind.{rw_part}
 use Rattle.run_record.specs.StartsKind.{closing, done_part, done_under, end_part, opening, starts_part, wait_start_part, was_started}
 use Rattle.run_record.specs.Tests.{compared, holds, tests, unless_met, waits_for}
 use Rattle.run_record.specs.WaitGroupKind.{wait_group_part}
-use Rattle.record_text.proofs.EachDeed.{EachOf, LeadsOn, by_never, by_read, by_returns, by_then, each_deed, of_deeds, of_entries}
+use Rattle.record_text.proofs.EachDeed.{EachOf, LeadsOn, by_flight, by_never, by_read, by_returns, by_then, each_deed, of_deeds, of_entries}
 use Rattle.record_text.proofs.OwnWords.{each_mono, each_split}
 
 -- the event ends a once's function
@@ -407,6 +408,9 @@ module _ (plan : Plan) (worker before : ℕ) where
   none_on place (kinds.OnceValue value) operations.OnceValue other =
       of_once _ (returns value) replies.OnceValue replies.OnceValue (of_stages object_events.OnceValue object_replies.OnceValue (λ e. refl) once_event once_meaning (object_number place)) (by_returns NoEnd value)
   none_on place kinds.Pool (operations.Pool call) other = of_pool_call _ _ _ call
+  none_on place (kinds.Sema size) (operations.Sema call) other = by_read NoEnd replies.Lock _ (of_stages object_events.Sema object_replies.Sema (λ e. refl) _ _ _ _)
+  none_on place (kinds.Flight atomic delta) (operations.Fly key) other =
+      by_flight NoEnd (flight_part (object_number place)) (adds (atomic_number plan.objects atomic) delta) (of_stages object_events.Flight object_replies.Flight (λ e. refl) _ _ _) (λ items answer spelt. of_places _ items spelt.1) _
   none_on place kind operation other = λ items answer spelt. absurd spelt
 
   ends_on : (place : ℕ) (kind : ObjectKind) (operation : Operation) (items : List Made) (answer : CallAnswer (Reply ℕ)) → call_on plan worker before place kind operation items answer → (runs : Option ℕ) → EndsAre runs items

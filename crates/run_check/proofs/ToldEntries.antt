@@ -35,6 +35,14 @@ use Rattle.pool_core.specs.declared.pool_event.PoolEvent.{PoolEvent}
 use Rattle.pool_core.specs.declared.pool_event.PoolEvent.TheVariants as pool_events
 use Rattle.pool_core.specs.declared.pool_event.PoolReply.{PoolReply}
 use Rattle.pool_core.specs.declared.pool_event.PoolReply.TheVariants as pool_replies
+use Rattle.sema_core.specs.declared.event.SemaEvent.{SemaEvent}
+use Rattle.sema_core.specs.declared.event.SemaEvent.TheVariants as sema_events
+use Rattle.sema_core.specs.declared.event.SemaReply.{SemaReply}
+use Rattle.sema_core.specs.declared.event.SemaReply.TheVariants as sema_replies
+use Rattle.flight_core.specs.declared.event.FlightEvent.{FlightEvent}
+use Rattle.flight_core.specs.declared.event.FlightEvent.TheVariants as flight_events
+use Rattle.flight_core.specs.declared.event.FlightReply.{FlightReply}
+use Rattle.flight_core.specs.declared.event.FlightReply.TheVariants as flight_replies
 use Rattle.starts_core.specs.declared.starts.StartEvent.{StartEvent}
 use Rattle.starts_core.specs.declared.starts.StartEvent.TheVariants as start_events
 use Rattle.starts_core.specs.declared.starts.StartReply.{StartReply}
@@ -65,7 +73,7 @@ use Rattle.record_text.proofs.EachDeed.{IsMeantBy, IsStep}
 use Rattle.record_text.proofs.MeantItems.{IsMeant}
 use Rattle.run_check.specs.declared.told.deeds.Speaker.{Speaker}
 use Rattle.run_check.specs.declared.told.deeds.Speaker.TheVariants as speakers
-use Rattle.run_check.specs.Deeds.{answer_told, answered, cond_event_told, cond_reply_told, deed_told, entry_told, event_told, group_event_told, group_reply_told, halted_in, mutex_event_told, mutex_reply_told, once_event_told, once_reply_told, pool_event_told, pool_reply_told, rw_event_told, rw_reply_told, start_event_told, start_reply_told}
+use Rattle.run_check.specs.Deeds.{answer_told, answered, cond_event_told, cond_reply_told, deed_told, entry_told, event_told, flight_event_told, flight_reply_told, group_event_told, group_reply_told, halted_in, mutex_event_told, mutex_reply_told, once_event_told, once_reply_told, pool_event_told, pool_reply_told, rw_event_told, rw_reply_told, sema_event_told, sema_reply_told, start_event_told, start_reply_told}
 use Rattle.run_check.specs.Replies.{int32_told}
 
 -- ---- what a line leaves out
@@ -99,6 +107,8 @@ EventIs (speakers.Once comes_to kept) (object_events.Once event) = OnceEventIs c
 EventIs (speakers.OnceFunc code) (object_events.OnceFunc event) = OnceEventIs code event
 EventIs (speakers.OnceValue value) (object_events.OnceValue event) = OnceEventIs value event
 EventIs (speakers.PoolPart part) (object_events.Pool event) = PoolEventIs part event
+EventIs speakers.Sema (object_events.Sema event) = Unit {0}
+EventIs speakers.Flight (object_events.Flight event) = Unit {0}
 EventIs speakers.Starts (object_events.Starts event) = Unit {0}
 EventIs speaker event = ⊥
 
@@ -161,6 +171,17 @@ pool_event_back part (pool_events.LookOther other) is = ap (λ p. Some (pool_eve
 pool_event_back part (pool_events.LookVictim other) is = ap (λ p. Some (pool_events.LookVictim p)) is
 pool_event_back part pool_events.Sweep is = refl
 
+sema_event_back : (event : SemaEvent) → sema_event_told (written.sema_event event) ≡ Some event
+sema_event_back (sema_events.Acquire weight) = refl
+sema_event_back (sema_events.Try weight) = refl
+sema_event_back (sema_events.Release weight) = refl
+sema_event_back sema_events.Leave = refl
+
+flight_event_back : (event : FlightEvent) → flight_event_told (written.flight_event event) ≡ Some event
+flight_event_back (flight_events.Join key) = refl
+flight_event_back (flight_events.Land value) = refl
+flight_event_back flight_events.Leave = refl
+
 start_event_back : (event : StartEvent) → start_event_told (written.start_event event) ≡ Some event
 start_event_back (start_events.Start worker) = refl
 start_event_back start_events.End = refl
@@ -175,6 +196,8 @@ event_back (speakers.Once comes_to kept) (object_events.Once e) is = ap (option_
 event_back (speakers.OnceFunc code) (object_events.OnceFunc e) is = ap (option_map object_events.OnceFunc) (once_event_back code e is)
 event_back (speakers.OnceValue value) (object_events.OnceValue e) is = ap (option_map object_events.OnceValue) (once_event_back value e is)
 event_back (speakers.PoolPart part) (object_events.Pool e) is = ap (option_map object_events.Pool) (pool_event_back part e is)
+event_back speakers.Sema (object_events.Sema e) is = ap (option_map object_events.Sema) (sema_event_back e)
+event_back speakers.Flight (object_events.Flight e) is = ap (option_map object_events.Flight) (flight_event_back e)
 event_back speakers.Starts (object_events.Starts e) is = ap (option_map object_events.Starts) (start_event_back e)
 event_back speaker event is = absurd is
 
@@ -251,6 +274,20 @@ pool_reply_at (pool_stages.LookVictim part) now pool_replies.Nothing word step i
 pool_reply_at pool_stages.Sweep now pool_replies.Swept word step is = ap (pool_reply_told pool_events.Sweep) (sym (same_Some words.Done word is))
 pool_reply_at stage now reply word step is = absurd step
 
+sema_reply_back : (reply : SemaReply) → sema_reply_told (written.sema_answer reply) ≡ Some reply
+sema_reply_back sema_replies.Done = refl
+sema_reply_back sema_replies.Queued = refl
+sema_reply_back sema_replies.Refused = refl
+sema_reply_back (sema_replies.Misused misuse) = refl
+sema_reply_back sema_replies.Still = refl
+
+flight_reply_back : (reply : FlightReply) → flight_reply_told (written.flight_answer reply) ≡ Some reply
+flight_reply_back flight_replies.Lead = refl
+flight_reply_back flight_replies.Queued = refl
+flight_reply_back (flight_replies.Landed shared) = refl
+flight_reply_back (flight_replies.Left value) = refl
+flight_reply_back flight_replies.Still = refl
+
 start_reply_back : (reply : StartReply) → start_reply_told (written.start_answer reply) ≡ Some reply
 start_reply_back start_replies.Done = refl
 start_reply_back start_replies.Go = refl
@@ -290,6 +327,10 @@ answer_back (speakers.OnceValue value) (object_events.OnceValue e) (object_repli
 answer_back (speakers.OnceValue value) (object_events.OnceValue e) reply word of meant is says = absurd meant
 answer_back (speakers.PoolPart part) (object_events.Pool e) (object_replies.Pool r) word of meant is says = ap (option_map object_replies.Pool) (pool_reply_back e r word meant says)
 answer_back (speakers.PoolPart part) (object_events.Pool e) reply word of meant is says = absurd meant
+answer_back speakers.Sema (object_events.Sema e) (object_replies.Sema r) word of meant is says = ap (option_map object_replies.Sema) (at_word sema_reply_told (written.sema_answer r) word r says (sema_reply_back r))
+answer_back speakers.Sema (object_events.Sema e) reply word of meant is says = absurd meant
+answer_back speakers.Flight (object_events.Flight e) (object_replies.Flight r) word of meant is says = ap (option_map object_replies.Flight) (at_word flight_reply_told (written.flight_answer r) word r says (flight_reply_back r))
+answer_back speakers.Flight (object_events.Flight e) reply word of meant is says = absurd meant
 answer_back speakers.Starts (object_events.Starts e) (object_replies.Starts r) word of meant is says = ap (option_map object_replies.Starts) (at_word start_reply_told (written.start_answer r) word r says (start_reply_back r))
 answer_back speakers.Starts (object_events.Starts e) reply word of meant is says = absurd meant
 answer_back speaker event reply word of meant is says = absurd of
@@ -306,6 +347,8 @@ no_halt (speakers.Once comes_to kept) misuse event is = none-some event is
 no_halt (speakers.OnceFunc code) misuse event is = none-some event is
 no_halt (speakers.OnceValue value) misuse event is = none-some event is
 no_halt (speakers.PoolPart part) misuse event is = none-some event is
+no_halt speakers.Sema misuse event is = none-some event is
+no_halt speakers.Flight misuse event is = none-some event is
 no_halt speakers.Starts misuse event is = none-some event is
 
 -- an event is told by its word
@@ -368,6 +411,20 @@ pool_no_halt pool_replies.Nothing = refl
 pool_no_halt pool_replies.Swept = refl
 pool_no_halt pool_replies.Still = refl
 
+sema_no_halt : (reply : SemaReply) → halted_in (written.sema_answer reply) ≡ None
+sema_no_halt sema_replies.Done = refl
+sema_no_halt sema_replies.Queued = refl
+sema_no_halt sema_replies.Refused = refl
+sema_no_halt (sema_replies.Misused misuse) = refl
+sema_no_halt sema_replies.Still = refl
+
+flight_no_halt : (reply : FlightReply) → halted_in (written.flight_answer reply) ≡ None
+flight_no_halt flight_replies.Lead = refl
+flight_no_halt flight_replies.Queued = refl
+flight_no_halt (flight_replies.Landed shared) = refl
+flight_no_halt (flight_replies.Left value) = refl
+flight_no_halt flight_replies.Still = refl
+
 start_no_halt : (reply : StartReply) → halted_in (written.start_answer reply) ≡ None
 start_no_halt start_replies.Done = refl
 start_no_halt start_replies.Go = refl
@@ -383,6 +440,8 @@ answer_no_halt (object_replies.Once r) = once_no_halt r
 answer_no_halt (object_replies.OnceFunc r) = once_no_halt r
 answer_no_halt (object_replies.OnceValue r) = once_no_halt r
 answer_no_halt (object_replies.Pool r) = pool_no_halt r
+answer_no_halt (object_replies.Sema r) = sema_no_halt r
+answer_no_halt (object_replies.Flight r) = flight_no_halt r
 answer_no_halt (object_replies.Starts r) = start_no_halt r
 
 -- what the deed's words leave out is what the object's place in the list says

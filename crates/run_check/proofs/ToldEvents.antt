@@ -55,6 +55,10 @@ use Rattle.pool_core.specs.declared.pool_event.PoolEvent.TheVariants as pool_eve
 use Rattle.pool_core.specs.declared.pool_event.PoolReply.{PoolReply}
 use Rattle.pool_core.specs.declared.pool_event.PoolReply.TheVariants as pool_replies
 use Rattle.pool_core.specs.Looks.{look}
+use Rattle.sema_core.specs.declared.calls.SemaStage.{SemaStage}
+use Rattle.sema_core.specs.SemaStages.{sema_event, sema_meaning}
+use Rattle.flight_core.specs.declared.calls.FlightStage.{FlightStage}
+use Rattle.flight_core.specs.FlightStages.{flight_event, flight_meaning}
 use Rattle.starts_core.specs.declared.protocol.StartsStage.{StartsStage}
 use Rattle.starts_core.specs.declared.protocol.StartsStage.TheVariants as starts_stage
 use Rattle.starts_core.specs.StartsStages.{starts_event, starts_meaning}
@@ -91,6 +95,7 @@ use Rattle.run_record.specs.declared.made.Made.TheVariants.{Shared, Entered}
 use Rattle.run_record.specs.AtomicKind.{adds, atomic_call}
 use Rattle.run_record.specs.Calls.{call_at, call_on}
 use Rattle.run_record.specs.CondKind.{cond_call, cond_part, wait_part}
+use Rattle.run_record.specs.FlightKind.{flight_part}
 use Rattle.run_record.specs.Lines.{AreHalts, IsHalt, IsLineOf, Line, LineEnd, SpeltCall, whole, misused, halted, unfinished, stayed, calls_made, items_of}
 use Rattle.run_record.specs.MapKind.{map_call, range_call}
 use Rattle.run_record.specs.MutexKind.{mutex_part, mutex_stage as stage_of_call}
@@ -100,11 +105,12 @@ use Rattle.run_record.specs.Parts.{GoesOn, Part, Places, and_then, lifted_deed, 
 use Rattle.run_record.specs.PoolKind.{found_by, found_or, looks_of, part_of, pool_call, pool_part, stage_of, swept_by}
 use Rattle.run_record.specs.Record.{object_number}
 use Rattle.run_record.specs.RwMutexKind.{RwDeed, asks, is_still, rw_part, says_still, write_part}
+use Rattle.run_record.specs.SemaKind.{sema_part, sema_stage}
 use Rattle.run_record.specs.StartsKind.{closing, done_part, done_under, end_part, opening, starts_part, wait_start_part, was_started}
 use Rattle.run_record.specs.Tests.{compared, holds, tests, unless_met, waits_for}
 use Rattle.run_record.specs.WaitGroupKind.{wait_group_part, wait_group_stage}
 use Rattle.record_text.proofs.Decimals.{pair}
-use Rattle.record_text.proofs.EachDeed.{EachOf, IsStep, LeadsOn, any_leads, by_never, by_read, by_returns, by_then, each_deed, of_deeds, of_entries, with_stills}
+use Rattle.record_text.proofs.EachDeed.{EachOf, IsStep, LeadsOn, any_leads, by_flight, by_never, by_read, by_returns, by_then, each_deed, of_deeds, of_entries, with_stills}
 use Rattle.record_text.proofs.MeantItems.{IsMeant}
 use Rattle.record_text.proofs.ObjectNumbers.{pools_cons, pools_in, times}
 use Rattle.record_text.proofs.OwnWords.{each_both, each_mono, each_split}
@@ -124,6 +130,8 @@ EventFits (speakers.Once comes_to kept) (object_events.Once event) = Unit {0}
 EventFits (speakers.OnceFunc code) (object_events.OnceFunc event) = OnceEventIs code event
 EventFits (speakers.OnceValue value) (object_events.OnceValue event) = OnceEventIs value event
 EventFits (speakers.PoolPart part) (object_events.Pool event) = PoolEventIs part event
+EventFits speakers.Sema (object_events.Sema event) = Unit {0}
+EventFits speakers.Flight (object_events.Flight event) = Unit {0}
 EventFits speakers.Starts (object_events.Starts event) = Unit {0}
 EventFits speaker event = ⊥
 
@@ -338,6 +346,12 @@ module _ (plan : Plan) (worker : ℕ) where
   of_group object speaks =
       of_kind object_events.WaitGroup object_replies.WaitGroup object (λ kept sum. speakers.WaitGroup) speaks group_event group_meaning (λ stage now r means. (stage, now, refl, means)) AddsSmall group_leads (λ stage now such kept sum. group_fits stage now such)
 
+  of_sema : (object : ℕ) → Speaks object (λ kept sum. speakers.Sema) → (from : SemaStage) → EachOf Is (sema_part object from)
+  of_sema object speaks = of_any object_events.Sema object_replies.Sema object (λ kept sum. speakers.Sema) speaks sema_event sema_meaning (λ stage now r means. (stage, now, refl, means)) (λ stage now kept sum. tt)
+
+  of_flight : (object : ℕ) → Speaks object (λ kept sum. speakers.Flight) → (from : FlightStage) → EachOf Is (flight_part object from)
+  of_flight object speaks = of_any object_events.Flight object_replies.Flight object (λ kept sum. speakers.Flight) speaks flight_event flight_meaning (λ stage now r means. (stage, now, refl, means)) (λ stage now kept sum. tt)
+
   of_starts : (from : StartsStage) → EachOf Is (starts_part (starts_number plan) from)
   of_starts = of_any object_events.Starts object_replies.Starts (starts_number plan) (λ kept sum. speakers.Starts) speaks_starts starts_event starts_meaning (λ stage now r means. (stage, now, refl, means)) (λ stage now kept sum. tt)
 
@@ -511,6 +525,9 @@ module _ (plan : Plan) (worker : ℕ) where
           of_once (stages object_events.OnceValue object_replies.OnceValue once_event once_meaning (object_number place)) (returns value) replies.OnceValue replies.OnceValue (part once_stage.Begin tt)
           (by_value value _ (by_read Is (λ ended. replies.OnceValue value) _ (part (once_stage.End value) refl)))
       of_call_on before place kinds.Pool (operations.Pool call) is good = of_pool_call place is below call
+      of_call_on before place (kinds.Sema size) (operations.Sema call) is good = by_read Is replies.Lock _ (of_sema (object_number place) (speaks_kind place (kinds.Sema size) is) (sema_stage call))
+      of_call_on before place (kinds.Flight atomic delta) (operations.Fly key) is good =
+          by_flight Is (flight_part (object_number place)) (adds (atomic_number plan.objects atomic) delta) (of_flight (object_number place) (speaks_kind place (kinds.Flight atomic delta) is)) (of_adds (atomic_number plan.objects atomic) delta) _
       of_call_on before place kind operation is good = λ items answer spelt. absurd spelt
 
       of_call_at : (before : ℕ) (object : Option ObjectLine) (call : Call) → slice_get plan.objects call.object ≡ object → is_call call ≡ true → EachOf Is (call_at plan worker before call.object object call.operation)

@@ -80,6 +80,8 @@ plain_of plan place (kinds.Once atomic delta) journal is = plain_journal _ _ _ _
 plain_of plan place (kinds.OnceFunc code) journal is = plain_journal _ _ _ _ _ _ journal is
 plain_of plan place (kinds.OnceValue value) journal is = plain_journal _ _ _ _ _ _ journal is
 plain_of plan place kinds.Pool journal is = ap (map plain_entry) is
+plain_of plan place (kinds.Sema size) journal is = plain_journal _ _ _ _ _ _ journal is
+plain_of plan place (kinds.Flight atomic delta) journal is = plain_journal _ _ _ _ _ _ journal is
 plain_of plan place kinds.Var journal is = ap (map plain_entry) is
 
 plain_part : (room : ℕ) (journal : List ObjectEntry) → IsPartJournal room journal → IsPartJournal room (map plain_entry journal)

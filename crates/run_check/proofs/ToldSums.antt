@@ -58,6 +58,7 @@ use Rattle.run_record.specs.declared.made.Made.TheVariants.{Shared, Entered}
 use Rattle.run_record.specs.AtomicKind.{adds, atomic_call}
 use Rattle.run_record.specs.Calls.{SpellsCall, call_at, call_on}
 use Rattle.run_record.specs.CondKind.{cond_call, wait_part}
+use Rattle.run_record.specs.FlightKind.{flight_part}
 use Rattle.run_record.specs.Lines.{AreHalts, AreSpelt, EndsBy, IsHalt, IsLineOf, Line, LineEnd, OpensBy, SpeltCall, items_of, whole, misused, halted, unfinished, stayed, never, stopped, waits}
 use Rattle.run_record.specs.Objects.{atomic_number, starts_number}
 use Rattle.run_record.specs.OnceKind.{do_call, failure, goes_on_once, once_part}
@@ -68,7 +69,7 @@ use Rattle.run_record.specs.RwMutexKind.{rw_part}
 use Rattle.run_record.specs.StartsKind.{closing, done_part, done_under, end_part, opening, wait_start_part, was_started}
 use Rattle.run_record.specs.Tests.{compared, holds, tests, unless_met, waits_for}
 use Rattle.record_text.specs.Written.{atomic_reply, map_reply, whole_of}
-use Rattle.record_text.proofs.EachDeed.{EachOf, LeadsOn, by_never, by_read, by_returns, by_then, each_deed, of_deeds, of_entries}
+use Rattle.record_text.proofs.EachDeed.{EachOf, LeadsOn, by_flight, by_never, by_read, by_returns, by_then, each_deed, of_deeds, of_entries}
 use Rattle.record_text.proofs.OwnWords.{each_split}
 use Rattle.run_check.specs.ToldItems.{sum_in}
 use Rattle.run_check.specs.Replies.{int64_told}
@@ -356,6 +357,9 @@ module _ (plan : Plan) (worker before : ℕ) where
       of_function _ code (λ kept. replies.OnceFunc (failure kept)) (λ kept. replies.OnceFunc (failure kept)) (of_kind object_events.OnceFunc object_replies.OnceFunc (λ e. tt) _ _ _)
   no_end_on place (kinds.OnceValue value) operations.OnceValue other = of_function _ value replies.OnceValue replies.OnceValue (of_kind object_events.OnceValue object_replies.OnceValue (λ e. tt) _ _ _)
   no_end_on place kinds.Pool (operations.Pool call) other = of_pool_call _ _ _ call
+  no_end_on place (kinds.Sema size) (operations.Sema call) other = by_read NoEnd replies.Lock _ (of_kind object_events.Sema object_replies.Sema (λ e. tt) _ _ _ _)
+  no_end_on place (kinds.Flight atomic delta) (operations.Fly key) other =
+      by_flight NoEnd (flight_part (object_number place)) (adds (atomic_number plan.objects atomic) delta) (of_kind object_events.Flight object_replies.Flight (λ e. tt) _ _ _) (λ items answer spelt. of_placed _ items spelt.1) _
   no_end_on place kind operation other = λ items answer spelt. absurd spelt
 
   sums_on : (place : ℕ) (kind : ObjectKind) (operation : Operation) (items : List Made) (answer : CallAnswer (Reply ℕ)) → call_on plan worker before place kind operation items answer → (sum : ℤ) → SumsHold sum items

@@ -41,7 +41,7 @@ use Rattle.shared_checks.specs.Placing.{IsOn}
 use Rattle.record_text.proofs.OwnWords.{each_both, each_mono, each_split}
 use Rattle.run_check.specs.declared.told.placing.Asked.{Asked}
 use Rattle.run_check.specs.ToldItems.{asked_at, asked_by, asked_on, ranged_by, script_call, type_at as type_told, type_of}
-use Rattle.run_check.proofs.OnObjects.{all_at, an_atomic, get_map, int64, is_good, referred, script_good, spelt_is_on, type_at, valid_parts, zero_kind}
+use Rattle.run_check.proofs.OnObjects.{all_at, an_atomic, flown, get_map, int64, is_good, referred, script_good, spelt_is_on, type_at, valid_parts, zero_kind}
 use Rattle.run_check.proofs.ToldCalls.{FitsCall, FitsIn, line_fits}
 use Rattle.run_check.proofs.ToldHeld.{IsAnswered, KeepsTypes, answer_is, hold_at, hold_zeros, map_is, replied_64}
 use Rattle.run_check.proofs.ToldPlaces.{AllOf}
@@ -110,6 +110,9 @@ module _ (plan : Plan) where
   asked_type place object (kinds.Once atomic delta) operations.Once asked at is has refer found =
       let (held, there, target) = referred plan (is_target (kinds.Once atomic delta)) (slice_get plan.objects atomic) refer in
       on_atomic atomic types.Int64 (Add (numbers.Int64 delta)) asked (declared_type atomic held types.Int64 there (int64 plan atomic delta held.kind target)) found
+  asked_type place object (kinds.Flight atomic delta) (operations.Fly key) asked at is has refer found =
+      let (held, there, target) = referred plan (is_target (kinds.Flight atomic delta)) (slice_get plan.objects atomic) refer in
+      on_atomic atomic types.Int64 (Add (numbers.Int64 delta)) asked (declared_type atomic held types.Int64 there (flown plan atomic delta held.kind target)) found
   asked_type place object kind operation asked at is has refer found = absurd (none-some asked found)
 
   module _ (readable : IsReadable plan) where

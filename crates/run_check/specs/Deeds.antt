@@ -34,6 +34,14 @@ use Rattle.pool_core.specs.declared.pool_event.PoolEvent.TheVariants as pool_eve
 use Rattle.pool_core.specs.declared.pool_event.PoolEvent.{PoolEvent}
 use Rattle.pool_core.specs.declared.pool_event.PoolReply.TheVariants as pool_replies
 use Rattle.pool_core.specs.declared.pool_event.PoolReply.{PoolReply}
+use Rattle.sema_core.specs.declared.event.SemaEvent.{SemaEvent}
+use Rattle.sema_core.specs.declared.event.SemaEvent.TheVariants as sema_events
+use Rattle.sema_core.specs.declared.event.SemaReply.{SemaReply}
+use Rattle.sema_core.specs.declared.event.SemaReply.TheVariants as sema_replies
+use Rattle.flight_core.specs.declared.event.FlightEvent.{FlightEvent}
+use Rattle.flight_core.specs.declared.event.FlightEvent.TheVariants as flight_events
+use Rattle.flight_core.specs.declared.event.FlightReply.{FlightReply}
+use Rattle.flight_core.specs.declared.event.FlightReply.TheVariants as flight_replies
 use Rattle.starts_core.specs.declared.starts.StartEvent.TheVariants as start_events
 use Rattle.starts_core.specs.declared.starts.StartEvent.{StartEvent}
 use Rattle.starts_core.specs.declared.starts.StartReply.TheVariants as start_replies
@@ -191,6 +199,35 @@ pool_reply_told (pool_events.LookOther part) answer = look_reply_told answer
 pool_reply_told (pool_events.LookVictim part) answer = look_reply_told answer
 pool_reply_told pool_events.Sweep answer = sweep_reply_told answer
 
+abbrev pub sema_event_told : EventWord → Option SemaEvent
+sema_event_told (events.Acquire weight) = Some (sema_events.Acquire weight)
+sema_event_told (events.TryAcquire weight) = Some (sema_events.Try weight)
+sema_event_told (events.Release weight) = Some (sema_events.Release weight)
+sema_event_told events.Leave = Some sema_events.Leave
+sema_event_told event = None
+
+abbrev pub sema_reply_told : AnswerWord → Option SemaReply
+sema_reply_told words.Done = Some sema_replies.Done
+sema_reply_told words.Queued = Some sema_replies.Queued
+sema_reply_told words.Refused = Some sema_replies.Refused
+sema_reply_told (words.Misused misuse) = Some (sema_replies.Misused misuse)
+sema_reply_told words.Still = Some sema_replies.Still
+sema_reply_told answer = None
+
+abbrev pub flight_event_told : EventWord → Option FlightEvent
+flight_event_told (events.Join key) = Some (flight_events.Join key)
+flight_event_told (events.Land value) = Some (flight_events.Land value)
+flight_event_told events.Leave = Some flight_events.Leave
+flight_event_told event = None
+
+abbrev pub flight_reply_told : AnswerWord → Option FlightReply
+flight_reply_told words.Lead = Some flight_replies.Lead
+flight_reply_told words.Queued = Some flight_replies.Queued
+flight_reply_told (words.Tried shared) = Some (flight_replies.Landed shared)
+flight_reply_told (words.Left value) = Some (flight_replies.Left value)
+flight_reply_told words.Still = Some flight_replies.Still
+flight_reply_told answer = None
+
 abbrev pub start_event_told : EventWord → Option StartEvent
 start_event_told (events.Start worker) = Some (start_events.Start worker)
 start_event_told events.End = Some start_events.End
@@ -216,6 +253,8 @@ event_told (speakers.Once comes_to kept) event = option_map object_events.Once (
 event_told (speakers.OnceFunc code) event = option_map object_events.OnceFunc (once_event_told code event)
 event_told (speakers.OnceValue value) event = option_map object_events.OnceValue (once_event_told value event)
 event_told (speakers.PoolPart part) event = option_map object_events.Pool (pool_event_told part event)
+event_told speakers.Sema event = option_map object_events.Sema (sema_event_told event)
+event_told speakers.Flight event = option_map object_events.Flight (flight_event_told event)
 event_told speakers.Starts event = option_map object_events.Starts (start_event_told event)
 
 -- the answer to an event of that object
@@ -228,6 +267,8 @@ answer_told (speakers.Once comes_to kept) (object_events.Once event) answer = op
 answer_told (speakers.OnceFunc code) (object_events.OnceFunc event) answer = option_map object_replies.OnceFunc (once_reply_told code event answer)
 answer_told (speakers.OnceValue value) (object_events.OnceValue event) answer = option_map object_replies.OnceValue (once_reply_told value event answer)
 answer_told (speakers.PoolPart part) (object_events.Pool event) answer = option_map object_replies.Pool (pool_reply_told event answer)
+answer_told speakers.Sema (object_events.Sema event) answer = option_map object_replies.Sema (sema_reply_told answer)
+answer_told speakers.Flight (object_events.Flight event) answer = option_map object_replies.Flight (flight_reply_told answer)
 answer_told speakers.Starts (object_events.Starts event) answer = option_map object_replies.Starts (start_reply_told answer)
 answer_told speaker event answer = None
 

@@ -59,13 +59,14 @@ type_at objects place = option_map_or (λ (object : ObjectLine). type_of object.
 abbrev pub loads : List ObjectLine → ℕ → Asked
 loads objects place = record { call = calls.Atomic (atomic_number objects place) Load; kind = type_at objects place }
 
--- a call on a map or an atomic; the tests of an `ifeq` and of a `waitfor`; and the `add` of a `do`
+-- a call on a map or an atomic; the tests of an `ifeq` and of a `waitfor`; and the `add` of a `do` and of a `fly`
 abbrev pub asked_on : Plan → (place : ℕ) → ObjectKind → Operation → Option Asked
 asked_on plan place kinds.Map (operations.Map call) = Some (record { call = calls.Map (map_number plan.objects place) (renamed_call (key_number (keys_in plan.scripts)) call); kind = types.Int64 })
 asked_on plan place (kinds.Atomic type) (operations.Atomic call) = Some (record { call = calls.Atomic (atomic_number plan.objects place) call; kind = type })
 asked_on plan place (kinds.Atomic type) (operations.Composed (IfEqual value passes)) = Some (loads plan.objects place)
 asked_on plan place (kinds.Cond mutex) (operations.Composed (WaitFor atomic value tries)) = Some (loads plan.objects atomic)
 asked_on plan place (kinds.Once atomic delta) operations.Once = Some (record { call = calls.Atomic (atomic_number plan.objects atomic) (Add (Int64 delta)); kind = types.Int64 })
+asked_on plan place (kinds.Flight atomic delta) (operations.Fly key) = Some (record { call = calls.Atomic (atomic_number plan.objects atomic) (Add (Int64 delta)); kind = types.Int64 })
 asked_on plan place kind operation = None
 
 abbrev pub asked_at : Plan → Option ObjectLine → Call → Option Asked
@@ -108,6 +109,8 @@ declared_speaker kept object worker sum (kinds.WaitGroup start) = speakers.WaitG
 declared_speaker kept object worker sum (kinds.Once atomic delta) = speakers.Once sum (unwrap_or (kept_at kept object) sum)
 declared_speaker kept object worker sum (kinds.OnceFunc code) = speakers.OnceFunc code
 declared_speaker kept object worker sum (kinds.OnceValue value) = speakers.OnceValue value
+declared_speaker kept object worker sum (kinds.Sema size) = speakers.Sema
+declared_speaker kept object worker sum (kinds.Flight atomic delta) = speakers.Flight
 declared_speaker kept object worker sum kinds.Map = speakers.Silent
 declared_speaker kept object worker sum (kinds.Atomic type) = speakers.Silent
 declared_speaker kept object worker sum kinds.Pool = speakers.Silent

@@ -19,6 +19,7 @@ ghost use Rattle.run_check.specs.Lists.{AreSpeltTo};
 ghost use Rattle.run_check.specs.Tells.{Tells};
 
 use crate::spelling::Spelling;
+use flight_core::FlightCore;
 use mutex_core::MutexCore;
 use object_checks::journals::laws::items_determine_their_journals;
 use object_checks::journals::{JournalItem, Row, follow_machines, journals_of, keep_all_edges};
@@ -26,6 +27,7 @@ use pool_core::PartCore;
 use record_clauses::Clause;
 use record_clauses::laws::a_machine_sees_no_fronts;
 use rw_core::RwCore;
+use sema_core::SemaCore;
 use starts_core::StartsCore;
 use std::alloc::{AllocError, Global};
 use sync_types::Seq;
@@ -68,6 +70,8 @@ fn follows_without_fronts()
     a_machine_sees_no_fronts::<OnceCore<i64>>();
     a_machine_sees_no_fronts::<OnceCore<u32>>();
     a_machine_sees_no_fronts::<OnceCore<u64>>();
+    a_machine_sees_no_fronts::<SemaCore>();
+    a_machine_sees_no_fronts::<FlightCore>();
     a_machine_sees_no_fronts::<PartCore>();
     a_machine_sees_no_fronts::<StartsCore>();
 }

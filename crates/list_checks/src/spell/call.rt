@@ -10,6 +10,7 @@ ghost use Rattle.list_checks.specs.SpellFound.{IsFound, range_cut};
 ghost use Rattle.list_checks.specs.SpellLines.{IsCallFound, is_composed, is_range_of_map};
 
 use crate::spell::cond::spell_cond;
+use crate::spell::flight::spell_fly;
 use crate::spell::group::spell_group;
 use crate::spell::mutex::spell_mutex;
 use crate::spell::numbers::{atomic_number, first_part, map_number, object_number, starts_number};
@@ -17,8 +18,9 @@ use crate::spell::once::{spell_do, spell_once_func, spell_once_value};
 use crate::spell::placed::{CallOnAtomic, CallOnMap, spell_placed};
 use crate::spell::pool::{Pool, spell_pool};
 use crate::spell::range::{sorted, spell_cursor};
-use crate::spell::renamed::numbered;
+use crate::spell::renamed::{number_of, numbered};
 use crate::spell::rw_mutex::spell_rw_mutex;
+use crate::spell::sema::spell_sema;
 use crate::spell::spelt::{Found, Spelt, Stop};
 use crate::spell::starts::spell_go;
 use crate::spell::tests::{Waiting, spell_if_equal, spell_wait_for};
@@ -161,6 +163,12 @@ fn spell_simple(
         }
         (ObjectKind::Pool, Operation::Pool(call)) => {
             spell_pool(pool_at(workload, worker, place), *call, items, from)
+        }
+        (ObjectKind::Sema { .. }, Operation::Sema(call)) => spell_sema(object, *call, items, from),
+        (ObjectKind::Flight { atomic, delta }, Operation::Fly(key)) => {
+            let number = atomic_number(workload.objects(), atomic);
+            let key = number_of(workload.keys(), key);
+            spell_fly(object, number, delta, key, items, from)
         }
         _ => Err(Stop::Wrong),
     }

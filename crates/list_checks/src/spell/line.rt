@@ -397,7 +397,8 @@ fn is_same_misuse(misuse: Misuse, other: Misuse) -> bool
         | (Misuse::RUnlockOfUnlockedRwMutex, Misuse::RUnlockOfUnlockedRwMutex)
         | (Misuse::UnlockOfUnlockedRwMutex, Misuse::UnlockOfUnlockedRwMutex)
         | (Misuse::NegativeWaitGroupCounter, Misuse::NegativeWaitGroupCounter)
-        | (Misuse::WaitGroupReused, Misuse::WaitGroupReused) => true,
+        | (Misuse::WaitGroupReused, Misuse::WaitGroupReused)
+        | (Misuse::SemaphoreOverReleased, Misuse::SemaphoreOverReleased) => true,
         _ => false,
     }
 }

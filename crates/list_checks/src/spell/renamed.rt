@@ -6,8 +6,8 @@ ghost use Rattle.workload.specs.Keys.{key_number};
 use sync_types::{MapCall, Name};
 use workload::Keys;
 
-// The number of a key, or 0 for a name that is none.
-fn number_of(keys: &Keys, key: &Name) -> u32
+/// The number of a key, or 0 for a name that is none.
+pub fn number_of(keys: &Keys, key: &Name) -> u32
     ensures { result ≡ key_number keys.now key.now }
 {
     keys.number(key.as_bytes()).unwrap_or(0)

@@ -7,10 +7,12 @@ ghost use Rattle.object_checks.specs.JournalItems.{entry_in, journals_in, HaveFr
 ghost use Rattle.object_checks.specs.JournalParts.{KeepAllEdges};
 
 use crate::journals::row::Row;
+use flight_core::FlightCore;
 use mutex_core::MutexCore;
 use pool_core::PartCore;
 use run_record::{ObjectEvent, ObjectReply};
 use rw_core::RwCore;
+use sema_core::SemaCore;
 use shared_checks::laws::notes_stand_for_a_journal;
 use shared_checks::{Counts, Note, keeps_edges};
 use starts_core::StartsCore;
@@ -42,6 +44,10 @@ fn frees(event: &ObjectEvent, reply: &ObjectReply) -> bool
             event, reply,
         ),
         (ObjectEvent::Pool(event), ObjectReply::Pool(reply)) => PartCore::releases(event, reply),
+        (ObjectEvent::Sema(event), ObjectReply::Sema(reply)) => SemaCore::releases(event, reply),
+        (ObjectEvent::Flight(event), ObjectReply::Flight(reply)) => FlightCore::releases(
+            event, reply,
+        ),
         (ObjectEvent::Starts(event), ObjectReply::Starts(reply)) => StartsCore::releases(
             event, reply,
         ),
@@ -72,6 +78,10 @@ fn takes(event: &ObjectEvent, reply: &ObjectReply) -> bool
             event, reply,
         ),
         (ObjectEvent::Pool(event), ObjectReply::Pool(reply)) => PartCore::acquires(event, reply),
+        (ObjectEvent::Sema(event), ObjectReply::Sema(reply)) => SemaCore::acquires(event, reply),
+        (ObjectEvent::Flight(event), ObjectReply::Flight(reply)) => FlightCore::acquires(
+            event, reply,
+        ),
         (ObjectEvent::Starts(event), ObjectReply::Starts(reply)) => StartsCore::acquires(
             event, reply,
         ),

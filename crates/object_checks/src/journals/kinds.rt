@@ -3,10 +3,12 @@ ghost use Rattle.run_record.specs.declared.entered.ObjectEvent.TheVariants as ev
 ghost use Rattle.run_record.specs.declared.entered.ObjectReply.TheVariants as replies;
 
 use crate::journals::kind::JournalKind;
+use flight_core::{FlightCore, FlightEvent, FlightReply};
 use mutex_core::{MutexCore, MutexEvent, MutexReply};
 use pool_core::{PartCore, PoolEvent, PoolReply};
 use run_record::{ObjectEvent, ObjectReply};
 use rw_core::{RwCore, RwEvent, RwReply};
+use sema_core::{SemaCore, SemaEvent, SemaReply};
 use starts_core::{StartEvent, StartReply, StartsCore};
 use wait_cores::{
     GroupCore, GroupEvent, GroupReply, NotifyCore, NotifyEvent, NotifyReply, OnceCore, OnceEvent,
@@ -189,6 +191,58 @@ impl JournalKind for OnceCore<u64> {
     }
 
     fn is_same(first: &OnceReply<u64>, second: &OnceReply<u64>) -> bool {
+        first == second
+    }
+
+    fn laws() {}
+}
+
+impl JournalKind for SemaCore {
+    ghost event = { events.Sema };
+
+    ghost reply = { replies.Sema };
+
+    fn own_event(said: &ObjectEvent) -> Option<SemaEvent> {
+        match said {
+            ObjectEvent::Sema(own) => Some(*own),
+            _ => None,
+        }
+    }
+
+    fn own_reply(said: &ObjectReply) -> Option<SemaReply> {
+        match said {
+            ObjectReply::Sema(own) => Some(*own),
+            _ => None,
+        }
+    }
+
+    fn is_same(first: &SemaReply, second: &SemaReply) -> bool {
+        first == second
+    }
+
+    fn laws() {}
+}
+
+impl JournalKind for FlightCore {
+    ghost event = { events.Flight };
+
+    ghost reply = { replies.Flight };
+
+    fn own_event(said: &ObjectEvent) -> Option<FlightEvent> {
+        match said {
+            ObjectEvent::Flight(own) => Some(*own),
+            _ => None,
+        }
+    }
+
+    fn own_reply(said: &ObjectReply) -> Option<FlightReply> {
+        match said {
+            ObjectReply::Flight(own) => Some(*own),
+            _ => None,
+        }
+    }
+
+    fn is_same(first: &FlightReply, second: &FlightReply) -> bool {
         first == second
     }
 

@@ -9,8 +9,10 @@ ghost use Rattle.object_checks.specs.JournalParts.{IsMachineJournal, DeclaredFol
 
 use crate::journals::replay::follows_machine;
 use crate::journals::row::Row;
+use flight_core::FlightCore;
 use mutex_core::MutexCore;
 use rw_core::RwCore;
+use sema_core::SemaCore;
 use std::alloc::{AllocError, Global};
 use sync_model::Deed;
 use sync_types::Seq;
@@ -94,6 +96,14 @@ pub(crate) fn follows_kind(
         ObjectKind::OnceValue { .. } => {
             let start = OnceCore::<u64>::new(alloc, workers)?;
             Ok(follows_machine::<OnceCore<u64>>(start, journal))
+        }
+        ObjectKind::Sema { size } => {
+            let start = SemaCore::new(alloc, workers, size)?;
+            Ok(follows_machine::<SemaCore>(start, journal))
+        }
+        ObjectKind::Flight { .. } => {
+            let start = FlightCore::new(alloc, workers)?;
+            Ok(follows_machine::<FlightCore>(start, journal))
         }
     }
 }

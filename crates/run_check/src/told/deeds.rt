@@ -1,8 +1,9 @@
 //! What was done on an object, and what it answered, read from their words.
 ghost use Rattle.std.specs.Prelude.{◌≡◌};
-ghost use Rattle.run_check.specs.Deeds.{mutex_event_told, mutex_reply_told, rw_event_told, rw_arrival_told, rw_trial_told, rw_unlocking_told, rw_resumption_told, rw_leaving_told, rw_reply_told, cond_event_told, cond_reply_told, group_event_told, group_reply_told, once_event_told, once_reply_told, pool_event_told, put_reply_told, look_reply_told, sweep_reply_told, pool_reply_told, start_event_told, start_reply_told, event_told, answer_told, halted_in, entry_told, deed_told};
+ghost use Rattle.run_check.specs.Deeds.{mutex_event_told, mutex_reply_told, rw_event_told, rw_arrival_told, rw_trial_told, rw_unlocking_told, rw_resumption_told, rw_leaving_told, rw_reply_told, cond_event_told, cond_reply_told, group_event_told, group_reply_told, once_event_told, once_reply_told, pool_event_told, put_reply_told, look_reply_told, sweep_reply_told, pool_reply_told, sema_event_told, sema_reply_told, flight_event_told, flight_reply_told, start_event_told, start_reply_told, event_told, answer_told, halted_in, entry_told, deed_told};
 
 use crate::told::replies::int32_told;
+use flight_core::{FlightEvent, FlightReply};
 use mutex_core::{Arrival, MutexEvent, MutexReply, Resumption, Unlocking};
 use pool_core::{PoolEvent, PoolReply};
 use record_text::{AnswerWord, EventWord};
@@ -10,6 +11,7 @@ use run_record::{ObjectEvent, ObjectReply};
 use rw_core::{
     Arrival as RwArrival, Resumption as RwResumption, RwEvent, RwReply, Unlocking as RwUnlocking,
 };
+use sema_core::{SemaEvent, SemaReply};
 use starts_core::{StartEvent, StartReply};
 use sync_model::Deed;
 use sync_types::Misuse;
@@ -33,6 +35,9 @@ pub enum Speaker {
     OnceValue(u64),
     /// This part of a pool.
     PoolPart(u32),
+    Sema,
+    /// A group of flights.
+    Flight,
     Starts,
 }
 
@@ -286,6 +291,55 @@ fn pool_reply_told(event: PoolEvent<u64>, answer: AnswerWord) -> Option<PoolRepl
     }
 }
 
+fn sema_event_told(event: EventWord) -> Option<SemaEvent>
+    ensures { result ≡ sema_event_told event }
+{
+    match event {
+        EventWord::Acquire { weight } => Some(SemaEvent::Acquire(weight)),
+        EventWord::TryAcquire { weight } => Some(SemaEvent::Try(weight)),
+        EventWord::Release { weight } => Some(SemaEvent::Release(weight)),
+        EventWord::Leave => Some(SemaEvent::Leave),
+        _ => None,
+    }
+}
+
+fn sema_reply_told(answer: AnswerWord) -> Option<SemaReply>
+    ensures { result ≡ sema_reply_told answer }
+{
+    match answer {
+        AnswerWord::Done => Some(SemaReply::Done),
+        AnswerWord::Queued => Some(SemaReply::Queued),
+        AnswerWord::Refused => Some(SemaReply::Refused),
+        AnswerWord::Misused(misuse) => Some(SemaReply::Misused(misuse)),
+        AnswerWord::Still => Some(SemaReply::Still),
+        _ => None,
+    }
+}
+
+fn flight_event_told(event: EventWord) -> Option<FlightEvent>
+    ensures { result ≡ flight_event_told event }
+{
+    match event {
+        EventWord::Join { key } => Some(FlightEvent::Join(key)),
+        EventWord::Land { value } => Some(FlightEvent::Land(value)),
+        EventWord::Leave => Some(FlightEvent::Leave),
+        _ => None,
+    }
+}
+
+fn flight_reply_told(answer: AnswerWord) -> Option<FlightReply>
+    ensures { result ≡ flight_reply_told answer }
+{
+    match answer {
+        AnswerWord::Lead => Some(FlightReply::Lead),
+        AnswerWord::Queued => Some(FlightReply::Queued),
+        AnswerWord::Tried(shared) => Some(FlightReply::Landed(shared)),
+        AnswerWord::Left { value } => Some(FlightReply::Left(value)),
+        AnswerWord::Still => Some(FlightReply::Still),
+        _ => None,
+    }
+}
+
 fn start_event_told(event: EventWord) -> Option<StartEvent>
     ensures { result ≡ start_event_told event }
 {
@@ -322,6 +376,8 @@ fn event_told(speaker: Speaker, event: EventWord) -> Option<ObjectEvent>
         Speaker::OnceFunc(code) => once_event_told(code, event).map(ObjectEvent::OnceFunc),
         Speaker::OnceValue(value) => once_event_told(value, event).map(ObjectEvent::OnceValue),
         Speaker::PoolPart(part) => pool_event_told(part, event).map(ObjectEvent::Pool),
+        Speaker::Sema => sema_event_told(event).map(ObjectEvent::Sema),
+        Speaker::Flight => flight_event_told(event).map(ObjectEvent::Flight),
         Speaker::Starts => start_event_told(event).map(ObjectEvent::Starts),
     }
 }
@@ -351,6 +407,10 @@ fn answer_told(speaker: Speaker, event: ObjectEvent, answer: AnswerWord) -> Opti
         ).map(ObjectReply::OnceValue),
         (Speaker::PoolPart(_), ObjectEvent::Pool(event)) => pool_reply_told(event, answer).map(
             ObjectReply::Pool,
+        ),
+        (Speaker::Sema, ObjectEvent::Sema(_)) => sema_reply_told(answer).map(ObjectReply::Sema),
+        (Speaker::Flight, ObjectEvent::Flight(_)) => flight_reply_told(answer).map(
+            ObjectReply::Flight,
         ),
         (Speaker::Starts, ObjectEvent::Starts(_)) => start_reply_told(answer).map(
             ObjectReply::Starts,

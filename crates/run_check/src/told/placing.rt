@@ -95,7 +95,8 @@ fn asked_on(
         (ObjectKind::Cond { .. }, Operation::Composed(ComposedCall::WaitFor { atomic, .. })) => {
             Some(loads(workload, *atomic))
         }
-        (ObjectKind::Once { atomic, delta }, Operation::Once) => Some(Asked {
+        (ObjectKind::Once { atomic, delta }, Operation::Once)
+        | (ObjectKind::Flight { atomic, delta }, Operation::Fly(_)) => Some(Asked {
             call: SharedCall::Atomic {
                 atomic: atomic_at(workload, atomic),
                 call: AtomicCall::Add {
@@ -178,6 +179,8 @@ fn declared_speaker(
         ObjectKind::Once { .. } => Speaker::Once(sum, kept_at(kept, object).unwrap_or(sum)),
         ObjectKind::OnceFunc { code } => Speaker::OnceFunc(code),
         ObjectKind::OnceValue { value } => Speaker::OnceValue(value),
+        ObjectKind::Sema { .. } => Speaker::Sema,
+        ObjectKind::Flight { .. } => Speaker::Flight,
         ObjectKind::Map | ObjectKind::Atomic(_) | ObjectKind::Pool | ObjectKind::Var => {
             Speaker::Silent
         }

@@ -2,6 +2,8 @@ use Rattle.std.proofs.Common.{◌≡◌, ◌↔◌, List, [], ◌∷◌, ap, ref
 use Rattle.mutex_core.specs.MutexMachine as mutex
 use Rattle.pool_core.specs.PartMachine.{part_start}
 use Rattle.rw_core.specs.RwMachine as rw
+use Rattle.sema_core.specs.SemaMachine as sema
+use Rattle.flight_core.specs.FlightMachine as flight
 use Rattle.starts_core.specs.StartsMachine.{begun}
 use Rattle.wait_cores.specs.NotifyMachine as notify
 use Rattle.wait_cores.specs.OnceMachine as once
@@ -36,10 +38,12 @@ returns-clause-declared c plan place kind journal = by kind where
   by (kinds.Once atomic delta) = c.a_machine_sees_no_fronts-5.ensures event.Once reply.Once (once.start plan.workers) journal
   by (kinds.OnceFunc code) = c.a_machine_sees_no_fronts-6.ensures event.OnceFunc reply.OnceFunc (once.start plan.workers) journal
   by (kinds.OnceValue value) = c.a_machine_sees_no_fronts-7.ensures event.OnceValue reply.OnceValue (once.start plan.workers) journal
+  by (kinds.Sema size) = c.a_machine_sees_no_fronts-8.ensures event.Sema reply.Sema (sema.start plan.workers size) journal
+  by (kinds.Flight atomic delta) = c.a_machine_sees_no_fronts-9.ensures event.Flight reply.Flight (flight.start plan.workers) journal
   by kinds.Pool = no_journal journal
 
 pub returns-clause-part : goal.returns-clause-part
-returns-clause-part c room journal = c.a_machine_sees_no_fronts-8.ensures event.Pool reply.Pool (part_start room) journal
+returns-clause-part c room journal = c.a_machine_sees_no_fronts-10.ensures event.Pool reply.Pool (part_start room) journal
 
 pub returns-clause-starts : goal.returns-clause-starts
-returns-clause-starts c dormant journal = c.a_machine_sees_no_fronts-9.ensures event.Starts reply.Starts (begun dormant) journal
+returns-clause-starts c dormant journal = c.a_machine_sees_no_fronts-11.ensures event.Starts reply.Starts (begun dormant) journal
