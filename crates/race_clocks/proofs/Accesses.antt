@@ -111,9 +111,11 @@ module _ (place : ℕ) (call : VarCall) (worker moment : ℕ) (objects : List Ob
   at_object (states.Cond c other) told = beside other (states.Cond c other) told
   at_object (states.WaitGroup g first) told = absurd (false≢true told)
   at_object (states.Once o other delta) told = beside other (states.Once o other delta) told
+  at_object (states.Flight f keys other delta) told = beside other (states.Flight f keys other delta) told
   at_object (states.OnceFunc o code) told = absurd (false≢true told)
   at_object (states.OnceValue o value) told = absurd (false≢true told)
   at_object (states.Pool p) told = absurd (false≢true told)
+  at_object (states.Sema s size) told = absurd (false≢true told)
   at_object (states.Var held) told = (replies.Var (var_reply call held), refl)
 
   at_found : (found : Option ObjectState) → is_told (option_map_or (λ object. items_by (reference_of (kind_of object)) on_var worker moment objects object) found []) (option_map_or (λ object. turn_by (reference_of (kind_of object)) on_var worker moment objects object) found (objects, answers.Still)).1 ≡ true

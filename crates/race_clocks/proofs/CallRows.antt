@@ -7,6 +7,7 @@ use Rattle.sync_types.specs.declared.lock_call.LockReply.TheVariants as locks
 use Rattle.sync_types.specs.declared.lock_call.MutexCall.TheVariants as mutex_calls
 use Rattle.sync_types.specs.declared.lock_call.RwMutexCall.{RwMutexCall}
 use Rattle.sync_types.specs.declared.lock_call.RwMutexCall.TheVariants as rw_calls
+use Rattle.sync_types.specs.declared.sema_call.SemaCall.TheVariants as sema_calls
 use Rattle.sync_types.specs.declared.wait_call.WaitGroupCall.TheVariants as group_calls
 use Rattle.workload.specs.Plan.{Plan}
 use Rattle.workload.specs.declared.turn.Turn.{Turn}
@@ -16,10 +17,10 @@ use Rattle.step_runner.specs.declared.turns.object_state.ObjectState.{ObjectStat
 use Rattle.step_runner.specs.State.{start}
 use Rattle.step_runner.specs.Traces.{traced_from}
 use Rattle.race_clocks.specs.HappensBefore.{Before}
-use Rattle.race_clocks.specs.Rows.{Makes, Completes, IsMutexUnlock, IsMutexLock, IsRwLock, IsWritersCall, lock, try_lock, writer_unlock, reader_unlock, added, IsGroupReturn}
+use Rattle.race_clocks.specs.Rows.{Makes, Completes, IsMutexUnlock, IsMutexLock, IsRwLock, IsWritersCall, lock, try_lock, writer_unlock, reader_unlock, added, IsGroupReturn, gave_back, IsWeightHad}
 use Rattle.race_clocks.proofs.Accesses.{IsToldOf, told_of}
-use Rattle.race_clocks.proofs.CompletedCalls.{Takes, locks_it, reads_it, tries_it, tries_to_read_it, locked_by, tried_by, rw_by, waited_by, added_by, done_by, makes}
-use Rattle.race_clocks.proofs.Ordered.{mutex_row, writer_row, reader_row, group_row}
+use Rattle.race_clocks.proofs.CompletedCalls.{Takes, locks_it, reads_it, tries_it, tries_to_read_it, locked_by, tried_by, rw_by, waited_by, added_by, done_by, acquired_by, weight_tried_by, makes}
+use Rattle.race_clocks.proofs.Ordered.{mutex_row, writer_row, reader_row, group_row, weight_row}
 
 -- each item of a trace of turns tells of a turn
 pub all_told : (plan : Plan) (trace : List TraceItem) (turns : List Turn) → trace ≡ traced_from plan turns (start plan) → (n : ℕ) (one : TraceItem) → slice_get trace n ≡ Some one → IsToldOf plan one
@@ -36,6 +37,16 @@ module _ (plan : Plan) (trace : List TraceItem) (told : (n : ℕ) (one : TraceIt
     mutex_tried unlock c =
         let does = tried_by plan trace told j place c in
         mutex_row plan trace i j place w does.worker d does.deed earlier one (makes plan trace told j place (operations.Mutex mutex_calls.TryLock) (replies.Lock (locks.Tried true)) c IsMutexLock does) unlock does.does
+
+    pub weight_acquired : (given weight : ℕ) → d ≡ gave_back given → (reply : Reply (List ℕ)) → Completes trace j place (operations.Sema (sema_calls.Acquire weight)) reply → Before plan trace i j
+    weight_acquired given weight gives reply c =
+        let does = acquired_by plan trace told j place weight reply c in
+        weight_row plan trace i j place w does.worker d does.deed earlier one (makes plan trace told j place (operations.Sema (sema_calls.Acquire weight)) reply c IsWeightHad does) given gives does.does
+
+    pub weight_tried : (given weight : ℕ) → d ≡ gave_back given → Completes trace j place (operations.Sema (sema_calls.TryAcquire weight)) (replies.Lock (locks.Tried true)) → Before plan trace i j
+    weight_tried given weight gives c =
+        let does = weight_tried_by plan trace told j place weight c in
+        weight_row plan trace i j place w does.worker d does.deed earlier one (makes plan trace told j place (operations.Sema (sema_calls.TryAcquire weight)) (replies.Lock (locks.Tried true)) c IsWeightHad does) given gives does.does
 
     module _ (call : RwMutexCall) (reply : Reply (List ℕ)) (takes : (worker moment : ℕ) (objects : List ObjectState) → Takes place worker moment objects reply call) (c : Completes trace j place (operations.RwMutex call) reply) where
       behind_writer : d ≡ writer_unlock → Before plan trace i j

@@ -1,4 +1,4 @@
--- What a turn made that completed a call of a lock or of a wait group.
+-- What a turn made that completed a call of a lock, of a semaphore or of a wait group.
 use Rattle.std.proofs.Common.{◌≡◌, ℕ, ℤ, negsuc, Bool, true, false, List, [], ◌∷◌, Option, Some, None, slice_get, refl, sym, ap, ◌∙◌}
 use Rattle.std.specs.Prelude.{cond}
 use Rattle.std.specs.Option.{option_map_or}
@@ -14,6 +14,8 @@ use Rattle.sync_types.specs.declared.lock_call.MutexCall.{MutexCall}
 use Rattle.sync_types.specs.declared.lock_call.MutexCall.TheVariants as mutex_calls
 use Rattle.sync_types.specs.declared.lock_call.RwMutexCall.{RwMutexCall}
 use Rattle.sync_types.specs.declared.lock_call.RwMutexCall.TheVariants as rw_calls
+use Rattle.sync_types.specs.declared.sema_call.SemaCall.{SemaCall}
+use Rattle.sync_types.specs.declared.sema_call.SemaCall.TheVariants as sema_calls
 use Rattle.sync_types.specs.declared.wait_call.WaitGroupCall.{WaitGroupCall}
 use Rattle.sync_types.specs.declared.wait_call.WaitGroupCall.TheVariants as group_calls
 use Rattle.rw_core.specs.RwMachine as rw
@@ -36,6 +38,13 @@ use Rattle.mutex_core.specs.declared.reply.Arrival.TheVariants as mutex_arrival
 use Rattle.mutex_core.specs.declared.reply.MutexReply.{MutexReply}
 use Rattle.mutex_core.specs.declared.reply.MutexReply.TheVariants as mutex_replies
 use Rattle.mutex_core.specs.declared.reply.Resumption.TheVariants as mutex_resumption
+use Rattle.sema_core.specs.SemaMachine as sema
+use Rattle.sema_core.specs.SemaStages as sema_stages
+use Rattle.sema_core.specs.declared.event.SemaEvent.TheVariants as sema_events
+use Rattle.sema_core.specs.declared.event.SemaPlace.{SemaPlace}
+use Rattle.sema_core.specs.declared.event.SemaPlace.TheVariants as sema_places
+use Rattle.sema_core.specs.declared.event.SemaReply.{SemaReply}
+use Rattle.sema_core.specs.declared.event.SemaReply.TheVariants as sema_replies
 use Rattle.wait_cores.specs.GroupMachine as group
 use Rattle.wait_cores.specs.declared.group.GroupEvent.TheVariants as group_events
 use Rattle.wait_cores.specs.declared.group.GroupPlace.{GroupPlace}
@@ -55,7 +64,7 @@ use Rattle.step_runner.specs.declared.turns.item.Deed.TheVariants as deeds
 use Rattle.step_runner.specs.declared.turns.item.Item.{Item}
 use Rattle.step_runner.specs.declared.turns.object_state.ObjectState.{ObjectState}
 use Rattle.step_runner.specs.declared.turns.object_state.ObjectState.TheVariants as states
-use Rattle.step_runner.specs.Due.{mutex_due, rw_due, group_due, locked, returned}
+use Rattle.step_runner.specs.Due.{mutex_due, rw_due, group_due, sema_due, locked, returned}
 use Rattle.step_runner.specs.Items.{items_by, stage_items}
 use Rattle.step_runner.specs.Objects.{kind_of}
 use Rattle.step_runner.specs.Stages.{make, outcome_of, answer_by}
@@ -63,7 +72,7 @@ use Rattle.step_runner.specs.State.{State}
 use Rattle.step_runner.specs.Traces.{reply_of, closing_turn, script_turn, place_in_script}
 use Rattle.step_runner.specs.TurnAtObjects.{turn_by, turn_on_both, with_both}
 use Rattle.step_runner.specs.Turns.{is_behind}
-use Rattle.race_clocks.specs.Rows.{item, Makes, Completes, added, IsMutexLock, at_once, tried, resumed, IsGroupReturn, left, IsRwLock, reader_at_once, reader_tried, writer_at_once, writer_tried, writer_resumed}
+use Rattle.race_clocks.specs.Rows.{item, Makes, Completes, added, IsMutexLock, at_once, tried, resumed, IsGroupReturn, left, IsWeightHad, IsRwLock, reader_at_once, reader_tried, writer_at_once, writer_tried, writer_resumed}
 use Rattle.race_clocks.proofs.Accesses.{items, answer, IsToldOf}
 
 -- ---- a turn that completed a call
@@ -114,6 +123,7 @@ has_won a = false
 abbrev pub other_of : ObjectState → ℕ
 other_of (states.Cond c other) = other
 other_of (states.Once o other delta) = other
+other_of (states.Flight f keys other delta) = other
 other_of object = 0
 
 -- ---- at the call's object
@@ -175,18 +185,21 @@ module _ (place worker moment : ℕ) (objects : List ObjectState) (reply : Reply
   wait_each (states.WaitGroup g start) is = wait_at g (group.place_of g worker) is
   wait_each (states.Cond c other) is = absurd (beside_group group_calls.Wait (states.Cond c other) (slice_get objects other) is)
   wait_each (states.Once o other delta) is = absurd (beside_group group_calls.Wait (states.Once o other delta) (slice_get objects other) is)
+  wait_each (states.Flight f keys other delta) is = absurd (beside_group group_calls.Wait (states.Flight f keys other delta) (slice_get objects other) is)
   wait_each object is = never reply is
 
   add_each : (delta : ℤ) (object : ObjectState) → (step_by place (operations.WaitGroup (group_calls.Add delta)) worker moment objects object).1 ≡ answers.Completed reply → MakesOne place worker (λ d. d ≡ added delta) (made_by place (operations.WaitGroup (group_calls.Add delta)) worker moment objects object)
   add_each delta (states.WaitGroup g start) is = add_done delta (group.next g worker (group_events.Add delta)).1 is
   add_each delta (states.Cond c other) is = absurd (beside_group (group_calls.Add delta) (states.Cond c other) (slice_get objects other) is)
   add_each delta (states.Once o other amount) is = absurd (beside_group (group_calls.Add delta) (states.Once o other amount) (slice_get objects other) is)
+  add_each delta (states.Flight f keys other amount) is = absurd (beside_group (group_calls.Add delta) (states.Flight f keys other amount) (slice_get objects other) is)
   add_each delta object is = never reply is
 
   done_each : (object : ObjectState) → (step_by place (operations.WaitGroup group_calls.Done) worker moment objects object).1 ≡ answers.Completed reply → MakesOne place worker (λ d. d ≡ added (negsuc 0)) (made_by place (operations.WaitGroup group_calls.Done) worker moment objects object)
   done_each (states.WaitGroup g start) is = add_done (negsuc 0) (group.next g worker (group_events.Add (negsuc 0))).1 is
   done_each (states.Cond c other) is = absurd (beside_group group_calls.Done (states.Cond c other) (slice_get objects other) is)
   done_each (states.Once o other amount) is = absurd (beside_group group_calls.Done (states.Once o other amount) (slice_get objects other) is)
+  done_each (states.Flight f keys other amount) is = absurd (beside_group group_calls.Done (states.Flight f keys other amount) (slice_get objects other) is)
   done_each object is = never reply is
 
 -- ---- a mutex
@@ -239,12 +252,14 @@ module _ (place worker moment : ℕ) (objects : List ObjectState) (reply : Reply
   lock_each (states.Mutex m) is = lock_at m (mutex.place_of m worker) is
   lock_each (states.Cond c other) is = absurd (beside_mutex mutex_calls.Lock (states.Cond c other) (slice_get objects other) is)
   lock_each (states.Once o other delta) is = absurd (beside_mutex mutex_calls.Lock (states.Once o other delta) (slice_get objects other) is)
+  lock_each (states.Flight f keys other delta) is = absurd (beside_mutex mutex_calls.Lock (states.Flight f keys other delta) (slice_get objects other) is)
   lock_each object is = never reply is
 
   try_each : reply ≡ replies.Lock (locks.Tried true) → (object : ObjectState) → (step_by place (operations.Mutex mutex_calls.TryLock) worker moment objects object).1 ≡ answers.Completed reply → MakesOne place worker IsMutexLock (made_by place (operations.Mutex mutex_calls.TryLock) worker moment objects object)
   try_each won (states.Mutex m) is = try_at won m (mutex.place_of m worker) is
   try_each won (states.Cond c other) is = absurd (beside_mutex mutex_calls.TryLock (states.Cond c other) (slice_get objects other) is)
   try_each won (states.Once o other delta) is = absurd (beside_mutex mutex_calls.TryLock (states.Once o other delta) (slice_get objects other) is)
+  try_each won (states.Flight f keys other delta) is = absurd (beside_mutex mutex_calls.TryLock (states.Flight f keys other delta) (slice_get objects other) is)
   try_each won object is = never reply is
 
 -- ---- a reader/writer mutex
@@ -337,7 +352,63 @@ module _ (place worker moment : ℕ) (objects : List ObjectState) (reply : Reply
   rw_each call takes (states.RwMutex m) is = rw_at m call takes (rw.place_of m worker) is
   rw_each call takes (states.Cond c other) is = absurd (beside_rw call (states.Cond c other) (slice_get objects other) is)
   rw_each call takes (states.Once o other delta) is = absurd (beside_rw call (states.Once o other delta) (slice_get objects other) is)
+  rw_each call takes (states.Flight f keys other delta) is = absurd (beside_rw call (states.Flight f keys other delta) (slice_get objects other) is)
   rw_each call takes object is = never reply is
+
+-- ---- a weighted semaphore
+
+module _ (place worker moment : ℕ) (objects : List ObjectState) (reply : Reply (List ℕ)) where
+  acquire_done : (weight : ℕ) (q : SemaReply) → answer_by locked (outcome_of (sema_stages.acquire_meaning q)) ≡ answers.Completed reply → MakesOne place worker IsWeightHad (item place worker (deeds.Entered (events.Sema (sema_events.Acquire weight)) (answered.Sema q)) ∷ [])
+  acquire_done weight sema_replies.Done is = (deeds.Entered (events.Sema (sema_events.Acquire weight)) (answered.Sema sema_replies.Done), refl, at_once weight)
+  acquire_done weight sema_replies.Queued is = later reply is
+  acquire_done weight sema_replies.Refused is = never reply is
+  acquire_done weight (sema_replies.Misused misuse) is = never reply is
+  acquire_done weight sema_replies.Still is = never reply is
+
+  granted_done : (q : SemaReply) → answer_by locked (outcome_of (sema_stages.leave_meaning q)) ≡ answers.Completed reply → MakesOne place worker IsWeightHad (item place worker (deeds.Entered (events.Sema sema_events.Leave) (answered.Sema q)) ∷ [])
+  granted_done sema_replies.Done is = (deeds.Entered (events.Sema sema_events.Leave) (answered.Sema sema_replies.Done), refl, left)
+  granted_done sema_replies.Queued is = never reply is
+  granted_done sema_replies.Refused is = never reply is
+  granted_done (sema_replies.Misused misuse) is = never reply is
+  granted_done sema_replies.Still is = later reply is
+
+  -- a try that had the weight
+  weight_tried : reply ≡ replies.Lock (locks.Tried true) → (weight : ℕ) (q : SemaReply) → answer_by locked (outcome_of (sema_stages.try_meaning q)) ≡ answers.Completed reply → MakesOne place worker IsWeightHad (item place worker (deeds.Entered (events.Sema (sema_events.Try weight)) (answered.Sema q)) ∷ [])
+  weight_tried won weight sema_replies.Done is = (deeds.Entered (events.Sema (sema_events.Try weight)) (answered.Sema sema_replies.Done), refl, tried weight)
+  weight_tried won weight sema_replies.Refused is = absurd (false≢true (ap has_won (is ∙ ap answers.Completed won)))
+  weight_tried won weight sema_replies.Queued is = never reply is
+  weight_tried won weight (sema_replies.Misused misuse) is = never reply is
+  weight_tried won weight sema_replies.Still is = never reply is
+
+  acquire_at : (weight : ℕ) (s : sema.SemaState) (at : SemaPlace) → answer_by locked (make sema.next sema_stages.sema_event sema_stages.sema_meaning worker moment (sema_due (sema_calls.Acquire weight) at) s).1 ≡ answers.Completed reply
+      → MakesOne place worker IsWeightHad (stage_items events.Sema answered.Sema sema.next sema_stages.sema_event worker moment place (sema_due (sema_calls.Acquire weight) at) s)
+  acquire_at weight s sema_places.Out is = acquire_done weight (sema.next s worker (sema_events.Acquire weight)).1 is
+  acquire_at weight s sema_places.Waiting is = never reply is
+  acquire_at weight s sema_places.Granted is = granted_done (sema.next s worker sema_events.Leave).1 is
+
+  try_weight_at : reply ≡ replies.Lock (locks.Tried true) → (weight : ℕ) (s : sema.SemaState) (at : SemaPlace) → answer_by locked (make sema.next sema_stages.sema_event sema_stages.sema_meaning worker moment (sema_due (sema_calls.TryAcquire weight) at) s).1 ≡ answers.Completed reply
+      → MakesOne place worker IsWeightHad (stage_items events.Sema answered.Sema sema.next sema_stages.sema_event worker moment place (sema_due (sema_calls.TryAcquire weight) at) s)
+  try_weight_at won weight s sema_places.Out is = weight_tried won weight (sema.next s worker (sema_events.Try weight)).1 is
+  try_weight_at won weight s sema_places.Waiting is = never reply is
+  try_weight_at won weight s sema_places.Granted is = never reply is
+
+  beside_sema : (call : SemaCall) (object : ObjectState) (target : Option ObjectState) → (option_map_or (λ t. with_both place (other_of object) objects (turn_on_both (operations.Sema call) worker moment object t)) target (objects, answers.Still)).1 ≡ answers.Completed reply → ⊥
+  beside_sema call object None is = never reply is
+  beside_sema call object (Some target) is = never reply is
+
+  acquire_each : (weight : ℕ) (object : ObjectState) → (step_by place (operations.Sema (sema_calls.Acquire weight)) worker moment objects object).1 ≡ answers.Completed reply → MakesOne place worker IsWeightHad (made_by place (operations.Sema (sema_calls.Acquire weight)) worker moment objects object)
+  acquire_each weight (states.Sema s size) is = acquire_at weight s (sema.place_of s worker) is
+  acquire_each weight (states.Cond c other) is = absurd (beside_sema (sema_calls.Acquire weight) (states.Cond c other) (slice_get objects other) is)
+  acquire_each weight (states.Once o other delta) is = absurd (beside_sema (sema_calls.Acquire weight) (states.Once o other delta) (slice_get objects other) is)
+  acquire_each weight (states.Flight f keys other delta) is = absurd (beside_sema (sema_calls.Acquire weight) (states.Flight f keys other delta) (slice_get objects other) is)
+  acquire_each weight object is = never reply is
+
+  try_weight_each : reply ≡ replies.Lock (locks.Tried true) → (weight : ℕ) (object : ObjectState) → (step_by place (operations.Sema (sema_calls.TryAcquire weight)) worker moment objects object).1 ≡ answers.Completed reply → MakesOne place worker IsWeightHad (made_by place (operations.Sema (sema_calls.TryAcquire weight)) worker moment objects object)
+  try_weight_each won weight (states.Sema s size) is = try_weight_at won weight s (sema.place_of s worker) is
+  try_weight_each won weight (states.Cond c other) is = absurd (beside_sema (sema_calls.TryAcquire weight) (states.Cond c other) (slice_get objects other) is)
+  try_weight_each won weight (states.Once o other delta) is = absurd (beside_sema (sema_calls.TryAcquire weight) (states.Once o other delta) (slice_get objects other) is)
+  try_weight_each won weight (states.Flight f keys other delta) is = absurd (beside_sema (sema_calls.TryAcquire weight) (states.Flight f keys other delta) (slice_get objects other) is)
+  try_weight_each won weight object is = never reply is
 
 -- ---- as turns of a trace
 
@@ -385,6 +456,17 @@ module _ (plan : Plan) (trace : List TraceItem) (told : (n : ℕ) (one : TraceIt
 
   pub done_by : (reply : Reply (List ℕ)) (c : Completes trace i place (operations.WaitGroup group_calls.Done) reply) → DoesOne (operations.WaitGroup group_calls.Done) reply c (λ d. d ≡ added (negsuc 0))
   done_by reply c = on_group group_calls.Done reply (λ d. d ≡ added (negsuc 0)) (λ worker moment objects object is. done_each place worker moment objects reply object is) c
+
+  on_sema : (call : SemaCall) (reply : Reply (List ℕ)) → ((worker moment : ℕ) (objects : List ObjectState) (object : ObjectState) → (step_by place (operations.Sema call) worker moment objects object).1 ≡ answers.Completed reply → MakesOne place worker IsWeightHad (made_by place (operations.Sema call) worker moment objects object))
+      → (c : Completes trace i place (operations.Sema call) reply) → DoesOne (operations.Sema call) reply c IsWeightHad
+  on_sema call reply each c = let w = whole (operations.Sema call) reply c in
+      by_one (operations.Sema call) reply c IsWeightHad w (at_found place (operations.Sema call) w.worker w.state.moment w.state.objects (λ made _. MakesOne place w.worker IsWeightHad made) reply (each w.worker w.state.moment w.state.objects) (slice_get w.state.objects place) w.completes)
+
+  pub acquired_by : (weight : ℕ) (reply : Reply (List ℕ)) (c : Completes trace i place (operations.Sema (sema_calls.Acquire weight)) reply) → DoesOne (operations.Sema (sema_calls.Acquire weight)) reply c IsWeightHad
+  acquired_by weight reply c = on_sema (sema_calls.Acquire weight) reply (λ worker moment objects object is. acquire_each place worker moment objects reply weight object is) c
+
+  pub weight_tried_by : (weight : ℕ) (c : Completes trace i place (operations.Sema (sema_calls.TryAcquire weight)) (replies.Lock (locks.Tried true))) → DoesOne (operations.Sema (sema_calls.TryAcquire weight)) (replies.Lock (locks.Tried true)) c IsWeightHad
+  weight_tried_by weight c = on_sema (sema_calls.TryAcquire weight) (replies.Lock (locks.Tried true)) (λ worker moment objects object is. try_weight_each place worker moment objects (replies.Lock (locks.Tried true)) refl weight object is) c
 
   -- so it makes that item
   abbrev pub makes : (operation : Operation) (reply : Reply (List ℕ)) (c : Completes trace i place operation reply) (Q : Deed → Type 0) (d : DoesOne operation reply c Q) → Makes trace i place d.worker d.deed

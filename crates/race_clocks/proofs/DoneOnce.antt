@@ -17,6 +17,7 @@ use Rattle.wait_cores.specs.declared.once.OncePlace.{OncePlace}
 use Rattle.wait_cores.specs.declared.once.OncePlace.TheVariants as once_places
 use Rattle.wait_cores.specs.declared.once.OnceReply.{OnceReply}
 use Rattle.wait_cores.specs.declared.once.OnceReply.TheVariants as once_replies
+use Rattle.flight_core.specs.FlightMachine as flight
 use Rattle.wait_cores.specs.NotifyMachine as notify
 use Rattle.protocols.specs.OnceStages.{once_event, once_meaning}
 use Rattle.protocols.specs.declared.once.OnceStage.{OnceStage}
@@ -134,9 +135,14 @@ module _ (place worker moment : ℕ) (objects : List ObjectState) (reply : Reply
   by_cond c other None is = never reply is
   by_cond c other (Some target) is = never reply is
 
+  by_flight : (f : flight.FlightState) (keys : List (List ℕ)) (other : ℕ) (delta : ℤ) (target : Option ObjectState) → (option_map_or (λ t. with_both place other objects (turn_on_both operations.Once worker moment (states.Flight f keys other delta) t)) target (objects, answers.Still)).1 ≡ answers.Completed reply → ⊥
+  by_flight f keys other delta None is = never reply is
+  by_flight f keys other delta (Some target) is = never reply is
+
   do_each : (object : ObjectState) → (step_by place operations.Once worker moment objects object).1 ≡ answers.Completed reply → DidSo (made_by place operations.Once worker moment objects object)
   do_each (states.Once o other delta) is = by_target other o delta (slice_get objects other) is
   do_each (states.Cond c other) is = absurd (by_cond c other (slice_get objects other) is)
+  do_each (states.Flight f keys other delta) is = absurd (by_flight f keys other delta (slice_get objects other) is)
   do_each object is = never reply is
 
 module _ (plan : Plan) (trace : List TraceItem) (told : (n : ℕ) (one : TraceItem) → slice_get trace n ≡ Some one → IsToldOf plan one) where

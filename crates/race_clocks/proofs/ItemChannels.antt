@@ -29,7 +29,7 @@ use Rattle.step_runner.specs.declared.turns.item.Deed.{Deed}
 use Rattle.step_runner.specs.declared.turns.item.Deed.TheVariants as deeds
 use Rattle.step_runner.specs.declared.turns.item.Item.{Item}
 use Rattle.race_clocks.specs.Channels as all
-use Rattle.race_clocks.specs.Deeds.{unlocks_mutex, locks_mutex, unlocks_as_writer, unlocks_as_reader, locks_rw_mutex, is_writers_call, leaves_cond, lowers_group, returns_from_group, ends_once, returns_from_once, starts_worker, enters_atomic, finds_atomic, finds_in_map}
+use Rattle.race_clocks.specs.Deeds.{unlocks_mutex, locks_mutex, unlocks_as_writer, unlocks_as_reader, locks_rw_mutex, is_writers_call, leaves_cond, lowers_count, passes_count, ends_function, knows_function, starts_worker, enters_atomic, finds_atomic, finds_in_map}
 use Rattle.race_clocks.specs.Handing.{is_for, are_for, is_each, started_by, found_key, cond_event, pool_event, is_kept, cond_at, pool_at, map_at, stepped_by, was_told, notice, notices, put_given, put_taken, on_key, found_on, pairs_taken}
 use Rattle.race_clocks.specs.Passing.{if_so, started_given, plain_given, plain_taken, placed_taken, cond_behind, cond_given, pool_behind, pool_given, pool_taken, map_made, map_behind, map_given_by, map_given, taken_with, given_with, IsPassed, IsSeen, IsTold, AreTold}
 use Rattle.race_clocks.specs.Places.{at}
@@ -72,6 +72,8 @@ cond_same state caller (deeds.Entered (events.WaitGroup event) answer) = refl
 cond_same state caller (deeds.Entered (events.Once event) answer) = refl
 cond_same state caller (deeds.Entered (events.OnceFunc event) answer) = refl
 cond_same state caller (deeds.Entered (events.OnceValue event) answer) = refl
+cond_same state caller (deeds.Entered (events.Sema event) answer) = refl
+cond_same state caller (deeds.Entered (events.Flight event) answer) = refl
 cond_same state caller (deeds.Entered (events.Pool event) answer) = refl
 cond_same state caller (deeds.Entered (events.Starts event) answer) = refl
 
@@ -84,6 +86,8 @@ pool_same puts caller (deeds.Entered (events.WaitGroup event) answer) = refl
 pool_same puts caller (deeds.Entered (events.Once event) answer) = refl
 pool_same puts caller (deeds.Entered (events.OnceFunc event) answer) = refl
 pool_same puts caller (deeds.Entered (events.OnceValue event) answer) = refl
+pool_same puts caller (deeds.Entered (events.Sema event) answer) = refl
+pool_same puts caller (deeds.Entered (events.Flight event) answer) = refl
 pool_same puts caller (deeds.Entered (events.Pool event) answer) = refl
 pool_same puts caller (deeds.Entered (events.Starts event) answer) = refl
 
@@ -99,6 +103,8 @@ map_same m (deeds.Placed (operations.WaitGroup call) reply) = refl
 map_same m (deeds.Placed operations.Once reply) = refl
 map_same m (deeds.Placed operations.OnceFunc reply) = refl
 map_same m (deeds.Placed operations.OnceValue reply) = refl
+map_same m (deeds.Placed (operations.Sema call) reply) = refl
+map_same m (deeds.Placed (operations.Fly key) reply) = refl
 map_same m (deeds.Placed (operations.Pool call) reply) = refl
 map_same m (deeds.Placed (operations.Var call) reply) = refl
 map_same m (deeds.Placed (operations.Composed call) reply) = refl
@@ -164,7 +170,7 @@ module _ (c : all.Channel) (object : ℕ) (deed : Deed) (list : List Channel) wh
 
   abbrev gives_so : Bool
   gives_so =
-      option_map_or (λ worker. is_for c (channels.Start worker)) (started_by deed) false || (on (enters_atomic deed) (channels.Atomic object) (on (ends_once deed) (channels.FunctionEnd object) (on (lowers_group deed) (channels.Lowering object)
+      option_map_or (λ worker. is_for c (channels.Start worker)) (started_by deed) false || (on (enters_atomic deed) (channels.Atomic object) (on (ends_function deed) (channels.FunctionEnd object) (on (lowers_count deed) (channels.Lowering object)
       (on (unlocks_as_reader deed) (channels.ReaderUnlock object) (on (unlocks_as_writer deed) (channels.WriterUnlock object) (on (unlocks_mutex deed) (channels.MutexUnlock object) (are_for c list)))))))
 
   step : (test : Bool) (d : Channel) (more : List Channel) (rest : Bool) → are_for c more ≡ rest → are_for c (if_so test d more) ≡ on test d rest
@@ -174,18 +180,18 @@ module _ (c : all.Channel) (object : ℕ) (deed : Deed) (list : List Channel) wh
   plain_gives =
       started_for c (started_by deed) _
       ∙ ap (λ b. option_map_or (λ worker. is_for c (channels.Start worker)) (started_by deed) false || b)
-      (step (enters_atomic deed) (channels.Atomic object) _ _ (step (ends_once deed) (channels.FunctionEnd object) _ _ (step (lowers_group deed) (channels.Lowering object) _ _
+      (step (enters_atomic deed) (channels.Atomic object) _ _ (step (ends_function deed) (channels.FunctionEnd object) _ _ (step (lowers_count deed) (channels.Lowering object) _ _
       (step (unlocks_as_reader deed) (channels.ReaderUnlock object) _ _ (step (unlocks_as_writer deed) (channels.WriterUnlock object) _ _ (step (unlocks_mutex deed) (channels.MutexUnlock object) list (are_for c list) refl))))))
 
   module _ (caller : ℕ) (call : Option Call) where
     abbrev takes_so : Bool
     takes_so =
-        on (finds_atomic deed) (channels.Atomic object) (on (returns_from_once deed) (channels.FunctionEnd object) (on (returns_from_group deed) (channels.Lowering object) (on (leaves_cond deed) (channels.Notice object caller)
+        on (finds_atomic deed) (channels.Atomic object) (on (knows_function deed) (channels.FunctionEnd object) (on (passes_count deed) (channels.Lowering object) (on (leaves_cond deed) (channels.Notice object caller)
         (on (locks_rw_mutex deed && is_writers_call call) (channels.ReaderUnlock object) (on (locks_rw_mutex deed) (channels.WriterUnlock object) (on (locks_mutex deed) (channels.MutexUnlock object) (are_for c list)))))))
 
     plain_takes : are_for c (plain_taken object caller deed call list) ≡ takes_so
     plain_takes =
-        step (finds_atomic deed) (channels.Atomic object) _ _ (step (returns_from_once deed) (channels.FunctionEnd object) _ _ (step (returns_from_group deed) (channels.Lowering object) _ _ (step (leaves_cond deed) (channels.Notice object caller) _ _
+        step (finds_atomic deed) (channels.Atomic object) _ _ (step (knows_function deed) (channels.FunctionEnd object) _ _ (step (passes_count deed) (channels.Lowering object) _ _ (step (leaves_cond deed) (channels.Notice object caller) _ _
         (step (locks_rw_mutex deed && is_writers_call call) (channels.ReaderUnlock object) _ _ (step (locks_rw_mutex deed) (channels.WriterUnlock object) _ _ (step (locks_mutex deed) (channels.MutexUnlock object) list (are_for c list) refl))))))
 
 -- ---- what an item doesn't tell
@@ -210,6 +216,8 @@ off_map c object (deeds.Placed (operations.WaitGroup call) reply) m off each = r
 off_map c object (deeds.Placed operations.Once reply) m off each = refl
 off_map c object (deeds.Placed operations.OnceFunc reply) m off each = refl
 off_map c object (deeds.Placed operations.OnceValue reply) m off each = refl
+off_map c object (deeds.Placed (operations.Sema call) reply) m off each = refl
+off_map c object (deeds.Placed (operations.Fly key) reply) m off each = refl
 off_map c object (deeds.Placed (operations.Pool call) reply) m off each = refl
 off_map c object (deeds.Placed (operations.Var call) reply) m off each = refl
 off_map c object (deeds.Placed (operations.Composed call) reply) m off each = refl
@@ -234,6 +242,7 @@ off_placed c object (deeds.Placed operations.Range (replies.Once value)) off = r
 off_placed c object (deeds.Placed operations.Range (replies.OnceFunc value)) off = refl
 off_placed c object (deeds.Placed operations.Range (replies.OnceValue value)) off = refl
 off_placed c object (deeds.Placed operations.Range (replies.Pool value)) off = refl
+off_placed c object (deeds.Placed operations.Range (replies.Flown value shared)) off = refl
 off_placed c object (deeds.Placed operations.Range (replies.Var value)) off = refl
 off_placed c object (deeds.Placed (operations.Atomic call) reply) off = refl
 off_placed c object (deeds.Placed (operations.Mutex call) reply) off = refl
@@ -243,6 +252,8 @@ off_placed c object (deeds.Placed (operations.WaitGroup call) reply) off = refl
 off_placed c object (deeds.Placed operations.Once reply) off = refl
 off_placed c object (deeds.Placed operations.OnceFunc reply) off = refl
 off_placed c object (deeds.Placed operations.OnceValue reply) off = refl
+off_placed c object (deeds.Placed (operations.Sema call) reply) off = refl
+off_placed c object (deeds.Placed (operations.Fly key) reply) off = refl
 off_placed c object (deeds.Placed (operations.Pool call) reply) off = refl
 off_placed c object (deeds.Placed (operations.Var call) reply) off = refl
 off_placed c object (deeds.Placed (operations.Composed call) reply) off = refl
@@ -317,6 +328,8 @@ kept_put object m n puts (deeds.Entered (events.WaitGroup event) answer) = sym (
 kept_put object m n puts (deeds.Entered (events.Once event) answer) = sym (and_false (object == m))
 kept_put object m n puts (deeds.Entered (events.OnceFunc event) answer) = sym (and_false (object == m))
 kept_put object m n puts (deeds.Entered (events.OnceValue event) answer) = sym (and_false (object == m))
+kept_put object m n puts (deeds.Entered (events.Sema event) answer) = sym (and_false (object == m))
+kept_put object m n puts (deeds.Entered (events.Flight event) answer) = sym (and_false (object == m))
 kept_put object m n puts (deeds.Entered (events.Starts event) answer) = sym (and_false (object == m))
 kept_put object m n puts (deeds.Entered (events.Pool (pool_events.Put item)) (answered.Mutex answer)) = sym (and_false (object == m))
 kept_put object m n puts (deeds.Entered (events.Pool (pool_events.Put item)) (answered.RwMutex answer)) = sym (and_false (object == m))
@@ -325,6 +338,8 @@ kept_put object m n puts (deeds.Entered (events.Pool (pool_events.Put item)) (an
 kept_put object m n puts (deeds.Entered (events.Pool (pool_events.Put item)) (answered.Once answer)) = sym (and_false (object == m))
 kept_put object m n puts (deeds.Entered (events.Pool (pool_events.Put item)) (answered.OnceFunc answer)) = sym (and_false (object == m))
 kept_put object m n puts (deeds.Entered (events.Pool (pool_events.Put item)) (answered.OnceValue answer)) = sym (and_false (object == m))
+kept_put object m n puts (deeds.Entered (events.Pool (pool_events.Put item)) (answered.Sema answer)) = sym (and_false (object == m))
+kept_put object m n puts (deeds.Entered (events.Pool (pool_events.Put item)) (answered.Flight answer)) = sym (and_false (object == m))
 kept_put object m n puts (deeds.Entered (events.Pool (pool_events.Put item)) (answered.Starts answer)) = sym (and_false (object == m))
 kept_put object m n puts (deeds.Entered (events.Pool (pool_events.Put item)) (answered.Pool pool_replies.Kept)) = or_false ((object == m) && (puts.count == n)) ∙ ap (λ b. (object == m) && b) (sym (and_true (puts.count == n)))
 kept_put object m n puts (deeds.Entered (events.Pool (pool_events.Put value)) (answered.Pool (pool_replies.Dropped item))) = sym (ap (λ b. (object == m) && b) (and_false (puts.count == n)) ∙ and_false (object == m))
@@ -339,6 +354,8 @@ kept_put object m n puts (deeds.Entered (events.Pool pool_events.LookOwn) (answe
 kept_put object m n puts (deeds.Entered (events.Pool pool_events.LookOwn) (answered.Once answer)) = sym (and_false (object == m))
 kept_put object m n puts (deeds.Entered (events.Pool pool_events.LookOwn) (answered.OnceFunc answer)) = sym (and_false (object == m))
 kept_put object m n puts (deeds.Entered (events.Pool pool_events.LookOwn) (answered.OnceValue answer)) = sym (and_false (object == m))
+kept_put object m n puts (deeds.Entered (events.Pool pool_events.LookOwn) (answered.Sema answer)) = sym (and_false (object == m))
+kept_put object m n puts (deeds.Entered (events.Pool pool_events.LookOwn) (answered.Flight answer)) = sym (and_false (object == m))
 kept_put object m n puts (deeds.Entered (events.Pool pool_events.LookOwn) (answered.Starts answer)) = sym (and_false (object == m))
 kept_put object m n puts (deeds.Entered (events.Pool pool_events.LookOwn) (answered.Pool pool_replies.Kept)) = sym (and_false (object == m))
 kept_put object m n puts (deeds.Entered (events.Pool pool_events.LookOwn) (answered.Pool (pool_replies.Dropped item))) = sym (and_false (object == m))
@@ -353,6 +370,8 @@ kept_put object m n puts (deeds.Entered (events.Pool (pool_events.LookOther part
 kept_put object m n puts (deeds.Entered (events.Pool (pool_events.LookOther part)) (answered.Once answer)) = sym (and_false (object == m))
 kept_put object m n puts (deeds.Entered (events.Pool (pool_events.LookOther part)) (answered.OnceFunc answer)) = sym (and_false (object == m))
 kept_put object m n puts (deeds.Entered (events.Pool (pool_events.LookOther part)) (answered.OnceValue answer)) = sym (and_false (object == m))
+kept_put object m n puts (deeds.Entered (events.Pool (pool_events.LookOther part)) (answered.Sema answer)) = sym (and_false (object == m))
+kept_put object m n puts (deeds.Entered (events.Pool (pool_events.LookOther part)) (answered.Flight answer)) = sym (and_false (object == m))
 kept_put object m n puts (deeds.Entered (events.Pool (pool_events.LookOther part)) (answered.Starts answer)) = sym (and_false (object == m))
 kept_put object m n puts (deeds.Entered (events.Pool (pool_events.LookOther part)) (answered.Pool pool_replies.Kept)) = sym (and_false (object == m))
 kept_put object m n puts (deeds.Entered (events.Pool (pool_events.LookOther part)) (answered.Pool (pool_replies.Dropped item))) = sym (and_false (object == m))
@@ -367,6 +386,8 @@ kept_put object m n puts (deeds.Entered (events.Pool (pool_events.LookVictim par
 kept_put object m n puts (deeds.Entered (events.Pool (pool_events.LookVictim part)) (answered.Once answer)) = sym (and_false (object == m))
 kept_put object m n puts (deeds.Entered (events.Pool (pool_events.LookVictim part)) (answered.OnceFunc answer)) = sym (and_false (object == m))
 kept_put object m n puts (deeds.Entered (events.Pool (pool_events.LookVictim part)) (answered.OnceValue answer)) = sym (and_false (object == m))
+kept_put object m n puts (deeds.Entered (events.Pool (pool_events.LookVictim part)) (answered.Sema answer)) = sym (and_false (object == m))
+kept_put object m n puts (deeds.Entered (events.Pool (pool_events.LookVictim part)) (answered.Flight answer)) = sym (and_false (object == m))
 kept_put object m n puts (deeds.Entered (events.Pool (pool_events.LookVictim part)) (answered.Starts answer)) = sym (and_false (object == m))
 kept_put object m n puts (deeds.Entered (events.Pool (pool_events.LookVictim part)) (answered.Pool pool_replies.Kept)) = sym (and_false (object == m))
 kept_put object m n puts (deeds.Entered (events.Pool (pool_events.LookVictim part)) (answered.Pool (pool_replies.Dropped item))) = sym (and_false (object == m))
@@ -381,6 +402,8 @@ kept_put object m n puts (deeds.Entered (events.Pool pool_events.Sweep) (answere
 kept_put object m n puts (deeds.Entered (events.Pool pool_events.Sweep) (answered.Once answer)) = sym (and_false (object == m))
 kept_put object m n puts (deeds.Entered (events.Pool pool_events.Sweep) (answered.OnceFunc answer)) = sym (and_false (object == m))
 kept_put object m n puts (deeds.Entered (events.Pool pool_events.Sweep) (answered.OnceValue answer)) = sym (and_false (object == m))
+kept_put object m n puts (deeds.Entered (events.Pool pool_events.Sweep) (answered.Sema answer)) = sym (and_false (object == m))
+kept_put object m n puts (deeds.Entered (events.Pool pool_events.Sweep) (answered.Flight answer)) = sym (and_false (object == m))
 kept_put object m n puts (deeds.Entered (events.Pool pool_events.Sweep) (answered.Starts answer)) = sym (and_false (object == m))
 kept_put object m n puts (deeds.Entered (events.Pool pool_events.Sweep) (answered.Pool pool_replies.Kept)) = sym (and_false (object == m))
 kept_put object m n puts (deeds.Entered (events.Pool pool_events.Sweep) (answered.Pool (pool_replies.Dropped item))) = sym (and_false (object == m))
@@ -398,6 +421,8 @@ taken_put object caller m n puts (deeds.Entered (events.WaitGroup event) answer)
 taken_put object caller m n puts (deeds.Entered (events.Once event) answer) = sym (and_false (object == m))
 taken_put object caller m n puts (deeds.Entered (events.OnceFunc event) answer) = sym (and_false (object == m))
 taken_put object caller m n puts (deeds.Entered (events.OnceValue event) answer) = sym (and_false (object == m))
+taken_put object caller m n puts (deeds.Entered (events.Sema event) answer) = sym (and_false (object == m))
+taken_put object caller m n puts (deeds.Entered (events.Flight event) answer) = sym (and_false (object == m))
 taken_put object caller m n puts (deeds.Entered (events.Pool event) answer) = by_reply object m n (pool_step puts caller event).1
 taken_put object caller m n puts (deeds.Entered (events.Starts event) answer) = sym (and_false (object == m))
 
@@ -410,6 +435,8 @@ started_so w (deeds.Entered (events.WaitGroup event) answer) = refl
 started_so w (deeds.Entered (events.Once event) answer) = refl
 started_so w (deeds.Entered (events.OnceFunc event) answer) = refl
 started_so w (deeds.Entered (events.OnceValue event) answer) = refl
+started_so w (deeds.Entered (events.Sema event) answer) = refl
+started_so w (deeds.Entered (events.Flight event) answer) = refl
 started_so w (deeds.Entered (events.Pool event) answer) = refl
 started_so w (deeds.Entered (events.Starts (start_events.Start worker)) (answered.Mutex answer)) = refl
 started_so w (deeds.Entered (events.Starts (start_events.Start worker)) (answered.RwMutex answer)) = refl
@@ -418,6 +445,8 @@ started_so w (deeds.Entered (events.Starts (start_events.Start worker)) (answere
 started_so w (deeds.Entered (events.Starts (start_events.Start worker)) (answered.Once answer)) = refl
 started_so w (deeds.Entered (events.Starts (start_events.Start worker)) (answered.OnceFunc answer)) = refl
 started_so w (deeds.Entered (events.Starts (start_events.Start worker)) (answered.OnceValue answer)) = refl
+started_so w (deeds.Entered (events.Starts (start_events.Start worker)) (answered.Sema answer)) = refl
+started_so w (deeds.Entered (events.Starts (start_events.Start worker)) (answered.Flight answer)) = refl
 started_so w (deeds.Entered (events.Starts (start_events.Start worker)) (answered.Pool answer)) = refl
 started_so w (deeds.Entered (events.Starts (start_events.Start worker)) (answered.Starts start_replies.Done)) = sym (and_true (worker == w))
 started_so w (deeds.Entered (events.Starts (start_events.Start worker)) (answered.Starts start_replies.Go)) = sym (and_false (worker == w))
@@ -430,6 +459,8 @@ started_so w (deeds.Entered (events.Starts start_events.End) (answered.WaitGroup
 started_so w (deeds.Entered (events.Starts start_events.End) (answered.Once answer)) = refl
 started_so w (deeds.Entered (events.Starts start_events.End) (answered.OnceFunc answer)) = refl
 started_so w (deeds.Entered (events.Starts start_events.End) (answered.OnceValue answer)) = refl
+started_so w (deeds.Entered (events.Starts start_events.End) (answered.Sema answer)) = refl
+started_so w (deeds.Entered (events.Starts start_events.End) (answered.Flight answer)) = refl
 started_so w (deeds.Entered (events.Starts start_events.End) (answered.Pool answer)) = refl
 started_so w (deeds.Entered (events.Starts start_events.End) (answered.Starts start_replies.Done)) = refl
 started_so w (deeds.Entered (events.Starts start_events.End) (answered.Starts start_replies.Go)) = refl
@@ -442,6 +473,8 @@ started_so w (deeds.Entered (events.Starts start_events.Leave) (answered.WaitGro
 started_so w (deeds.Entered (events.Starts start_events.Leave) (answered.Once answer)) = refl
 started_so w (deeds.Entered (events.Starts start_events.Leave) (answered.OnceFunc answer)) = refl
 started_so w (deeds.Entered (events.Starts start_events.Leave) (answered.OnceValue answer)) = refl
+started_so w (deeds.Entered (events.Starts start_events.Leave) (answered.Sema answer)) = refl
+started_so w (deeds.Entered (events.Starts start_events.Leave) (answered.Flight answer)) = refl
 started_so w (deeds.Entered (events.Starts start_events.Leave) (answered.Pool answer)) = refl
 started_so w (deeds.Entered (events.Starts start_events.Leave) (answered.Starts start_replies.Done)) = refl
 started_so w (deeds.Entered (events.Starts start_events.Leave) (answered.Starts start_replies.Go)) = refl
@@ -460,6 +493,8 @@ entered_key object m n contents (deeds.Placed (operations.WaitGroup call) reply)
 entered_key object m n contents (deeds.Placed operations.Once reply) = sym (and_false (object == m))
 entered_key object m n contents (deeds.Placed operations.OnceFunc reply) = sym (and_false (object == m))
 entered_key object m n contents (deeds.Placed operations.OnceValue reply) = sym (and_false (object == m))
+entered_key object m n contents (deeds.Placed (operations.Sema call) reply) = sym (and_false (object == m))
+entered_key object m n contents (deeds.Placed (operations.Fly key) reply) = sym (and_false (object == m))
 entered_key object m n contents (deeds.Placed (operations.Pool call) reply) = sym (and_false (object == m))
 entered_key object m n contents (deeds.Placed (operations.Var call) reply) = sym (and_false (object == m))
 entered_key object m n contents (deeds.Placed (operations.Composed call) reply) = sym (and_false (object == m))
@@ -484,6 +519,7 @@ found_in object m n (deeds.Placed operations.Range (replies.Once value)) = sym (
 found_in object m n (deeds.Placed operations.Range (replies.OnceFunc value)) = sym (and_false (object == m))
 found_in object m n (deeds.Placed operations.Range (replies.OnceValue value)) = sym (and_false (object == m))
 found_in object m n (deeds.Placed operations.Range (replies.Pool value)) = sym (and_false (object == m))
+found_in object m n (deeds.Placed operations.Range (replies.Flown value shared)) = sym (and_false (object == m))
 found_in object m n (deeds.Placed operations.Range (replies.Var value)) = sym (and_false (object == m))
 found_in object m n (deeds.Placed (operations.Atomic call) reply) = sym (and_false (object == m))
 found_in object m n (deeds.Placed (operations.Mutex call) reply) = sym (and_false (object == m))
@@ -493,6 +529,8 @@ found_in object m n (deeds.Placed (operations.WaitGroup call) reply) = sym (and_
 found_in object m n (deeds.Placed operations.Once reply) = sym (and_false (object == m))
 found_in object m n (deeds.Placed operations.OnceFunc reply) = sym (and_false (object == m))
 found_in object m n (deeds.Placed operations.OnceValue reply) = sym (and_false (object == m))
+found_in object m n (deeds.Placed (operations.Sema call) reply) = sym (and_false (object == m))
+found_in object m n (deeds.Placed (operations.Fly key) reply) = sym (and_false (object == m))
 found_in object m n (deeds.Placed (operations.Pool call) reply) = sym (and_false (object == m))
 found_in object m n (deeds.Placed (operations.Var call) reply) = sym (and_false (object == m))
 found_in object m n (deeds.Placed (operations.Composed call) reply) = sym (and_false (object == m))
@@ -541,8 +579,8 @@ module _ (plan : Plan) (earlier : List Item) (item : Item) (old : Seen) (seen : 
     takes_is (all.WriterUnlock m) = parts (all.WriterUnlock m) false false (off_taken (all.WriterUnlock m) item puts (pool_event item.deed) (λ place number. refl)) (off_placed (all.WriterUnlock m) item.object item.deed (λ place key. refl)) ∙ more_or ((item.object == m) && locks_rw_mutex item.deed) _ _ (begun (all.WriterUnlock m))
     takes_is (all.ReaderUnlock m) = parts (all.ReaderUnlock m) false false (off_taken (all.ReaderUnlock m) item puts (pool_event item.deed) (λ place number. refl)) (off_placed (all.ReaderUnlock m) item.object item.deed (λ place key. refl)) ∙ ap (λ b. b || are_for (all.ReaderUnlock m) (if_so first (channels.Start item.caller) list)) (sym (and_assoc (item.object == m) (locks_rw_mutex item.deed) (is_writers_call call))) ∙ more_or (((item.object == m) && locks_rw_mutex item.deed) && is_writers_call call) _ _ (begun (all.ReaderUnlock m))
     takes_is (all.Notice m n) = parts (all.Notice m n) false false (off_taken (all.Notice m n) item puts (pool_event item.deed) (λ place number. refl)) (off_placed (all.Notice m n) item.object item.deed (λ place key. refl)) ∙ more_or (((item.object == m) && (item.caller == n)) && leaves_cond item.deed) _ _ (begun (all.Notice m n))
-    takes_is (all.Lowering m) = parts (all.Lowering m) false false (off_taken (all.Lowering m) item puts (pool_event item.deed) (λ place number. refl)) (off_placed (all.Lowering m) item.object item.deed (λ place key. refl)) ∙ more_or ((item.object == m) && returns_from_group item.deed) _ _ (begun (all.Lowering m))
-    takes_is (all.FunctionEnd m) = parts (all.FunctionEnd m) false false (off_taken (all.FunctionEnd m) item puts (pool_event item.deed) (λ place number. refl)) (off_placed (all.FunctionEnd m) item.object item.deed (λ place key. refl)) ∙ more_or ((item.object == m) && returns_from_once item.deed) _ _ (begun (all.FunctionEnd m))
+    takes_is (all.Lowering m) = parts (all.Lowering m) false false (off_taken (all.Lowering m) item puts (pool_event item.deed) (λ place number. refl)) (off_placed (all.Lowering m) item.object item.deed (λ place key. refl)) ∙ more_or ((item.object == m) && passes_count item.deed) _ _ (begun (all.Lowering m))
+    takes_is (all.FunctionEnd m) = parts (all.FunctionEnd m) false false (off_taken (all.FunctionEnd m) item puts (pool_event item.deed) (λ place number. refl)) (off_placed (all.FunctionEnd m) item.object item.deed (λ place key. refl)) ∙ more_or ((item.object == m) && knows_function item.deed) _ _ (begun (all.FunctionEnd m))
     takes_is (all.PutItem m n) = parts (all.PutItem m n) ((item.object == m) && run.takes_put n (run.pool_behind plan m earlier) item.caller item.deed) false (taken_put item.object item.caller m n puts item.deed ∙ ap (λ puts. (item.object == m) && run.takes_put n puts item.caller item.deed) (seen.pools item.object) ∙ at_same item.object m (λ x. run.takes_put n (run.pool_behind plan x earlier) item.caller item.deed)) (off_placed (all.PutItem m n) item.object item.deed (λ place key. refl)) ∙ more_or ((item.object == m) && run.takes_put n (run.pool_behind plan m earlier) item.caller item.deed) _ _ (begun (all.PutItem m n))
     takes_is (all.Start m) = parts (all.Start m) false false (off_taken (all.Start m) item puts (pool_event item.deed) (λ place number. refl)) (off_placed (all.Start m) item.object item.deed (λ place key. refl)) ∙ begun (all.Start m) ∙ ap (λ b. b || are_for (all.Start m) list) (at_same item.caller m (λ x. not (is_some (at old.callers x))) ∙ ap (λ b. (item.caller == m) && not b) (seen.callers m))
     takes_is (all.Atomic m) = parts (all.Atomic m) false false (off_taken (all.Atomic m) item puts (pool_event item.deed) (λ place number. refl)) (off_placed (all.Atomic m) item.object item.deed (λ place key. refl)) ∙ more_or ((item.object == m) && finds_atomic item.deed) _ _ (begun (all.Atomic m))
@@ -564,8 +602,8 @@ module _ (plan : Plan) (earlier : List Item) (item : Item) (old : Seen) (seen : 
     gives_is (all.WriterUnlock m) = given_total (all.WriterUnlock m) false false false (off_map (all.WriterUnlock m) item.object item.deed contents (λ place key. refl) (λ place. refl)) (off_given (all.WriterUnlock m) item puts (pool_event item.deed) (λ place number. refl)) (off_cond (all.WriterUnlock m) plan.workers item (cond_at plan.workers old.conds item.object) (cond_event item.deed) (λ worker. refl)) ∙ ap (λ b. b || (((item.object == m) && unlocks_as_writer item.deed) || are_for (all.WriterUnlock m) list)) (starts_none (started_by item.deed))
     gives_is (all.ReaderUnlock m) = given_total (all.ReaderUnlock m) false false false (off_map (all.ReaderUnlock m) item.object item.deed contents (λ place key. refl) (λ place. refl)) (off_given (all.ReaderUnlock m) item puts (pool_event item.deed) (λ place number. refl)) (off_cond (all.ReaderUnlock m) plan.workers item (cond_at plan.workers old.conds item.object) (cond_event item.deed) (λ worker. refl)) ∙ ap (λ b. b || (((item.object == m) && unlocks_as_reader item.deed) || are_for (all.ReaderUnlock m) list)) (starts_none (started_by item.deed))
     gives_is (all.Notice m n) = given_total (all.Notice m n) false false (run.notifies plan m n earlier item) (off_map (all.Notice m n) item.object item.deed contents (λ place key. refl) (λ place. refl)) (off_given (all.Notice m n) item puts (pool_event item.deed) (λ place number. refl)) (notices_so m n) ∙ more_or (run.notifies plan m n earlier item) _ _ (ap (λ b. b || are_for (all.Notice m n) list) (starts_none (started_by item.deed)))
-    gives_is (all.Lowering m) = given_total (all.Lowering m) false false false (off_map (all.Lowering m) item.object item.deed contents (λ place key. refl) (λ place. refl)) (off_given (all.Lowering m) item puts (pool_event item.deed) (λ place number. refl)) (off_cond (all.Lowering m) plan.workers item (cond_at plan.workers old.conds item.object) (cond_event item.deed) (λ worker. refl)) ∙ ap (λ b. b || (((item.object == m) && lowers_group item.deed) || are_for (all.Lowering m) list)) (starts_none (started_by item.deed))
-    gives_is (all.FunctionEnd m) = given_total (all.FunctionEnd m) false false false (off_map (all.FunctionEnd m) item.object item.deed contents (λ place key. refl) (λ place. refl)) (off_given (all.FunctionEnd m) item puts (pool_event item.deed) (λ place number. refl)) (off_cond (all.FunctionEnd m) plan.workers item (cond_at plan.workers old.conds item.object) (cond_event item.deed) (λ worker. refl)) ∙ ap (λ b. b || (((item.object == m) && ends_once item.deed) || are_for (all.FunctionEnd m) list)) (starts_none (started_by item.deed))
+    gives_is (all.Lowering m) = given_total (all.Lowering m) false false false (off_map (all.Lowering m) item.object item.deed contents (λ place key. refl) (λ place. refl)) (off_given (all.Lowering m) item puts (pool_event item.deed) (λ place number. refl)) (off_cond (all.Lowering m) plan.workers item (cond_at plan.workers old.conds item.object) (cond_event item.deed) (λ worker. refl)) ∙ ap (λ b. b || (((item.object == m) && lowers_count item.deed) || are_for (all.Lowering m) list)) (starts_none (started_by item.deed))
+    gives_is (all.FunctionEnd m) = given_total (all.FunctionEnd m) false false false (off_map (all.FunctionEnd m) item.object item.deed contents (λ place key. refl) (λ place. refl)) (off_given (all.FunctionEnd m) item puts (pool_event item.deed) (λ place number. refl)) (off_cond (all.FunctionEnd m) plan.workers item (cond_at plan.workers old.conds item.object) (cond_event item.deed) (λ worker. refl)) ∙ ap (λ b. b || (((item.object == m) && ends_function item.deed) || are_for (all.FunctionEnd m) list)) (starts_none (started_by item.deed))
     gives_is (all.PutItem m n) = given_total (all.PutItem m n) false ((item.object == m) && run.is_kept_put n (run.pool_behind plan m earlier) item.deed) false (off_map (all.PutItem m n) item.object item.deed contents (λ place key. refl) (λ place. refl)) (kept_put item.object m n puts item.deed ∙ ap (λ puts. (item.object == m) && run.is_kept_put n puts item.deed) (seen.pools item.object) ∙ at_same item.object m (λ x. run.is_kept_put n (run.pool_behind plan x earlier) item.deed)) (off_cond (all.PutItem m n) plan.workers item (cond_at plan.workers old.conds item.object) (cond_event item.deed) (λ worker. refl)) ∙ more_or ((item.object == m) && run.is_kept_put n (run.pool_behind plan m earlier) item.deed) _ _ (ap (λ b. b || are_for (all.PutItem m n) list) (starts_none (started_by item.deed)))
     gives_is (all.Start m) = given_total (all.Start m) false false false (off_map (all.Start m) item.object item.deed contents (λ place key. refl) (λ place. refl)) (off_given (all.Start m) item puts (pool_event item.deed) (λ place number. refl)) (off_cond (all.Start m) plan.workers item (cond_at plan.workers old.conds item.object) (cond_event item.deed) (λ worker. refl)) ∙ ap (λ b. b || are_for (all.Start m) list) (started_so m item.deed)
     gives_is (all.Atomic m) = given_total (all.Atomic m) false false false (off_map (all.Atomic m) item.object item.deed contents (λ place key. refl) (λ place. refl)) (off_given (all.Atomic m) item puts (pool_event item.deed) (λ place number. refl)) (off_cond (all.Atomic m) plan.workers item (cond_at plan.workers old.conds item.object) (cond_event item.deed) (λ worker. refl)) ∙ ap (λ b. b || (((item.object == m) && enters_atomic item.deed) || are_for (all.Atomic m) list)) (starts_none (started_by item.deed))

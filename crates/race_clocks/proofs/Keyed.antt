@@ -14,7 +14,7 @@ use Rattle.workload.specs.Plan.{Plan}
 use Rattle.step_runner.specs.declared.turns.item.Deed.{Deed}
 use Rattle.step_runner.specs.declared.turns.item.Deed.TheVariants as deeds
 use Rattle.step_runner.specs.declared.turns.item.Item.{Item}
-use Rattle.race_clocks.specs.Deeds.{locks_mutex, locks_rw_mutex, is_writers_call, leaves_cond, returns_from_group, returns_from_once, finds_atomic}
+use Rattle.race_clocks.specs.Deeds.{locks_mutex, locks_rw_mutex, is_writers_call, leaves_cond, passes_count, knows_function, finds_atomic}
 use Rattle.race_clocks.specs.Handing.{is_each, found_key, pool_event, pool_at, put_taken, found_on, pairs_taken}
 use Rattle.race_clocks.specs.Passing.{if_so, plain_taken, placed_taken, pool_taken, taken_with}
 use Rattle.race_clocks.specs.Places.{at}
@@ -46,9 +46,9 @@ plain object caller deed call list =
     let b = if_so (locks_rw_mutex deed) (channels.WriterUnlock object) a in
     let c = if_so (locks_rw_mutex deed && is_writers_call call) (channels.ReaderUnlock object) b in
     let d = if_so (leaves_cond deed) (channels.Notice object caller) c in
-    let e = if_so (returns_from_group deed) (channels.Lowering object) d in
-    let f = if_so (returns_from_once deed) (channels.FunctionEnd object) e in
-    step (finds_atomic deed) (channels.Atomic object) f (any list) refl (step (returns_from_once deed) (channels.FunctionEnd object) e (any list) refl (step (returns_from_group deed) (channels.Lowering object) d (any list) refl
+    let e = if_so (passes_count deed) (channels.Lowering object) d in
+    let f = if_so (knows_function deed) (channels.FunctionEnd object) e in
+    step (finds_atomic deed) (channels.Atomic object) f (any list) refl (step (knows_function deed) (channels.FunctionEnd object) e (any list) refl (step (passes_count deed) (channels.Lowering object) d (any list) refl
     (step (leaves_cond deed) (channels.Notice object caller) c (any list) refl (step (locks_rw_mutex deed && is_writers_call call) (channels.ReaderUnlock object) b (any list) refl
     (step (locks_rw_mutex deed) (channels.WriterUnlock object) a (any list) refl (step (locks_mutex deed) (channels.MutexUnlock object) list (any list) refl refl))))))
 
@@ -72,6 +72,7 @@ placed object (deeds.Placed operations.Range (replies.Once value)) = refl
 placed object (deeds.Placed operations.Range (replies.OnceFunc value)) = refl
 placed object (deeds.Placed operations.Range (replies.OnceValue value)) = refl
 placed object (deeds.Placed operations.Range (replies.Pool value)) = refl
+placed object (deeds.Placed operations.Range (replies.Flown value shared)) = refl
 placed object (deeds.Placed operations.Range (replies.Var value)) = refl
 placed object (deeds.Placed (operations.Atomic call) reply) = refl
 placed object (deeds.Placed (operations.Mutex call) reply) = refl
@@ -81,6 +82,8 @@ placed object (deeds.Placed (operations.WaitGroup call) reply) = refl
 placed object (deeds.Placed operations.Once reply) = refl
 placed object (deeds.Placed operations.OnceFunc reply) = refl
 placed object (deeds.Placed operations.OnceValue reply) = refl
+placed object (deeds.Placed (operations.Sema call) reply) = refl
+placed object (deeds.Placed (operations.Fly key) reply) = refl
 placed object (deeds.Placed (operations.Pool call) reply) = refl
 placed object (deeds.Placed (operations.Var call) reply) = refl
 placed object (deeds.Placed (operations.Composed call) reply) = refl

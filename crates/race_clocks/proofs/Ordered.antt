@@ -1,5 +1,5 @@
 -- The rows of the table of edges, each by its channel.
-use Rattle.std.proofs.Common.{◌≡◌, ◌⊎◌, inl, inr, ℕ, negsuc, ◌<◌, true, false, ◌==◌, ◌&&◌, not, ◌≢◌, List, [], ◌∷◌, ◌++◌, Option, Some, slice_get, refl, sym, ap, ◌∙◌}
+use Rattle.std.proofs.Common.{◌≡◌, ◌⊎◌, inl, inr, ℕ, ℤ, negsuc, ◌<◌, Bool, true, false, ◌==◌, ◌&&◌, not, ◌≢◌, List, [], ◌∷◌, ◌++◌, Option, Some, slice_get, refl, sym, ap, ◌∙◌}
 use Rattle.std.specs.Prelude.{All}
 use Rattle.std.specs.List.{list_any}
 use Rattle.std.proofs.lemmas.Bool.{false≢true, and_parts, and_from, eq-eqb, eqb-true, ne_eqb, cases_Bool}
@@ -13,10 +13,10 @@ use Rattle.step_runner.specs.declared.trace.TraceItem.{TraceItem}
 use Rattle.step_runner.specs.declared.turns.item.Deed.{Deed}
 use Rattle.step_runner.specs.declared.turns.item.Item.{Item}
 use Rattle.race_clocks.specs.Channels.{Channel, MutexUnlock, WriterUnlock, ReaderUnlock, Notice, Lowering, FunctionEnd, PutItem, Start, Atomic, MapKey, gives, takes, hands_on, sets}
-use Rattle.race_clocks.specs.Deeds.{unlocks_mutex, locks_mutex, unlocks_as_writer, unlocks_as_reader, locks_rw_mutex, is_writers_call, leaves_cond, lowers_group, returns_from_group, ends_once, returns_from_once, starts_worker, enters_atomic, finds_atomic, finds_in_map}
+use Rattle.race_clocks.specs.Deeds.{unlocks_mutex, locks_mutex, unlocks_as_writer, unlocks_as_reader, locks_rw_mutex, is_writers_call, leaves_cond, lowers_count, passes_count, ends_function, knows_function, starts_worker, enters_atomic, finds_atomic, finds_in_map}
 use Rattle.race_clocks.specs.Seen.{NumberedPool, is_waiting, is_notified, cond_by, cond_behind, notifies, pool_behind, is_kept_put, takes_put, map_behind, enters_key}
 use Rattle.race_clocks.specs.HappensBefore.{done_before, Stands, Before}
-use Rattle.race_clocks.specs.Rows.{item, Makes, earlier_of, IsMutexUnlock, free, woke, handed, IsMutexLock, at_once, tried, resumed, writer_unlock, reader_unlock, IsRwLock, reader_at_once, reader_tried, writer_at_once, writer_tried, writer_resumed, left, IsWritersCall, lock, try_lock, leaving, added, IsGroupReturn, IsOnceEnd, once, once_func, once_value, IsOnceReturn, once_left, once_func_left, once_value_left, put, start_of}
+use Rattle.race_clocks.specs.Rows.{item, Makes, earlier_of, IsMutexUnlock, free, woke, handed, IsMutexLock, at_once, tried, resumed, writer_unlock, reader_unlock, IsRwLock, reader_at_once, reader_tried, writer_at_once, writer_tried, writer_resumed, left, IsWritersCall, lock, try_lock, leaving, added, IsGroupReturn, gave_back, IsWeightHad, landed, IsFlightKnown, leads, IsOnceEnd, once, once_func, once_value, IsOnceReturn, once_left, once_func_left, once_value_left, put, start_of}
 use Rattle.race_clocks.proofs.Turns.{here, Found, found, Kept, not_replaced, met}
 
 mutex_unlocks : {d : Deed} → IsMutexUnlock d → unlocks_mutex d ≡ true
@@ -41,22 +41,31 @@ as_writer : {call : Option Call} → IsWritersCall call → is_writers_call call
 as_writer (lock place) = refl
 as_writer (try_lock place) = refl
 
-group_returns : {d : Deed} → IsGroupReturn d → returns_from_group d ≡ true
+group_returns : {d : Deed} → IsGroupReturn d → passes_count d ≡ true
 group_returns at_once = refl
 group_returns left = refl
 
-once_ends : {d : Deed} → IsOnceEnd d → ends_once d ≡ true
+once_ends : {d : Deed} → IsOnceEnd d → ends_function d ≡ true
 once_ends (once sum) = refl
 once_ends (once_func code) = refl
 once_ends (once_value value) = refl
 
-once_returns : {d : Deed} → IsOnceReturn d → returns_from_once d ≡ true
+once_returns : {d : Deed} → IsOnceReturn d → knows_function d ≡ true
 once_returns (once sum) = refl
 once_returns (once_left sum) = refl
 once_returns (once_func code) = refl
 once_returns (once_func_left code) = refl
 once_returns (once_value value) = refl
 once_returns (once_value_left value) = refl
+
+weight_had : {d : Deed} → IsWeightHad d → passes_count d ≡ true
+weight_had (at_once weight) = refl
+weight_had (tried weight) = refl
+weight_had left = refl
+
+flight_known : {d : Deed} → IsFlightKnown d → knows_function d ≡ true
+flight_known (leads key) = refl
+flight_known (left value) = refl
 
 -- whoever waited before an item and is notified behind it was notified by it
 told : (plan : Plan) (place worker : ℕ) (before : List Item) (it : Item) → notify.place_of (cond_behind plan place before) worker ≡ places.Waiting
@@ -75,10 +84,16 @@ module _ (plan : Plan) (trace : List TraceItem) (i j o w v : ℕ) (d e : Deed) (
       (and_from ((o == o) && locks_rw_mutex e) (is_writers_call two.turn.call) (here o (locks_rw_mutex e) (rw_locks locks)) (as_writer call))
 
   pub group_row : (n : ℕ) → d ≡ added (negsuc n) → IsGroupReturn e → Before plan trace i j
-  group_row n adds returns = met plan trace i j o w o v d e earlier one two (Lowering o) (not_replaced plan trace (Lowering o) i j refl) (here o (lowers_group d) (ap lowers_group adds)) (here o (returns_from_group e) (group_returns returns))
+  group_row n adds returns = met plan trace i j o w o v d e earlier one two (Lowering o) (not_replaced plan trace (Lowering o) i j refl) (here o (lowers_count d) (ap lowers_count adds)) (here o (passes_count e) (group_returns returns))
 
   pub once_row : IsOnceEnd d → IsOnceReturn e → Before plan trace i j
-  once_row ends returns = met plan trace i j o w o v d e earlier one two (FunctionEnd o) (not_replaced plan trace (FunctionEnd o) i j refl) (here o (ends_once d) (once_ends ends)) (here o (returns_from_once e) (once_returns returns))
+  once_row ends returns = met plan trace i j o w o v d e earlier one two (FunctionEnd o) (not_replaced plan trace (FunctionEnd o) i j refl) (here o (ends_function d) (once_ends ends)) (here o (knows_function e) (once_returns returns))
+
+  pub weight_row : (weight : ℕ) → d ≡ gave_back weight → IsWeightHad e → Before plan trace i j
+  weight_row weight gives had = met plan trace i j o w o v d e earlier one two (Lowering o) (not_replaced plan trace (Lowering o) i j refl) (here o (lowers_count d) (ap lowers_count gives)) (here o (passes_count e) (weight_had had))
+
+  pub flight_row : (value : ℤ) (shared : Bool) → d ≡ landed value shared → IsFlightKnown e → Before plan trace i j
+  flight_row value shared lands known = met plan trace i j o w o v d e earlier one two (FunctionEnd o) (not_replaced plan trace (FunctionEnd o) i j refl) (here o (ends_function d) (ap ends_function lands)) (here o (knows_function e) (flight_known known))
 
   pub notice_row : notify.place_of (cond_behind plan o (earlier_of trace i o w d one)) v ≡ places.Waiting → notify.place_of (cond_behind plan o (earlier_of trace i o w d one ++ item o w d ∷ [])) v ≡ places.Notified → e ≡ leaving → Before plan trace i j
   notice_row waits notified leaves = met plan trace i j o w o v d e earlier one two (Notice o v) (not_replaced plan trace (Notice o v) i j refl)

@@ -44,6 +44,7 @@ module _ (place worker moment : ℕ) (objects : List ObjectState) (reply : Reply
   atomic_each call (states.Atomic number) is = placed (operations.Atomic call) _ is
   atomic_each call (states.Cond c other) is = absurd (beside_atomic call (states.Cond c other) (slice_get objects other) is)
   atomic_each call (states.Once o other delta) is = absurd (beside_atomic call (states.Once o other delta) (slice_get objects other) is)
+  atomic_each call (states.Flight f keys other delta) is = absurd (beside_atomic call (states.Flight f keys other delta) (slice_get objects other) is)
   atomic_each call object is = never reply is
 
   beside_map : (call : MapCall (List ℕ)) (object : ObjectState) (target : Option ObjectState) → (option_map_or (λ t. with_both place (other_of object) objects (turn_on_both (operations.Map call) worker moment object t)) target (objects, answers.Still)).1 ≡ answers.Completed reply → ⊥
@@ -54,6 +55,7 @@ module _ (place worker moment : ℕ) (objects : List ObjectState) (reply : Reply
   map_each call (states.Map m) is = placed (operations.Map call) _ is
   map_each call (states.Cond c other) is = absurd (beside_map call (states.Cond c other) (slice_get objects other) is)
   map_each call (states.Once o other delta) is = absurd (beside_map call (states.Once o other delta) (slice_get objects other) is)
+  map_each call (states.Flight f keys other delta) is = absurd (beside_map call (states.Flight f keys other delta) (slice_get objects other) is)
   map_each call object is = never reply is
 
 module _ (plan : Plan) (trace : List TraceItem) (told : (n : ℕ) (one : TraceItem) → slice_get trace n ≡ Some one → IsToldOf plan one) where

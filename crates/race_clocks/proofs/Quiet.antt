@@ -30,6 +30,13 @@ use Rattle.wait_cores.specs.declared.group.GroupReply.{GroupReply}
 use Rattle.wait_cores.specs.declared.group.GroupReply.TheVariants.{Misused as GroupMisused, Still as GroupStill}
 use Rattle.wait_cores.specs.declared.once.OnceEvent.{OnceEvent}
 use Rattle.wait_cores.specs.declared.once.OnceReply.{OnceReply}
+use Rattle.sema_core.specs.SemaEdges.{is_done, sema_releases, sema_acquires}
+use Rattle.sema_core.specs.declared.event.SemaEvent.{SemaEvent}
+use Rattle.sema_core.specs.declared.event.SemaEvent.TheVariants as sema_events
+use Rattle.sema_core.specs.declared.event.SemaReply.{SemaReply}
+use Rattle.flight_core.specs.FlightEdges.{flight_releases, flight_acquires}
+use Rattle.flight_core.specs.declared.event.FlightEvent.{FlightEvent}
+use Rattle.flight_core.specs.declared.event.FlightReply.{FlightReply}
 use Rattle.pool_core.specs.Edges.{pool_releases}
 use Rattle.pool_core.specs.declared.pool_event.PoolEvent.{PoolEvent}
 use Rattle.pool_core.specs.declared.pool_event.PoolReply.{PoolReply}
@@ -41,9 +48,9 @@ use Rattle.step_runner.specs.declared.trace.TraceItem.{TraceItem}
 use Rattle.step_runner.specs.declared.turns.item.Deed.{Deed}
 use Rattle.step_runner.specs.declared.turns.item.Item.{Item}
 use Rattle.race_clocks.specs.Channels.{Channel, MutexUnlock, WriterUnlock, ReaderUnlock, Notice, Lowering, FunctionEnd, PutItem, Start, Atomic, MapKey, gives, takes, hands_on, takes_in}
-use Rattle.race_clocks.specs.Deeds.{unlocks_mutex, locks_mutex, unlocks_as_writer, unlocks_as_reader, locks_rw_mutex, is_writers_call, leaves_cond, lowers_group, returns_from_group, ends_once, returns_from_once, starts_worker, enters_atomic, finds_atomic, finds_in_map, is_entry, is_on}
+use Rattle.race_clocks.specs.Deeds.{unlocks_mutex, locks_mutex, unlocks_as_writer, unlocks_as_reader, locks_rw_mutex, is_writers_call, leaves_cond, lowers_count, passes_count, ends_function, knows_function, starts_worker, enters_atomic, finds_atomic, finds_in_map, is_entry, is_on}
 use Rattle.race_clocks.specs.Seen.{NumberedPool, is_put, is_waiting, is_notified, is_told, cond_made, cond_behind, pool_behind, is_kept_put, takes_put, Named, map_behind, enters_key}
-use Rattle.race_clocks.specs.Rows.{on_atomic, IsMutexUnlock, free, woke, handed, IsMutexLock, at_once, tried, resumed, IsRwLock, reader_at_once, reader_tried, writer_at_once, writer_tried, writer_resumed, left, IsGroupReturn, IsOnceEnd, once, once_func, once_value, IsOnceReturn, once_left, once_func_left, once_value_left, EachDoes, HandsOnNothing, mutex_locked, mutex_misused, rw_locked, rw_misused, raised, group_misused, group_returned, once_returned, pool_taken, pool_missed, pool_dropped, pool_swept, loaded, not_swapped, key_loaded, ranged, accessed, mutex_still, rw_still, cond_still, group_still, TakesInNothing, mutex_failed, mutex_queued, mutex_requeued, mutex_unlocked, rw_failed, rw_queued, rw_waits, rw_requeued, rw_unlocked, signalled, broadcasted, counted, group_queued, once_begun, once_func_begun, once_value_begun, once_queued, once_func_queued, once_value_queued, once_ended, started, stored, key_stored, key_deleted, cleared}
+use Rattle.race_clocks.specs.Rows.{on_atomic, IsMutexUnlock, free, woke, handed, IsMutexLock, at_once, tried, resumed, IsRwLock, reader_at_once, reader_tried, writer_at_once, writer_tried, writer_resumed, left, IsGroupReturn, IsWeightHad, IsFlightKnown, leads, weight_had, weight_queued, weight_refused, weight_misused, weight_still, weight_given, flight_known, flight_queued, flight_still, flight_landed, IsOnceEnd, once, once_func, once_value, IsOnceReturn, once_left, once_func_left, once_value_left, EachDoes, HandsOnNothing, mutex_locked, mutex_misused, rw_locked, rw_misused, raised, group_misused, group_returned, once_returned, pool_taken, pool_missed, pool_dropped, pool_swept, loaded, not_swapped, key_loaded, ranged, accessed, mutex_still, rw_still, cond_still, group_still, TakesInNothing, mutex_failed, mutex_queued, mutex_requeued, mutex_unlocked, rw_failed, rw_queued, rw_waits, rw_requeued, rw_unlocked, signalled, broadcasted, counted, group_queued, once_begun, once_func_begun, once_value_begun, once_queued, once_func_queued, once_value_queued, once_ended, started, stored, key_stored, key_deleted, cleared}
 use Rattle.race_clocks.proofs.Turns.{Found, found}
 
 -- no channel is handed on through
@@ -52,8 +59,8 @@ pub record NoneHanded (d : Deed) : Type 0 where
   writer : unlocks_as_writer d ≡ false
   reader : unlocks_as_reader d ≡ false
   notice : (s : notify.NotifyState) (c : ℕ) → cond_made s c d ≡ s
-  lowering : lowers_group d ≡ false
-  ended : ends_once d ≡ false
+  lowering : lowers_count d ≡ false
+  ended : ends_function d ≡ false
   putting : (n : ℕ) (seen : NumberedPool) → is_kept_put n seen d ≡ false
   start : (w : ℕ) → starts_worker w d ≡ false
   atomic : enters_atomic d ≡ false
@@ -76,6 +83,12 @@ of_once_func e r is = record { unlock = refl; writer = refl; reader = refl; noti
 
 of_once_value : (e : OnceEvent ℕ) (r : OnceReply ℕ) → once_releases e r ≡ false → NoneHanded (deeds.Entered (events.OnceValue e) (answered.OnceValue r))
 of_once_value e r is = record { unlock = refl; writer = refl; reader = refl; notice = λ s c. refl; lowering = refl; ended = is; putting = λ n seen. refl; start = λ w. refl; atomic = refl; key = λ k m. refl }
+
+of_sema : (e : SemaEvent) (r : SemaReply) → sema_releases e r ≡ false → NoneHanded (deeds.Entered (events.Sema e) (answered.Sema r))
+of_sema e r is = record { unlock = refl; writer = refl; reader = refl; notice = λ s c. refl; lowering = is; ended = refl; putting = λ n seen. refl; start = λ w. refl; atomic = refl; key = λ k m. refl }
+
+of_flight : (e : FlightEvent) (r : FlightReply) → flight_releases e r ≡ false → NoneHanded (deeds.Entered (events.Flight e) (answered.Flight r))
+of_flight e r is = record { unlock = refl; writer = refl; reader = refl; notice = λ s c. refl; lowering = refl; ended = is; putting = λ n seen. refl; start = λ w. refl; atomic = refl; key = λ k m. refl }
 
 of_pool : (e : PoolEvent ℕ) (r : PoolReply ℕ) → pool_releases e r ≡ false → NoneHanded (deeds.Entered (events.Pool e) (answered.Pool r))
 of_pool e r is = record { unlock = refl; writer = refl; reader = refl; notice = λ s c. refl; lowering = refl; ended = refl; putting = λ n seen. and_right (is_put e && (seen.count == n)) (pool_releases e r) is; start = λ w. refl; atomic = refl; key = λ k m. refl }
@@ -108,6 +121,22 @@ once_return (once_func_left code) = of_once_func _ _ refl
 once_return (once_value value) = of_once_value _ _ refl
 once_return (once_value_left value) = of_once_value _ _ refl
 
+weight_return : {d : Deed} → IsWeightHad d → NoneHanded d
+weight_return (at_once weight) = of_sema _ _ refl
+weight_return (tried weight) = of_sema _ _ refl
+weight_return left = of_sema _ _ refl
+
+flight_return : {d : Deed} → IsFlightKnown d → NoneHanded d
+flight_return (leads key) = of_flight _ _ refl
+flight_return (left value) = of_flight _ _ refl
+
+-- an event of a semaphore that isn't done hands on nothing, and takes in nothing
+undone_none : (e : SemaEvent) (r : SemaReply) → is_done r ≡ false → sema_releases e r ≡ false
+undone_none (sema_events.Acquire weight) r is = refl
+undone_none (sema_events.Try weight) r is = refl
+undone_none (sema_events.Release weight) r is = is
+undone_none sema_events.Leave r is = refl
+
 misused_none : (e : GroupEvent) (misuse : Misuse) → group_releases e (GroupMisused misuse) ≡ false
 misused_none (Add delta) misuse = and_right (is_below_zero delta) false refl
 misused_none Wait misuse = refl
@@ -127,6 +156,14 @@ none_handed (raised amount) = of_group _ _ refl
 none_handed (group_misused event misuse) = of_group event _ (misused_none event misuse)
 none_handed (group_returned d is) = group_return is
 none_handed (once_returned d is) = once_return is
+none_handed (weight_had d is) = weight_return is
+none_handed (weight_queued event) = of_sema event _ (undone_none event _ refl)
+none_handed (weight_refused event) = of_sema event _ (undone_none event _ refl)
+none_handed (weight_misused event misuse) = of_sema event _ (undone_none event _ refl)
+none_handed (weight_still event) = of_sema event _ (undone_none event _ refl)
+none_handed (flight_known d is) = flight_return is
+none_handed (flight_queued event) = of_flight event _ refl
+none_handed (flight_still event) = of_flight event _ refl
 none_handed (pool_taken event value) = of_pool event _ refl
 none_handed (pool_missed event) = of_pool event _ refl
 none_handed (pool_dropped event value) = of_pool event _ refl
@@ -164,8 +201,8 @@ gives_none plan earlier it h (WriterUnlock o) = and_right (it.object == o) (unlo
 gives_none plan earlier it h (ReaderUnlock o) = and_right (it.object == o) (unlocks_as_reader it.deed) h.reader
 gives_none plan earlier it h (Notice o worker) =
     ap (λ s. is_told worker (cond_behind plan o earlier) (cond (it.object == o) s (cond_behind plan o earlier))) (h.notice (cond_behind plan o earlier) it.caller) ∙ untold worker (cond_behind plan o earlier) (it.object == o)
-gives_none plan earlier it h (Lowering o) = and_right (it.object == o) (lowers_group it.deed) h.lowering
-gives_none plan earlier it h (FunctionEnd o) = and_right (it.object == o) (ends_once it.deed) h.ended
+gives_none plan earlier it h (Lowering o) = and_right (it.object == o) (lowers_count it.deed) h.lowering
+gives_none plan earlier it h (FunctionEnd o) = and_right (it.object == o) (ends_function it.deed) h.ended
 gives_none plan earlier it h (PutItem o number) = and_right (it.object == o) (is_kept_put number (pool_behind plan o earlier) it.deed) (h.putting number (pool_behind plan o earlier))
 gives_none plan earlier it h (Start worker) = h.start worker
 gives_none plan earlier it h (Atomic o) = and_right (it.object == o) (enters_atomic it.deed) h.atomic
@@ -188,8 +225,8 @@ record NoneTaken (d : Deed) : Type 0 where
   lock : locks_mutex d ≡ false
   rw : locks_rw_mutex d ≡ false
   leaves : leaves_cond d ≡ false
-  group : returns_from_group d ≡ false
-  returns : returns_from_once d ≡ false
+  group : passes_count d ≡ false
+  returns : knows_function d ≡ false
   got : (n : ℕ) (seen : NumberedPool) (c : ℕ) → takes_put n seen c d ≡ false
   atomic : finds_atomic d ≡ false
   key : (k : List ℕ) → finds_in_map k d ≡ false
@@ -214,6 +251,18 @@ to_once_func e r is = record { lock = refl; rw = refl; leaves = refl; group = re
 
 to_once_value : (e : OnceEvent ℕ) (r : OnceReply ℕ) → once_acquires e r ≡ false → NoneTaken (deeds.Entered (events.OnceValue e) (answered.OnceValue r))
 to_once_value e r is = record { lock = refl; rw = refl; leaves = refl; group = refl; returns = is; got = λ n seen c. refl; atomic = refl; key = λ k. refl }
+
+to_sema : (e : SemaEvent) (r : SemaReply) → sema_acquires e r ≡ false → NoneTaken (deeds.Entered (events.Sema e) (answered.Sema r))
+to_sema e r is = record { lock = refl; rw = refl; leaves = refl; group = is; returns = refl; got = λ n seen c. refl; atomic = refl; key = λ k. refl }
+
+to_flight : (e : FlightEvent) (r : FlightReply) → flight_acquires e r ≡ false → NoneTaken (deeds.Entered (events.Flight e) (answered.Flight r))
+to_flight e r is = record { lock = refl; rw = refl; leaves = refl; group = refl; returns = is; got = λ n seen c. refl; atomic = refl; key = λ k. refl }
+
+undone_kept : (e : SemaEvent) (r : SemaReply) → is_done r ≡ false → sema_acquires e r ≡ false
+undone_kept (sema_events.Acquire weight) r is = is
+undone_kept (sema_events.Try weight) r is = is
+undone_kept (sema_events.Release weight) r is = refl
+undone_kept sema_events.Leave r is = is
 
 mutex_unlock : {d : Deed} → IsMutexUnlock d → NoneTaken d
 mutex_unlock free = to_mutex _ _ refl
@@ -263,6 +312,14 @@ none_taken once_queued = to_once _ _ refl
 none_taken once_func_queued = to_once_func _ _ refl
 none_taken once_value_queued = to_once_value _ _ refl
 none_taken (once_ended d is) = once_end is
+none_taken (weight_given weight) = to_sema _ _ refl
+none_taken (weight_queued event) = to_sema event _ (undone_kept event _ refl)
+none_taken (weight_refused event) = to_sema event _ (undone_kept event _ refl)
+none_taken (weight_misused event misuse) = to_sema event _ (undone_kept event _ refl)
+none_taken (weight_still event) = to_sema event _ (undone_kept event _ refl)
+none_taken (flight_landed value shared) = to_flight _ _ refl
+none_taken (flight_queued event) = to_flight event _ refl
+none_taken (flight_still event) = to_flight event _ refl
 none_taken (started worker) = record { lock = refl; rw = refl; leaves = refl; group = refl; returns = refl; got = λ n seen c. refl; atomic = refl; key = λ k. refl }
 none_taken (stored value reply) = record { lock = refl; rw = refl; leaves = refl; group = refl; returns = refl; got = λ n seen c. refl; atomic = refl; key = λ k. refl }
 none_taken (key_stored key value reply) = record { lock = refl; rw = refl; leaves = refl; group = refl; returns = refl; got = λ n seen c. refl; atomic = refl; key = λ k. refl }
@@ -283,8 +340,8 @@ module _ (plan : Plan) (earlier : List Item) (call : Option Call) (it : Item) (d
   just_start (WriterUnlock o) is = never (it.object == o) (locks_rw_mutex it.deed) deaf.rw is (WriterUnlock o)
   just_start (ReaderUnlock o) is = never (it.object == o) (locks_rw_mutex it.deed) deaf.rw (and_parts ((it.object == o) && locks_rw_mutex it.deed) (is_writers_call call) is).0 (ReaderUnlock o)
   just_start (Notice o worker) is = never ((it.object == o) && (it.caller == worker)) (leaves_cond it.deed) deaf.leaves is (Notice o worker)
-  just_start (Lowering o) is = never (it.object == o) (returns_from_group it.deed) deaf.group is (Lowering o)
-  just_start (FunctionEnd o) is = never (it.object == o) (returns_from_once it.deed) deaf.returns is (FunctionEnd o)
+  just_start (Lowering o) is = never (it.object == o) (passes_count it.deed) deaf.group is (Lowering o)
+  just_start (FunctionEnd o) is = never (it.object == o) (knows_function it.deed) deaf.returns is (FunctionEnd o)
   just_start (PutItem o number) is = never (it.object == o) (takes_put number (pool_behind plan o earlier) it.caller it.deed) (deaf.got number (pool_behind plan o earlier) it.caller) is (PutItem o number)
   just_start (Start worker) is = (worker, refl)
   just_start (Atomic o) is = never (it.object == o) (finds_atomic it.deed) deaf.atomic is (Atomic o)

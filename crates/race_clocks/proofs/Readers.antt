@@ -8,7 +8,7 @@ use Rattle.workload.specs.Plan.{Plan}
 use Rattle.step_runner.specs.declared.trace.TraceItem.{TraceItem}
 use Rattle.step_runner.specs.declared.turns.item.Item.{Item}
 use Rattle.race_clocks.specs.Channels.{Channel, MutexUnlock, WriterUnlock, ReaderUnlock, Notice, Lowering, FunctionEnd, PutItem, Start, Atomic, MapKey, gives, takes, hands_on, takes_in}
-use Rattle.race_clocks.specs.Deeds.{unlocks_mutex, unlocks_as_writer, locks_rw_mutex, is_writers_call, lowers_group, ends_once, starts_worker, enters_atomic}
+use Rattle.race_clocks.specs.Deeds.{unlocks_mutex, unlocks_as_writer, locks_rw_mutex, is_writers_call, lowers_count, ends_function, starts_worker, enters_atomic}
 use Rattle.race_clocks.specs.Seen.{is_told, cond_made, cond_behind, pool_behind, is_kept_put, map_behind, enters_key}
 use Rattle.race_clocks.specs.HappensBefore.{done_before, Meets, Edge, Before}
 use Rattle.race_clocks.specs.Rows.{reader_unlock, IsReadersCall, r_lock, try_r_lock, EachDoes}
@@ -27,8 +27,8 @@ module _ (plan : Plan) (earlier : List Item) (it : Item) (is : it.deed ≡ reade
   just_reader (Notice o worker) e = absurd (false≢true (sym (
       ap (λ s. is_told worker (cond_behind plan o earlier) (cond (it.object == o) s (cond_behind plan o earlier))) (ap (cond_made (cond_behind plan o earlier) it.caller) is) ∙ untold worker (cond_behind plan o earlier) (it.object == o)
       ) ∙ e))
-  just_reader (Lowering o) e = never (it.object == o) (lowers_group it.deed) (ap lowers_group is) e (Lowering o)
-  just_reader (FunctionEnd o) e = never (it.object == o) (ends_once it.deed) (ap ends_once is) e (FunctionEnd o)
+  just_reader (Lowering o) e = never (it.object == o) (lowers_count it.deed) (ap lowers_count is) e (Lowering o)
+  just_reader (FunctionEnd o) e = never (it.object == o) (ends_function it.deed) (ap ends_function is) e (FunctionEnd o)
   just_reader (PutItem o number) e = never (it.object == o) (is_kept_put number (pool_behind plan o earlier) it.deed) (ap (is_kept_put number (pool_behind plan o earlier)) is) e (PutItem o number)
   just_reader (Start worker) e = absurd (false≢true (sym (ap (starts_worker worker) is) ∙ e))
   just_reader (Atomic o) e = never (it.object == o) (enters_atomic it.deed) (ap enters_atomic is) e (Atomic o)

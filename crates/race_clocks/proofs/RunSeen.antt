@@ -9,6 +9,7 @@ use Rattle.script_calls.specs.declared.call.Operation.TheVariants as operations
 use Rattle.script_calls.specs.declared.call.Reply.{Reply}
 use Rattle.wait_cores.specs.NotifyMachine as notify
 use Rattle.pool_core.specs.PoolMachine as pool
+use Rattle.workload.specs.Keys.{keys_in}
 use Rattle.workload.specs.Plan.{Plan}
 use Rattle.workload.specs.Puts.{puts_at}
 use Rattle.workload.specs.declared.object.ObjectLine.{ObjectLine}
@@ -85,11 +86,11 @@ called place m n (it ∷ items) (operation, reply, next, deed, goes, rest) = ap 
 
 module _ (plan : Plan) (made : List Item) (objects : List ObjectState) (kinds : map kind_of objects ≡ map (λ (line : ObjectLine). line.kind) plan.objects) (lead : LeadTo plan made objects) where
   of_line : (place : ℕ) (object : ObjectState) (line : Option ObjectLine) → slice_get plan.objects place ≡ line → slice_get objects place ≡ Some object → option_map (λ (l : ObjectLine). l.kind) line ≡ Some (kind_of object)
-      → LeadsTo (new_object plan.workers (puts_at place plan.scripts) (kind_of object)) (on_object place made) object
+      → LeadsTo (new_object plan.workers (puts_at place plan.scripts) (keys_in plan.scripts) (kind_of object)) (on_object place made) object
   of_line place object None at_line at is = absurd (none-some (kind_of object) is)
-  of_line place object (Some line) at_line at is = subst (λ kind. LeadsTo (new_object plan.workers (puts_at place plan.scripts) kind) (on_object place made) object) (same_Some line.kind (kind_of object) is) (lead place line object at_line at)
+  of_line place object (Some line) at_line at is = subst (λ kind. LeadsTo (new_object plan.workers (puts_at place plan.scripts) (keys_in plan.scripts) kind) (on_object place made) object) (same_Some line.kind (kind_of object) is) (lead place line object at_line at)
 
-  leads : (place : ℕ) (object : ObjectState) → slice_get objects place ≡ Some object → LeadsTo (new_object plan.workers (puts_at place plan.scripts) (kind_of object)) (on_object place made) object
+  leads : (place : ℕ) (object : ObjectState) → slice_get objects place ≡ Some object → LeadsTo (new_object plan.workers (puts_at place plan.scripts) (keys_in plan.scripts) (kind_of object)) (on_object place made) object
   leads place object at = of_line place object (slice_get plan.objects place) refl at
       (sym (slice_get-map (λ (l : ObjectLine). l.kind) plan.objects place) ∙ ap (λ ks. slice_get ks place) (sym kinds) ∙ slice_get-map kind_of objects place ∙ ap (option_map kind_of) at)
 

@@ -13,7 +13,7 @@ use Rattle.step_runner.specs.declared.turns.item.Item.{Item}
 use Rattle.starts_core.specs.StartsEdges.{is_made}
 use Rattle.starts_core.specs.declared.starts.StartReply.TheVariants.{Done}
 use Rattle.race_clocks.specs.Channels.{Channel, MutexUnlock, WriterUnlock, ReaderUnlock, Notice, Lowering, FunctionEnd, PutItem, Start, Atomic, MapKey, gives, takes, hands_on, takes_in}
-use Rattle.race_clocks.specs.Deeds.{unlocks_mutex, locks_mutex, unlocks_as_writer, unlocks_as_reader, locks_rw_mutex, is_writers_call, leaves_cond, lowers_group, returns_from_group, ends_once, returns_from_once, starts_worker, enters_atomic, finds_atomic, finds_in_map}
+use Rattle.race_clocks.specs.Deeds.{unlocks_mutex, locks_mutex, unlocks_as_writer, unlocks_as_reader, locks_rw_mutex, is_writers_call, leaves_cond, lowers_count, passes_count, ends_function, knows_function, starts_worker, enters_atomic, finds_atomic, finds_in_map}
 use Rattle.race_clocks.specs.Seen.{is_told, cond_made, cond_behind, pool_behind, is_kept_put, takes_put, map_behind, enters_key}
 use Rattle.race_clocks.specs.Rows.{object_of, start_of, EachDoes}
 use Rattle.race_clocks.proofs.Quiet.{untold, within}
@@ -38,8 +38,8 @@ module _ (plan : Plan) (earlier : List Item) (it : Item) where
   gives_there (WriterUnlock o) n at is = first o n (unlocks_as_writer it.deed) is at
   gives_there (ReaderUnlock o) n at is = first o n (unlocks_as_reader it.deed) is at
   gives_there (Notice o worker) n at is = notified_there o worker is ∙ same_Some o n at
-  gives_there (Lowering o) n at is = first o n (lowers_group it.deed) is at
-  gives_there (FunctionEnd o) n at is = first o n (ends_once it.deed) is at
+  gives_there (Lowering o) n at is = first o n (lowers_count it.deed) is at
+  gives_there (FunctionEnd o) n at is = first o n (ends_function it.deed) is at
   gives_there (PutItem o number) n at is = first o n (is_kept_put number (pool_behind plan o earlier) it.deed) is at
   gives_there (Start worker) n at is = absurd (none-some n at)
   gives_there (Atomic o) n at is = first o n (enters_atomic it.deed) is at
@@ -50,8 +50,8 @@ module _ (plan : Plan) (earlier : List Item) (it : Item) where
   takes_there call (WriterUnlock o) n at is = first o n (locks_rw_mutex it.deed) is at
   takes_there call (ReaderUnlock o) n at is = first o n (locks_rw_mutex it.deed) (and_parts ((it.object == o) && locks_rw_mutex it.deed) (is_writers_call call) is).0 at
   takes_there call (Notice o worker) n at is = first o n (it.caller == worker) (and_parts ((it.object == o) && (it.caller == worker)) (leaves_cond it.deed) is).0 at
-  takes_there call (Lowering o) n at is = first o n (returns_from_group it.deed) is at
-  takes_there call (FunctionEnd o) n at is = first o n (returns_from_once it.deed) is at
+  takes_there call (Lowering o) n at is = first o n (passes_count it.deed) is at
+  takes_there call (FunctionEnd o) n at is = first o n (knows_function it.deed) is at
   takes_there call (PutItem o number) n at is = first o n (takes_put number (pool_behind plan o earlier) it.caller it.deed) is at
   takes_there call (Start worker) n at is = absurd (none-some n at)
   takes_there call (Atomic o) n at is = first o n (finds_atomic it.deed) is at

@@ -5,7 +5,7 @@ use Rattle.script_calls.specs.declared.call.Call.{Call}
 use Rattle.workload.specs.Plan.{Plan}
 use Rattle.step_runner.specs.declared.trace.TraceItem.{TraceItem}
 use Rattle.step_runner.specs.declared.turns.item.Item.{Item}
-use Rattle.race_clocks.specs.Deeds.{unlocks_mutex, locks_mutex, unlocks_as_writer, unlocks_as_reader, locks_rw_mutex, is_writers_call, leaves_cond, lowers_group, returns_from_group, ends_once, returns_from_once, starts_worker, enters_atomic, finds_atomic, finds_in_map}
+use Rattle.race_clocks.specs.Deeds.{unlocks_mutex, locks_mutex, unlocks_as_writer, unlocks_as_reader, locks_rw_mutex, is_writers_call, leaves_cond, lowers_count, passes_count, ends_function, knows_function, starts_worker, enters_atomic, finds_atomic, finds_in_map}
 use Rattle.race_clocks.specs.Seen.{notifies, pool_behind, is_kept_put, takes_put, map_behind, enters_key}
 
 -- Objects are named by their places in order of declaration.
@@ -14,8 +14,8 @@ pub data Channel : Type 0 where
   WriterUnlock : (lock : ℕ) → Channel
   ReaderUnlock : (lock : ℕ) → Channel
   Notice : (place worker : ℕ) → Channel  -- of the worker's ticket at a cond
-  Lowering : (group : ℕ) → Channel
-  FunctionEnd : (once : ℕ) → Channel
+  Lowering : (group : ℕ) → Channel  -- of a wait group's counter, or of what is held of a semaphore
+  FunctionEnd : (once : ℕ) → Channel  -- of a once, or of a group of flights
   PutItem : (pool number : ℕ) → Channel  -- of so many puts before it into the pool
   Start : (worker : ℕ) → Channel
   Atomic : (atomic : ℕ) → Channel
@@ -34,8 +34,8 @@ module _ (plan : Plan) (earlier : List Item) (item : Item) where
   gives (WriterUnlock lock) = (item.object == lock) && unlocks_as_writer item.deed
   gives (ReaderUnlock lock) = (item.object == lock) && unlocks_as_reader item.deed
   gives (Notice place worker) = notifies plan place worker earlier item
-  gives (Lowering group) = (item.object == group) && lowers_group item.deed
-  gives (FunctionEnd once) = (item.object == once) && ends_once item.deed
+  gives (Lowering group) = (item.object == group) && lowers_count item.deed
+  gives (FunctionEnd once) = (item.object == once) && ends_function item.deed
   gives (PutItem pool number) = (item.object == pool) && is_kept_put number (pool_behind plan pool earlier) item.deed
   gives (Start worker) = starts_worker worker item.deed
   gives (Atomic atomic) = (item.object == atomic) && enters_atomic item.deed
@@ -47,8 +47,8 @@ module _ (plan : Plan) (earlier : List Item) (item : Item) where
   takes call (WriterUnlock lock) = (item.object == lock) && locks_rw_mutex item.deed
   takes call (ReaderUnlock lock) = (item.object == lock) && locks_rw_mutex item.deed && is_writers_call call
   takes call (Notice place worker) = (item.object == place) && (item.caller == worker) && leaves_cond item.deed
-  takes call (Lowering group) = (item.object == group) && returns_from_group item.deed
-  takes call (FunctionEnd once) = (item.object == once) && returns_from_once item.deed
+  takes call (Lowering group) = (item.object == group) && passes_count item.deed
+  takes call (FunctionEnd once) = (item.object == once) && knows_function item.deed
   takes call (PutItem pool number) = (item.object == pool) && takes_put number (pool_behind plan pool earlier) item.caller item.deed
   takes call (Start worker) = is_first_of worker earlier item
   takes call (Atomic atomic) = (item.object == atomic) && finds_atomic item.deed

@@ -20,6 +20,8 @@ use Rattle.rw_core.specs.Edges as rw
 use Rattle.wait_cores.specs.GroupEdges as group
 use Rattle.wait_cores.specs.NotifyEdges as notify
 use Rattle.wait_cores.specs.OnceEdges as once
+use Rattle.sema_core.specs.SemaEdges as sema
+use Rattle.flight_core.specs.FlightEdges as flight
 use Rattle.starts_core.specs.StartsEdges as starts
 use Rattle.starts_core.specs.declared.starts.StartEvent.TheVariants as start_events
 use Rattle.run_record.specs.declared.entered.ObjectEvent.TheVariants as events
@@ -71,33 +73,37 @@ abbrev pub leaves_cond : Deed → Bool
 leaves_cond (deeds.Entered (events.Cond event) (answered.Cond answer)) = notify.notify_acquires event answer
 leaves_cond deed = false
 
--- ---- a wait group
+-- ---- a wait group, and a weighted semaphore
 
--- a `done`, or an `add` below 0, that is no misuse
-abbrev pub lowers_group : Deed → Bool
-lowers_group (deeds.Entered (events.WaitGroup event) (answered.WaitGroup answer)) = group.group_releases event answer
-lowers_group deed = false
+-- a `done`, or an `add` below 0, that is no misuse; or a release that is none
+abbrev pub lowers_count : Deed → Bool
+lowers_count (deeds.Entered (events.WaitGroup event) (answered.WaitGroup answer)) = group.group_releases event answer
+lowers_count (deeds.Entered (events.Sema event) (answered.Sema answer)) = sema.sema_releases event answer
+lowers_count deed = false
 
--- a `wait` returns
-abbrev pub returns_from_group : Deed → Bool
-returns_from_group (deeds.Entered (events.WaitGroup event) (answered.WaitGroup answer)) = group.group_acquires event answer
-returns_from_group deed = false
+-- a `wait` returns, or a caller has its weight
+abbrev pub passes_count : Deed → Bool
+passes_count (deeds.Entered (events.WaitGroup event) (answered.WaitGroup answer)) = group.group_acquires event answer
+passes_count (deeds.Entered (events.Sema event) (answered.Sema answer)) = sema.sema_acquires event answer
+passes_count deed = false
 
--- ---- a once, a `OnceFunc` and a `OnceValue`
+-- ---- a once, a `OnceFunc` and a `OnceValue`, and a group of flights
 
--- the function ends
-abbrev pub ends_once : Deed → Bool
-ends_once (deeds.Entered (events.Once event) (answered.Once answer)) = once.once_releases event answer
-ends_once (deeds.Entered (events.OnceFunc event) (answered.OnceFunc answer)) = once.once_releases event answer
-ends_once (deeds.Entered (events.OnceValue event) (answered.OnceValue answer)) = once.once_releases event answer
-ends_once deed = false
+-- the function ends, or a flight lands
+abbrev pub ends_function : Deed → Bool
+ends_function (deeds.Entered (events.Once event) (answered.Once answer)) = once.once_releases event answer
+ends_function (deeds.Entered (events.OnceFunc event) (answered.OnceFunc answer)) = once.once_releases event answer
+ends_function (deeds.Entered (events.OnceValue event) (answered.OnceValue answer)) = once.once_releases event answer
+ends_function (deeds.Entered (events.Flight event) (answered.Flight answer)) = flight.flight_releases event answer
+ends_function deed = false
 
--- a call returns of which another one ran the function
-abbrev pub returns_from_once : Deed → Bool
-returns_from_once (deeds.Entered (events.Once event) (answered.Once answer)) = once.once_acquires event answer
-returns_from_once (deeds.Entered (events.OnceFunc event) (answered.OnceFunc answer)) = once.once_acquires event answer
-returns_from_once (deeds.Entered (events.OnceValue event) (answered.OnceValue answer)) = once.once_acquires event answer
-returns_from_once deed = false
+-- a call returns of which another one ran the function, or leads a flight
+abbrev pub knows_function : Deed → Bool
+knows_function (deeds.Entered (events.Once event) (answered.Once answer)) = once.once_acquires event answer
+knows_function (deeds.Entered (events.OnceFunc event) (answered.OnceFunc answer)) = once.once_acquires event answer
+knows_function (deeds.Entered (events.OnceValue event) (answered.OnceValue answer)) = once.once_acquires event answer
+knows_function (deeds.Entered (events.Flight event) (answered.Flight answer)) = flight.flight_acquires event answer
+knows_function deed = false
 
 -- ---- a worker that waits to be started
 

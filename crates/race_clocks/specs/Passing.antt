@@ -11,7 +11,7 @@ use Rattle.workload.specs.Plan.{Plan}
 use Rattle.step_runner.specs.declared.turns.item.Deed.{Deed}
 use Rattle.step_runner.specs.declared.turns.item.Deed.TheVariants as deeds
 use Rattle.step_runner.specs.declared.turns.item.Item.{Item}
-use Rattle.race_clocks.specs.Deeds.{unlocks_mutex, locks_mutex, unlocks_as_writer, unlocks_as_reader, locks_rw_mutex, is_writers_call, leaves_cond, lowers_group, returns_from_group, ends_once, returns_from_once, enters_atomic, finds_atomic}
+use Rattle.race_clocks.specs.Deeds.{unlocks_mutex, locks_mutex, unlocks_as_writer, unlocks_as_reader, locks_rw_mutex, is_writers_call, leaves_cond, lowers_count, passes_count, ends_function, knows_function, enters_atomic, finds_atomic}
 use Rattle.race_clocks.specs.Handing.{are_for, is_each, AreOf, started_by, cond_event, pool_event, is_kept, cond_at, pool_at, map_at, stepped_by, notices, put_given, put_taken, key_given, key_taken, pairs_taken}
 use Rattle.race_clocks.specs.Places.{at}
 use Rattle.race_clocks.specs.Channels as all
@@ -34,13 +34,13 @@ started_given None list = list
 abbrev pub plain_given : ℕ → Deed → List Channel → List Channel
 plain_given object deed list =
     started_given (started_by deed)
-    (if_so (enters_atomic deed) (channels.Atomic object) (if_so (ends_once deed) (channels.FunctionEnd object) (if_so (lowers_group deed) (channels.Lowering object)
+    (if_so (enters_atomic deed) (channels.Atomic object) (if_so (ends_function deed) (channels.FunctionEnd object) (if_so (lowers_count deed) (channels.Lowering object)
     (if_so (unlocks_as_reader deed) (channels.ReaderUnlock object) (if_so (unlocks_as_writer deed) (channels.WriterUnlock object) (if_so (unlocks_mutex deed) (channels.MutexUnlock object) list))))))
 
 -- and from which it takes in
 abbrev pub plain_taken : ℕ → ℕ → Deed → Option Call → List Channel → List Channel
 plain_taken object caller deed call list =
-    if_so (finds_atomic deed) (channels.Atomic object) (if_so (returns_from_once deed) (channels.FunctionEnd object) (if_so (returns_from_group deed) (channels.Lowering object)
+    if_so (finds_atomic deed) (channels.Atomic object) (if_so (knows_function deed) (channels.FunctionEnd object) (if_so (passes_count deed) (channels.Lowering object)
     (if_so (leaves_cond deed) (channels.Notice object caller) (if_so (locks_rw_mutex deed && is_writers_call call) (channels.ReaderUnlock object) (if_so (locks_rw_mutex deed) (channels.WriterUnlock object)
     (if_so (locks_mutex deed) (channels.MutexUnlock object) list))))))
 

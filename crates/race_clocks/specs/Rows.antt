@@ -1,5 +1,5 @@
 -- The rows of the table of edges as the laws name them: by the very events and answers, and by the turns that make them.
-use Rattle.std.specs.Prelude.{◌≡◌, ◌⊎◌, ℕ, ℤ, pos, ◌<◌, true, false, List, [], ◌∷◌, ◌++◌, Contains, Option, Some, None, slice_get}
+use Rattle.std.specs.Prelude.{◌≡◌, ◌⊎◌, ℕ, ℤ, pos, ◌<◌, Bool, true, false, List, [], ◌∷◌, ◌++◌, Contains, Option, Some, None, slice_get}
 use Rattle.sync_types.specs.declared.atomic_object.AtomicCall.{AtomicCall}
 use Rattle.sync_types.specs.declared.atomic_object.AtomicCall.TheVariants as atomic_calls
 use Rattle.sync_types.specs.declared.atomic_object.AtomicReply.{AtomicReply}
@@ -37,6 +37,12 @@ use Rattle.wait_cores.specs.declared.once.OnceReply.TheVariants as once_replies
 use Rattle.pool_core.specs.declared.pool_event.PoolEvent.{PoolEvent}
 use Rattle.pool_core.specs.declared.pool_event.PoolEvent.TheVariants as pool_events
 use Rattle.pool_core.specs.declared.pool_event.PoolReply.TheVariants as pool_replies
+use Rattle.sema_core.specs.declared.event.SemaEvent.{SemaEvent}
+use Rattle.sema_core.specs.declared.event.SemaEvent.TheVariants as sema_events
+use Rattle.sema_core.specs.declared.event.SemaReply.TheVariants as sema_replies
+use Rattle.flight_core.specs.declared.event.FlightEvent.{FlightEvent}
+use Rattle.flight_core.specs.declared.event.FlightEvent.TheVariants as flight_events
+use Rattle.flight_core.specs.declared.event.FlightReply.TheVariants as flight_replies
 use Rattle.starts_core.specs.declared.starts.StartEvent.TheVariants as start_events
 use Rattle.starts_core.specs.declared.starts.StartReply.TheVariants as start_replies
 use Rattle.run_record.specs.declared.entered.ObjectEvent.TheVariants as events
@@ -163,6 +169,27 @@ pub data IsOnceReturn : Deed → Type 0 where
   once_value : (value : ℕ) → IsOnceReturn (deeds.Entered (events.OnceValue once_events.Begin) (answered.OnceValue (once_replies.Done value)))
   once_value_left : (value : ℕ) → IsOnceReturn (deeds.Entered (events.OnceValue once_events.Leave) (answered.OnceValue (once_replies.Left value)))
 
+-- ---- a weighted semaphore
+
+abbrev pub gave_back : ℕ → Deed
+gave_back weight = deeds.Entered (events.Sema (sema_events.Release weight)) (answered.Sema sema_replies.Done)
+
+-- a caller has its weight, at once or with the leaving
+pub data IsWeightHad : Deed → Type 0 where
+  at_once : (weight : ℕ) → IsWeightHad (deeds.Entered (events.Sema (sema_events.Acquire weight)) (answered.Sema sema_replies.Done))
+  tried : (weight : ℕ) → IsWeightHad (deeds.Entered (events.Sema (sema_events.Try weight)) (answered.Sema sema_replies.Done))
+  left : IsWeightHad (deeds.Entered (events.Sema sema_events.Leave) (answered.Sema sema_replies.Done))
+
+-- ---- a group of flights
+
+abbrev pub landed : ℤ → Bool → Deed
+landed value shared = deeds.Entered (events.Flight (flight_events.Land value)) (answered.Flight (flight_replies.Landed shared))
+
+-- a caller leads a flight, or leaves one that has landed
+pub data IsFlightKnown : Deed → Type 0 where
+  leads : (key : ℕ) → IsFlightKnown (deeds.Entered (events.Flight (flight_events.Join key)) (answered.Flight flight_replies.Lead))
+  left : (value : ℤ) → IsFlightKnown (deeds.Entered (events.Flight flight_events.Leave) (answered.Flight (flight_replies.Left value)))
+
 -- ---- a pool
 
 abbrev pub put : ℕ → Deed
@@ -205,6 +232,14 @@ pub data HandsOnNothing : Deed → Type 0 where
   group_misused : (event : GroupEvent) (misuse : Misuse) → HandsOnNothing (deeds.Entered (events.WaitGroup event) (answered.WaitGroup (group_replies.Misused misuse)))
   group_returned : (d : Deed) → IsGroupReturn d → HandsOnNothing d
   once_returned : (d : Deed) → IsOnceReturn d → HandsOnNothing d
+  weight_had : (d : Deed) → IsWeightHad d → HandsOnNothing d
+  weight_queued : (event : SemaEvent) → HandsOnNothing (deeds.Entered (events.Sema event) (answered.Sema sema_replies.Queued))
+  weight_refused : (event : SemaEvent) → HandsOnNothing (deeds.Entered (events.Sema event) (answered.Sema sema_replies.Refused))
+  weight_misused : (event : SemaEvent) (misuse : Misuse) → HandsOnNothing (deeds.Entered (events.Sema event) (answered.Sema (sema_replies.Misused misuse)))
+  weight_still : (event : SemaEvent) → HandsOnNothing (deeds.Entered (events.Sema event) (answered.Sema sema_replies.Still))
+  flight_known : (d : Deed) → IsFlightKnown d → HandsOnNothing d
+  flight_queued : (event : FlightEvent) → HandsOnNothing (deeds.Entered (events.Flight event) (answered.Flight flight_replies.Queued))
+  flight_still : (event : FlightEvent) → HandsOnNothing (deeds.Entered (events.Flight event) (answered.Flight flight_replies.Still))
   pool_taken : (event : PoolEvent ℕ) (value : ℕ) → HandsOnNothing (deeds.Entered (events.Pool event) (answered.Pool (pool_replies.Item value)))
   pool_missed : (event : PoolEvent ℕ) → HandsOnNothing (deeds.Entered (events.Pool event) (answered.Pool pool_replies.Nothing))
   pool_dropped : (event : PoolEvent ℕ) (value : ℕ) → HandsOnNothing (deeds.Entered (events.Pool event) (answered.Pool (pool_replies.Dropped value)))
@@ -248,6 +283,14 @@ pub data TakesInNothing : Deed → Type 0 where
   once_func_queued : TakesInNothing (deeds.Entered (events.OnceFunc once_events.Begin) (answered.OnceFunc once_replies.Queued))
   once_value_queued : TakesInNothing (deeds.Entered (events.OnceValue once_events.Begin) (answered.OnceValue once_replies.Queued))
   once_ended : (d : Deed) → IsOnceEnd d → TakesInNothing d
+  weight_given : (weight : ℕ) → TakesInNothing (gave_back weight)
+  weight_queued : (event : SemaEvent) → TakesInNothing (deeds.Entered (events.Sema event) (answered.Sema sema_replies.Queued))
+  weight_refused : (event : SemaEvent) → TakesInNothing (deeds.Entered (events.Sema event) (answered.Sema sema_replies.Refused))
+  weight_misused : (event : SemaEvent) (misuse : Misuse) → TakesInNothing (deeds.Entered (events.Sema event) (answered.Sema (sema_replies.Misused misuse)))
+  weight_still : (event : SemaEvent) → TakesInNothing (deeds.Entered (events.Sema event) (answered.Sema sema_replies.Still))
+  flight_landed : (value : ℤ) (shared : Bool) → TakesInNothing (landed value shared)
+  flight_queued : (event : FlightEvent) → TakesInNothing (deeds.Entered (events.Flight event) (answered.Flight flight_replies.Queued))
+  flight_still : (event : FlightEvent) → TakesInNothing (deeds.Entered (events.Flight event) (answered.Flight flight_replies.Still))
   started : (worker : ℕ) → TakesInNothing (start_of worker)
   stored : (value : Number) (reply : Reply (List ℕ)) → TakesInNothing (deeds.Placed (operations.Atomic (atomic_calls.Store value)) reply)
   key_stored : (key : List ℕ) (value : ℕ) (reply : Reply (List ℕ)) → TakesInNothing (deeds.Placed (operations.Map (map_calls.Store key value)) reply)

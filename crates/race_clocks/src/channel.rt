@@ -9,7 +9,9 @@ pub(crate) enum Channel {
     ReaderUnlock(usize),
     /// Of a worker's ticket at a cond.
     Notice { cond: usize, worker: u32 },
+    /// Of a wait group's counter, or of what is held of a semaphore.
     Lowering(usize),
+    /// Of a once, or of a group of flights.
     FunctionEnd(usize),
     /// Of the put of this number, where so many were before it.
     PutItem { pool: usize, number: u64 },

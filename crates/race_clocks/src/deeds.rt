@@ -2,14 +2,16 @@
 ghost use Rattle.std.specs.Prelude.{◌≡◌};
 ghost use Rattle.std.specs.Option.{option_copied};
 ghost use Rattle.rw_core.specs.Edges.{is_read};
-ghost use Rattle.race_clocks.specs.Deeds.{unlocks_mutex, locks_mutex, unlocks_as_writer, unlocks_as_reader, locks_rw_mutex, is_writers_call, leaves_cond, lowers_group, returns_from_group, ends_once, returns_from_once, is_entry, enters_atomic, finds_atomic};
+ghost use Rattle.race_clocks.specs.Deeds.{unlocks_mutex, locks_mutex, unlocks_as_writer, unlocks_as_reader, locks_rw_mutex, is_writers_call, leaves_cond, lowers_count, passes_count, ends_function, knows_function, is_entry, enters_atomic, finds_atomic};
 ghost use Rattle.race_clocks.specs.Handing.{started_by, found_key, cond_event, pool_event, is_kept};
 
+use flight_core::FlightCore;
 use mutex_core::MutexCore;
 use pool_core::{PoolEvent, PoolReply};
 use run_record::{ObjectEvent, ObjectReply};
 use rw_core::{RwCore, RwEvent};
 use script_calls::{Call, Operation, Reply};
+use sema_core::SemaCore;
 use starts_core::{StartEvent, StartReply};
 use step_runner::Deed;
 use sync_model::Machine;
@@ -115,33 +117,39 @@ pub(crate) fn leaves_cond(deed: &Deed) -> bool
     }
 }
 
-/// Whether it lowers the counter of a wait group.
-pub(crate) fn lowers_group(deed: &Deed) -> bool
-    ensures { result ≡ lowers_group deed.now }
+/// Whether it lowers the counter of a wait group, or what is held of a semaphore.
+pub(crate) fn lowers_count(deed: &Deed) -> bool
+    ensures { result ≡ lowers_count deed.now }
 {
     match deed {
         Deed::Entered(ObjectEvent::WaitGroup(event), ObjectReply::WaitGroup(reply)) => {
             GroupCore::releases(event, reply)
         }
-        _ => false,
-    }
-}
-
-/// Whether a `wait` of a wait group returns.
-pub(crate) fn returns_from_group(deed: &Deed) -> bool
-    ensures { result ≡ returns_from_group deed.now }
-{
-    match deed {
-        Deed::Entered(ObjectEvent::WaitGroup(event), ObjectReply::WaitGroup(reply)) => {
-            GroupCore::acquires(event, reply)
+        Deed::Entered(ObjectEvent::Sema(event), ObjectReply::Sema(reply)) => {
+            SemaCore::releases(event, reply)
         }
         _ => false,
     }
 }
 
-/// Whether the function of a once, a `OnceFunc` or a `OnceValue` ends.
-pub(crate) fn ends_once(deed: &Deed) -> bool
-    ensures { result ≡ ends_once deed.now }
+/// Whether a `wait` of a wait group returns, or a caller has its weight of a semaphore.
+pub(crate) fn passes_count(deed: &Deed) -> bool
+    ensures { result ≡ passes_count deed.now }
+{
+    match deed {
+        Deed::Entered(ObjectEvent::WaitGroup(event), ObjectReply::WaitGroup(reply)) => {
+            GroupCore::acquires(event, reply)
+        }
+        Deed::Entered(ObjectEvent::Sema(event), ObjectReply::Sema(reply)) => {
+            SemaCore::acquires(event, reply)
+        }
+        _ => false,
+    }
+}
+
+/// Whether the function of a once, a `OnceFunc` or a `OnceValue` ends, or a flight lands.
+pub(crate) fn ends_function(deed: &Deed) -> bool
+    ensures { result ≡ ends_function deed.now }
 {
     match deed {
         Deed::Entered(ObjectEvent::Once(event), ObjectReply::Once(reply)) => {
@@ -153,13 +161,16 @@ pub(crate) fn ends_once(deed: &Deed) -> bool
         Deed::Entered(ObjectEvent::OnceValue(event), ObjectReply::OnceValue(reply)) => {
             OnceCore::<u64>::releases(event, reply)
         }
+        Deed::Entered(ObjectEvent::Flight(event), ObjectReply::Flight(reply)) => {
+            FlightCore::releases(event, reply)
+        }
         _ => false,
     }
 }
 
-/// Whether a call returns of which another one ran the function.
-pub(crate) fn returns_from_once(deed: &Deed) -> bool
-    ensures { result ≡ returns_from_once deed.now }
+/// Whether a call returns of which another one ran the function, or leads a flight.
+pub(crate) fn knows_function(deed: &Deed) -> bool
+    ensures { result ≡ knows_function deed.now }
 {
     match deed {
         Deed::Entered(ObjectEvent::Once(event), ObjectReply::Once(reply)) => {
@@ -170,6 +181,9 @@ pub(crate) fn returns_from_once(deed: &Deed) -> bool
         }
         Deed::Entered(ObjectEvent::OnceValue(event), ObjectReply::OnceValue(reply)) => {
             OnceCore::<u64>::acquires(event, reply)
+        }
+        Deed::Entered(ObjectEvent::Flight(event), ObjectReply::Flight(reply)) => {
+            FlightCore::acquires(event, reply)
         }
         _ => false,
     }

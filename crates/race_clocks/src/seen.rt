@@ -9,9 +9,9 @@ use crate::by_place::ByPlace;
 use crate::channel::Channel;
 use crate::conds::enter_cond;
 use crate::deeds::{
-    cond_event, ends_once, enters_atomic, finds_atomic, is_kept, is_writers_call, leaves_cond,
-    locks_mutex, locks_rw_mutex, lowers_group, pool_event, returns_from_group, returns_from_once,
-    started_by, unlocks_as_reader, unlocks_as_writer, unlocks_mutex,
+    cond_event, ends_function, enters_atomic, finds_atomic, is_kept, is_writers_call,
+    knows_function, leaves_cond, locks_mutex, locks_rw_mutex, lowers_count, passes_count,
+    pool_event, started_by, unlocks_as_reader, unlocks_as_writer, unlocks_mutex,
 };
 use crate::maps::{enter_map, push_found, push_pairs};
 use crate::pools::{NumberedPool, enter_pool};
@@ -55,8 +55,8 @@ fn push_plain_gives(list: &mut Seq<Channel>, object: usize, deed: &Deed) -> Resu
     push_if(list, unlocks_mutex(deed), Channel::MutexUnlock(object))?;
     push_if(list, unlocks_as_writer(deed), Channel::WriterUnlock(object))?;
     push_if(list, unlocks_as_reader(deed), Channel::ReaderUnlock(object))?;
-    push_if(list, lowers_group(deed), Channel::Lowering(object))?;
-    push_if(list, ends_once(deed), Channel::FunctionEnd(object))?;
+    push_if(list, lowers_count(deed), Channel::Lowering(object))?;
+    push_if(list, ends_function(deed), Channel::FunctionEnd(object))?;
     push_if(list, enters_atomic(deed), Channel::Atomic(object))?;
     push_started(list, started_by(deed))
 }
@@ -86,8 +86,8 @@ fn push_plain_takes(
             worker: caller,
         },
     )?;
-    push_if(list, returns_from_group(deed), Channel::Lowering(object))?;
-    push_if(list, returns_from_once(deed), Channel::FunctionEnd(object))?;
+    push_if(list, passes_count(deed), Channel::Lowering(object))?;
+    push_if(list, knows_function(deed), Channel::FunctionEnd(object))?;
     push_if(list, finds_atomic(deed), Channel::Atomic(object))
 }
 

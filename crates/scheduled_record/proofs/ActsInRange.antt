@@ -86,6 +86,8 @@ module _ (plan : Plan) (numbers : Numbers plan) where
   event_on place caller (events.Once event) answer within on = (place_there place on, tt)
   event_on place caller (events.OnceFunc event) answer within on = (place_there place on, tt)
   event_on place caller (events.OnceValue event) answer within on = (place_there place on, tt)
+  event_on place caller (events.Sema event) answer within on = (place_there place on, tt)
+  event_on place caller (events.Flight event) answer within on = (place_there place on, tt)
 
   shared_on : (calls : List (SharedCall × SharedReply)) → AreOn (map (made_shared plan) calls)
   shared_on [] = tt

@@ -129,6 +129,8 @@ module _ (plan : Plan) where
   event_none place caller (events.Once event) answer = refl
   event_none place caller (events.OnceFunc event) answer = refl
   event_none place caller (events.OnceValue event) answer = refl
+  event_none place caller (events.Sema event) answer = refl
+  event_none place caller (events.Flight event) answer = refl
 
   steps_are : (m begin : ℕ) (shown : List (ℕ × ℕ)) (k : ℕ) (call : SharedCall)
       → slice_get (asks (map (made_shared plan) (map (step_showing (keys_in plan.scripts) m begin) shown ++ (calls.Next begin, answers.Shown None) ∷ []))) k ≡ Some call → call ≡ calls.Next begin

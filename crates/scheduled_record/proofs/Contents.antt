@@ -172,6 +172,8 @@ module _ (plan : Plan) where
   still place (states.OnceFunc m code) made contents next maps numbers line holds = holds
   still place (states.OnceValue m value) made contents next maps numbers line holds = holds
   still place (states.Pool m) made contents next maps numbers line holds = holds
+  still place (states.Sema m size) made contents next maps numbers line holds = holds
+  still place (states.Flight m keys other delta) made contents next maps numbers line holds = holds
 
   module _ (laws : ContentLaws plan) (ends : List ObjectState) (lines : (place : ℕ) (o : ObjectState) → slice_get ends place ≡ Some o → HasLine place o) where
     abbrev pub Goes : List Item → Contents → List Act → Type 0
@@ -200,6 +202,8 @@ module _ (plan : Plan) where
     event_entries place caller (events.Once event) answer = (tt, tt)
     event_entries place caller (events.OnceFunc event) answer = (tt, tt)
     event_entries place caller (events.OnceValue event) answer = (tt, tt)
+    event_entries place caller (events.Sema event) answer = (tt, tt)
+    event_entries place caller (events.Flight event) answer = (tt, tt)
 
     module _ (place caller : ℕ) (items : List Item) (contents : Contents) where
       abbrev item_of : Deed → Item
@@ -227,6 +231,8 @@ module _ (plan : Plan) where
         dropped q (states.OnceFunc m code) made true holds = holds.1
         dropped q (states.OnceValue m value) made true holds = holds.1
         dropped q (states.Pool m) made true holds = holds.1
+        dropped q (states.Sema m size) made true holds = holds.1
+        dropped q (states.Flight m keys other delta) made true holds = holds.1
 
         event_goes : Holds ends (entered ∷ items) contents → Goes items contents (acts_by caller (recorded_event plan place caller event answer))
         event_goes holds = let leave = entries_leave caller (recorded_event plan place caller event answer) contents (event_entries place caller event answer) in (
@@ -381,6 +387,8 @@ module _ (plan : Plan) where
         by_object (states.OnceFunc m code) is here before = absurd here.0
         by_object (states.OnceValue m value) is here before = absurd here.0
         by_object (states.Pool m) is here before = absurd here.0
+        by_object (states.Sema m size) is here before = absurd here.0
+        by_object (states.Flight m keys other delta) is here before = absurd here.0
 
     -- ---- an item
 

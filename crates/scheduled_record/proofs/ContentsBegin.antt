@@ -114,31 +114,35 @@ some_there (x ∷ xs) zero within = (x, refl)
 some_there (x ∷ xs) (suc i) within = some_there xs i (omega (arith, within))
 
 module _ (plan : Plan) (begins : (m : ByKey) (n : FinMap nat_cmp ℕ) → m ≡ empty → n ≡ empty → IsRenamed (key_number (keys_in plan.scripts)) (is_key plan) m n) where
-  holds_from : (place : ℕ) (line : ObjectLine) (room : ℕ) (made : List Item) → slice_get plan.objects place ≡ Some line → (kind : ObjectKind) (o : ObjectState) → line.kind ≡ kind
-      → LeadsTo (new_object plan.workers room kind) made o → HoldsAt plan place o made (contents_of plan)
-  holds_from place line room made at kinds.Map (states.Map last) is leads = (empty, begins empty _ refl (none_there (count_by (λ object. is_map object.kind) plan.objects) (map_number plan.objects place)), leads)
-  holds_from place line room made at kinds.Map o is leads = absurd leads
-  holds_from place line room made at (kinds.Atomic type) (states.Atomic last) is leads =
+  holds_from : (place : ℕ) (line : ObjectLine) (room : ℕ) (keys : List (List ℕ)) (made : List Item) → slice_get plan.objects place ≡ Some line → (kind : ObjectKind) (o : ObjectState) → line.kind ≡ kind
+      → LeadsTo (new_object plan.workers room keys kind) made o → HoldsAt plan place o made (contents_of plan)
+  holds_from place line room keys made at kinds.Map (states.Map last) is leads = (empty, begins empty _ refl (none_there (count_by (λ object. is_map object.kind) plan.objects) (map_number plan.objects place)), leads)
+  holds_from place line room keys made at kinds.Map o is leads = absurd leads
+  holds_from place line room keys made at (kinds.Atomic type) (states.Atomic last) is leads =
       subst (λ (n : Number). CallsTo AtomicGoes n made last) (sym (number_of (flat_map (λ o. types_of o.kind) plan.objects) (atomic_number plan.objects place) type (type_at plan.objects place line type at is))) leads
-  holds_from place line room made at (kinds.Atomic type) o is leads = absurd leads
-  holds_from place line room made at kinds.Mutex (states.Mutex m) is leads = by_log events.Mutex answered.Mutex made leads.0 leads.1
-  holds_from place line room made at kinds.Mutex o is leads = absurd leads
-  holds_from place line room made at kinds.RwMutex (states.RwMutex m) is leads = by_log events.RwMutex answered.RwMutex made leads.0 leads.1
-  holds_from place line room made at kinds.RwMutex o is leads = absurd leads
-  holds_from place line room made at (kinds.Cond other) (states.Cond m another) is leads = by_log events.Cond answered.Cond made leads.0 leads.1
-  holds_from place line room made at (kinds.Cond other) o is leads = absurd leads
-  holds_from place line room made at (kinds.WaitGroup first) (states.WaitGroup m other) is leads = by_log events.WaitGroup answered.WaitGroup made leads.0 leads.1
-  holds_from place line room made at (kinds.WaitGroup first) o is leads = absurd leads
-  holds_from place line room made at (kinds.Once other delta) (states.Once m another amount) is leads = by_log events.Once answered.Once made leads.0 leads.1
-  holds_from place line room made at (kinds.Once other delta) o is leads = absurd leads
-  holds_from place line room made at (kinds.OnceFunc code) (states.OnceFunc m other) is leads = by_log events.OnceFunc answered.OnceFunc made leads.0 leads.1
-  holds_from place line room made at (kinds.OnceFunc code) o is leads = absurd leads
-  holds_from place line room made at (kinds.OnceValue value) (states.OnceValue m other) is leads = by_log events.OnceValue answered.OnceValue made leads.0 leads.1
-  holds_from place line room made at (kinds.OnceValue value) o is leads = absurd leads
-  holds_from place line room made at kinds.Pool (states.Pool m) is leads = by_log events.Pool answered.Pool made leads.0 leads.1
-  holds_from place line room made at kinds.Pool o is leads = absurd leads
-  holds_from place line room made at kinds.Var (states.Var last) is leads = (0, leads)
-  holds_from place line room made at kinds.Var o is leads = absurd leads
+  holds_from place line room keys made at (kinds.Atomic type) o is leads = absurd leads
+  holds_from place line room keys made at kinds.Mutex (states.Mutex m) is leads = by_log events.Mutex answered.Mutex made leads.0 leads.1
+  holds_from place line room keys made at kinds.Mutex o is leads = absurd leads
+  holds_from place line room keys made at kinds.RwMutex (states.RwMutex m) is leads = by_log events.RwMutex answered.RwMutex made leads.0 leads.1
+  holds_from place line room keys made at kinds.RwMutex o is leads = absurd leads
+  holds_from place line room keys made at (kinds.Cond other) (states.Cond m another) is leads = by_log events.Cond answered.Cond made leads.0 leads.1
+  holds_from place line room keys made at (kinds.Cond other) o is leads = absurd leads
+  holds_from place line room keys made at (kinds.WaitGroup first) (states.WaitGroup m other) is leads = by_log events.WaitGroup answered.WaitGroup made leads.0 leads.1
+  holds_from place line room keys made at (kinds.WaitGroup first) o is leads = absurd leads
+  holds_from place line room keys made at (kinds.Once other delta) (states.Once m another amount) is leads = by_log events.Once answered.Once made leads.0 leads.1
+  holds_from place line room keys made at (kinds.Once other delta) o is leads = absurd leads
+  holds_from place line room keys made at (kinds.OnceFunc code) (states.OnceFunc m other) is leads = by_log events.OnceFunc answered.OnceFunc made leads.0 leads.1
+  holds_from place line room keys made at (kinds.OnceFunc code) o is leads = absurd leads
+  holds_from place line room keys made at (kinds.OnceValue value) (states.OnceValue m other) is leads = by_log events.OnceValue answered.OnceValue made leads.0 leads.1
+  holds_from place line room keys made at (kinds.OnceValue value) o is leads = absurd leads
+  holds_from place line room keys made at kinds.Pool (states.Pool m) is leads = by_log events.Pool answered.Pool made leads.0 leads.1
+  holds_from place line room keys made at kinds.Pool o is leads = absurd leads
+  holds_from place line room keys made at (kinds.Sema size) (states.Sema m other) is leads = by_log events.Sema answered.Sema made leads.0 leads.1
+  holds_from place line room keys made at (kinds.Sema size) o is leads = absurd leads
+  holds_from place line room keys made at (kinds.Flight other delta) (states.Flight m names another amount) is leads = by_log events.Flight answered.Flight made leads.0 leads.1
+  holds_from place line room keys made at (kinds.Flight other delta) o is leads = absurd leads
+  holds_from place line room keys made at kinds.Var (states.Var last) is leads = (0, leads)
+  holds_from place line room keys made at kinds.Var o is leads = absurd leads
 
   module _ (laws : ContentLaws plan) (objects : List ObjectState) (same : map kind_of objects ≡ map (λ object. object.kind) plan.objects) where
     pub record LineAt (place : ℕ) (o : ObjectState) : Type 0 where
@@ -167,6 +171,8 @@ module _ (plan : Plan) (begins : (m : ByKey) (n : FinMap nat_cmp ℕ) → m ≡ 
     has_line place (states.OnceFunc m code) it = tt
     has_line place (states.OnceValue m value) it = tt
     has_line place (states.Pool m) it = tt
+    has_line place (states.Sema m size) it = tt
+    has_line place (states.Flight m keys other delta) it = tt
 
     pub there : (place : ℕ) → place < length plan.objects → (o : ObjectState) × (slice_get objects place ≡ Some o)
     there place within = some_there objects place (subst (λ (n : ℕ). place < n) (sym long) within) where
@@ -180,7 +186,7 @@ module _ (plan : Plan) (begins : (m : ByKey) (n : FinMap nat_cmp ℕ) → m ≡ 
     begin items leads = record {
       maps = length-replicate (count_by (λ object. is_map object.kind) plan.objects) empty;
       numbers = length-map (flat_map (λ o. types_of o.kind) plan.objects) zero_of ∙ types_count plan.objects;
-      at = λ place o at. let it = line_at place o at in holds_from place it.line (puts_at place plan.scripts) (on_object place items) it.at it.line.kind o refl (leads place it.line o it.at at);
+      at = λ place o at. let it = line_at place o at in holds_from place it.line (puts_at place plan.scripts) (keys_in plan.scripts) (on_object place items) it.at it.line.kind o refl (leads place it.line o it.at at);
     }
 
     pub run_holds : (items : List Item) → AreItemsOf plan items → LeadTo plan items objects → AreAnswered (contents_of plan) (acts_of plan items) × Holds plan objects [] (behind_all (contents_of plan) (acts_of plan items))

@@ -135,6 +135,8 @@ module _ (plan : Plan) where
   held place caller pairs made contents (states.OnceFunc m code) here = absurd here.0
   held place caller pairs made contents (states.OnceValue m value) here = absurd here.0
   held place caller pairs made contents (states.Pool m) here = absurd here.0
+  held place caller pairs made contents (states.Sema m size) here = absurd here.0
+  held place caller pairs made contents (states.Flight m keys other delta) here = absurd here.0
 
   -- ---- an item
 

@@ -75,6 +75,8 @@ module _ (plan : Plan) (P : Made → Type 0) (such : IsSuch plan P) where
   event_such place caller (events.Once event) answer = (place_such place caller (events.Once event) answer, tt)
   event_such place caller (events.OnceFunc event) answer = (place_such place caller (events.OnceFunc event) answer, tt)
   event_such place caller (events.OnceValue event) answer = (place_such place caller (events.OnceValue event) answer, tt)
+  event_such place caller (events.Sema event) answer = (place_such place caller (events.Sema event) answer, tt)
+  event_such place caller (events.Flight event) answer = (place_such place caller (events.Flight event) answer, tt)
 
   calls_such : (calls : List (SharedCall × SharedReply)) → MadeSuch (map (made_shared plan) calls)
   calls_such [] = tt

@@ -22,6 +22,12 @@ use Rattle.rw_core.specs.RwMachine as rw
 use Rattle.wait_cores.specs.GroupMachine as group
 use Rattle.wait_cores.specs.NotifyMachine as notify
 use Rattle.wait_cores.specs.OnceMachine as once
+use Rattle.sema_core.specs.SemaMachine as sema
+use Rattle.sema_core.specs.SemaStages.{sema_event}
+use Rattle.flight_core.specs.FlightMachine as flight
+use Rattle.flight_core.specs.FlightStages.{flight_event}
+use Rattle.flight_core.specs.declared.calls.FlightOutcome.{FlightOutcome}
+use Rattle.flight_core.specs.declared.calls.FlightOutcome.TheVariants.{Landed}
 use Rattle.protocols.specs.CondStages.{cond_event}
 use Rattle.protocols.specs.GroupStages.{group_event}
 use Rattle.protocols.specs.MutexStages.{mutex_event}
@@ -32,6 +38,7 @@ use Rattle.protocols.specs.declared.once.OnceOutcome.{OnceOutcome}
 use Rattle.protocols.specs.declared.once.OnceOutcome.TheVariants.{Ended}
 use Rattle.protocols.specs.declared.pool.PoolStage.{PoolStage}
 use Rattle.run_record.specs.PoolKind.{stage_of}
+use Rattle.workload.specs.Keys.{key_number}
 use Rattle.workload.specs.Plan.{Plan, has_dormant, reference_of}
 use Rattle.run_record.specs.declared.entered.ObjectEvent.{ObjectEvent}
 use Rattle.run_record.specs.declared.entered.ObjectEvent.TheVariants as events
@@ -43,10 +50,10 @@ use Rattle.step_runner.specs.declared.turns.item.Item.{Item}
 use Rattle.step_runner.specs.declared.turns.object_state.ObjectState.{ObjectState}
 use Rattle.step_runner.specs.declared.turns.object_state.ObjectState.TheVariants as states
 use Rattle.step_runner.specs.Due.{looks_of, cond_due}
-use Rattle.step_runner.specs.Items.{stage_items, once_items, unless_found, look_items, pool_items, placed_at, items_on, add_items, sum_items, items_on_both, items_by, items_at}
+use Rattle.step_runner.specs.Items.{stage_items, once_items, unless_found, look_items, pool_items, placed_at, items_on, add_items, sum_items, landed_items, flight_items, fly_items, items_on_both, items_by, items_at}
 use Rattle.step_runner.specs.Objects.{kind_of}
 use Rattle.step_runner.specs.PoolTurn.{looked}
-use Rattle.step_runner.specs.TurnAtObjects.{with_both, turn_on, turn_on_both, turn_by, turn_at, once_made}
+use Rattle.step_runner.specs.TurnAtObjects.{with_both, turn_on, turn_on_both, turn_by, turn_at, once_made, flight_made}
 use Rattle.step_runner.specs.TurnWithin.{wait_on, load_of, add_one, is_met, unless_last_items, unless_met_items, look_items as looks_at, behind_wait_items, wait_for_items, start_item, start_items, items_by_operation, items_within}
 use Rattle.scheduled_record.specs.ItemsOf.{NamesPart, HasPool, IsEventOn, has_key, AreItemsOf}
 
@@ -121,6 +128,7 @@ module _ (plan : Plan) (worker moment : ℕ) (within : worker < plan.workers) wh
   on_in (operations.Mutex call) object (states.Mutex m) there fits goes = stage_in events.Mutex answered.Mutex mutex.next mutex_event object _ m (λ e. there)
   on_in (operations.RwMutex call) object (states.RwMutex m) there fits goes = stage_in events.RwMutex answered.RwMutex rw.next rw_event object _ m (λ e. there)
   on_in (operations.WaitGroup call) object (states.WaitGroup g first) there fits goes = stage_in events.WaitGroup answered.WaitGroup group.next group_event object _ g (λ e. there)
+  on_in (operations.Sema call) object (states.Sema s size) there fits goes = stage_in events.Sema answered.Sema sema.next sema_event object _ s (λ e. there)
   on_in operations.OnceFunc object (states.OnceFunc o code) there fits goes = stage_in events.OnceFunc answered.OnceFunc once.next once_event object _ o (λ e. there)
   on_in operations.OnceValue object (states.OnceValue o value) there fits goes = stage_in events.OnceValue answered.OnceValue once.next once_event object _ o (λ e. there)
   on_in (operations.Pool call) object (states.Pool p) there fits goes = pool_in object call p (fits p refl tt).0 (fits p refl tt).1
@@ -135,12 +143,21 @@ module _ (plan : Plan) (worker moment : ℕ) (within : worker < plan.workers) wh
   sums_in object other o delta number (numbers.Int64 sum) there here = both plan (add_items worker other delta number (once_made worker moment sum o).1) (once_items events.Once answered.Once worker moment object sum o) (adds_in other delta number (once_made worker moment sum o).1 here) (stage_in events.Once answered.Once once.next once_event object _ o (λ e. there))
   sums_in object other o delta number sum there here = tt
 
+  landed_in : (other : ℕ) (delta : ℤ) (number : Number) (made : Result FlightOutcome Answer) → other < length plan.objects → AreItemsOf plan (landed_items worker other delta number made)
+  landed_in other delta number (Ok (Landed shared)) here = placed_in other here (operations.Atomic (Add (numbers.Int64 delta))) refl _
+  landed_in other delta number made here = tt
+
+  fly_in : (key object other : ℕ) (f : flight.FlightState) (delta : ℤ) (number sum : Number) → object < length plan.objects → other < length plan.objects → AreItemsOf plan (fly_items key worker moment object other f delta number sum)
+  fly_in key object other f delta number (numbers.Int64 sum) there here = both plan (landed_items worker other delta number (flight_made worker moment key sum f).1) (flight_items worker moment object key sum f) (landed_in other delta number (flight_made worker moment key sum f).1 here) (stage_in events.Flight answered.Flight flight.next flight_event object _ f (λ e. there))
+  fly_in key object other f delta number sum there here = tt
+
   both_in : (operation : Operation) (object other : ℕ) (o target : ObjectState) → object < length plan.objects → other < length plan.objects → AreItemsOf plan (items_on_both operation worker moment object other o target)
   both_in (operations.Cond call) object other (states.Cond c place) (states.Mutex m) there here =
       let due = cond_due call (mutex.place_of m worker) (notify.place_of c worker) in
       both plan (stage_items events.Cond answered.Cond notify.next cond_event worker moment object due.0 c) (stage_items events.Mutex answered.Mutex mutex.next mutex_event worker moment other due.1 m)
       (stage_in events.Cond answered.Cond notify.next cond_event object due.0 c (λ e. there)) (stage_in events.Mutex answered.Mutex mutex.next mutex_event other due.1 m (λ e. here))
   both_in operations.Once object other (states.Once o place delta) (states.Atomic number) there here = sums_in object other o delta number _ there here
+  both_in (operations.Fly key) object other (states.Flight f keys place delta) (states.Atomic number) there here = fly_in (key_number keys key) object other f delta number _ there here
   both_in operation object other o target there here = tt
 
   module _ (objects : List ObjectState) (long : length objects ≡ length plan.objects) where

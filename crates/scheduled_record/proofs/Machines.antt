@@ -9,10 +9,14 @@ use Rattle.std.proofs.lemmas.Option.{none-some, same_Some, slice_get-map}
 use Rattle.sync_model.specs.Journal.{KeepsEdges}
 use Rattle.sync_model.specs.declared.journal.Deed.TheVariants.{Event}
 use Rattle.pool_core.specs.PoolMachine as pool
+use Rattle.flight_core.specs.FlightEdges as flight_edges
+use Rattle.flight_core.specs.FlightMachine as flight
 use Rattle.mutex_core.specs.MutexMachine as mutex
 use Rattle.mutex_core.specs.Edges as mutex_edges
 use Rattle.rw_core.specs.RwMachine as rw
 use Rattle.rw_core.specs.Edges as rw_edges
+use Rattle.sema_core.specs.SemaEdges as sema_edges
+use Rattle.sema_core.specs.SemaMachine as sema
 use Rattle.wait_cores.specs.GroupEdges as group_edges
 use Rattle.wait_cores.specs.GroupMachine as group
 use Rattle.wait_cores.specs.NotifyEdges as notify_edges
@@ -107,37 +111,43 @@ module _ (plan : Plan) (place : ℕ) (items : List Item) (journal : List ObjectE
   none_of : {S : Type 0} (first last : S) (made : flat_map by_told (map told_in (on_object place items)) ≡ []) → journal ≡ []
   none_of first last made = nothing journal (are ∙ (told_on place items ∙ made))
 
-  pub journal_by : (workers room : ℕ) → workers ≡ plan.workers → 1 ≤ workers → (kind : ObjectKind) → ((start : ℕ) → kind ≡ kinds.WaitGroup start → start ≤ 10000) → (o : ObjectState) → LeadsTo (new_object workers room kind) (on_object place items) o → IsJournalOf plan place kind journal
-  journal_by workers room count some kinds.Map few (states.Map n) leads = none_of n n (no_entries MapGoes _ n (on_object place items) leads)
-  journal_by workers room count some kinds.Map few o leads = absurd leads
-  journal_by workers room count some (kinds.Atomic type) few (states.Atomic n) leads = none_of n n (no_entries AtomicGoes _ n (on_object place items) leads)
-  journal_by workers room count some (kinds.Atomic type) few o leads = absurd leads
-  journal_by workers room count some kinds.Var few (states.Var n) leads = none_of n n (no_entries VarGoes _ n (on_object place items) leads)
-  journal_by workers room count some kinds.Var few o leads = absurd leads
-  journal_by workers room count some kinds.Pool few (states.Pool n) (log, same, follows, ends) = none_of n n (ap (flat_map by_told) same ∙ none_logged events.Pool answered.Pool pool.next (λ caller e r. refl) log)
-  journal_by workers room count some kinds.Pool few o leads = absurd leads
-  journal_by workers room count some kinds.Mutex few (states.Mutex n) leads = subst (λ (w : ℕ). FollowsFrom events.Mutex answered.Mutex mutex.next (λ event reply. mutex_edges.releases reply) (λ event reply. mutex_edges.acquires reply) (mutex.start w) journal) count
+  pub journal_by : (workers room : ℕ) (keys : List (List ℕ)) → workers ≡ plan.workers → 1 ≤ workers → (kind : ObjectKind) → ((start : ℕ) → kind ≡ kinds.WaitGroup start → start ≤ 10000) → (o : ObjectState) → LeadsTo (new_object workers room keys kind) (on_object place items) o → IsJournalOf plan place kind journal
+  journal_by workers room keys count some kinds.Map few (states.Map n) leads = none_of n n (no_entries MapGoes _ n (on_object place items) leads)
+  journal_by workers room keys count some kinds.Map few o leads = absurd leads
+  journal_by workers room keys count some (kinds.Atomic type) few (states.Atomic n) leads = none_of n n (no_entries AtomicGoes _ n (on_object place items) leads)
+  journal_by workers room keys count some (kinds.Atomic type) few o leads = absurd leads
+  journal_by workers room keys count some kinds.Var few (states.Var n) leads = none_of n n (no_entries VarGoes _ n (on_object place items) leads)
+  journal_by workers room keys count some kinds.Var few o leads = absurd leads
+  journal_by workers room keys count some kinds.Pool few (states.Pool n) (log, same, follows, ends) = none_of n n (ap (flat_map by_told) same ∙ none_logged events.Pool answered.Pool pool.next (λ caller e r. refl) log)
+  journal_by workers room keys count some kinds.Pool few o leads = absurd leads
+  journal_by workers room keys count some kinds.Mutex few (states.Mutex n) leads = subst (λ (w : ℕ). FollowsFrom events.Mutex answered.Mutex mutex.next (λ event reply. mutex_edges.releases reply) (λ event reply. mutex_edges.acquires reply) (mutex.start w) journal) count
       (by_log events.Mutex answered.Mutex mutex.next (λ event reply. mutex_edges.releases reply) (λ event reply. mutex_edges.acquires reply) (λ caller e r. refl) (λ e r. refl) (λ e r. refl) (mutex.start workers) n leads)
-  journal_by workers room count some kinds.Mutex few o leads = absurd leads
-  journal_by workers room count some kinds.RwMutex few (states.RwMutex n) leads = subst (λ (w : ℕ). FollowsFrom events.RwMutex answered.RwMutex rw.next (λ event reply. rw_edges.releases reply) (λ event reply. rw_edges.acquires reply) (rw.start w) journal) count
+  journal_by workers room keys count some kinds.Mutex few o leads = absurd leads
+  journal_by workers room keys count some kinds.RwMutex few (states.RwMutex n) leads = subst (λ (w : ℕ). FollowsFrom events.RwMutex answered.RwMutex rw.next (λ event reply. rw_edges.releases reply) (λ event reply. rw_edges.acquires reply) (rw.start w) journal) count
       (by_log events.RwMutex answered.RwMutex rw.next (λ event reply. rw_edges.releases reply) (λ event reply. rw_edges.acquires reply) (λ caller e r. refl) (λ e r. refl) (λ e r. refl) (rw.start workers) n leads)
-  journal_by workers room count some kinds.RwMutex few o leads = absurd leads
-  journal_by workers room count some (kinds.Cond mutex) few (states.Cond n other) leads = subst (λ (w : ℕ). FollowsFrom events.Cond answered.Cond notify.next notify_edges.notify_releases notify_edges.notify_acquires (notify.start w) journal) count
+  journal_by workers room keys count some kinds.RwMutex few o leads = absurd leads
+  journal_by workers room keys count some (kinds.Cond mutex) few (states.Cond n other) leads = subst (λ (w : ℕ). FollowsFrom events.Cond answered.Cond notify.next notify_edges.notify_releases notify_edges.notify_acquires (notify.start w) journal) count
       (by_log events.Cond answered.Cond notify.next notify_edges.notify_releases notify_edges.notify_acquires (λ caller e r. refl) (λ e r. refl) (λ e r. refl) (notify.start workers) n leads)
-  journal_by workers room count some (kinds.Cond mutex) few o leads = absurd leads
-  journal_by workers room count some (kinds.WaitGroup start) few (states.WaitGroup n other) leads =
+  journal_by workers room keys count some (kinds.Cond mutex) few o leads = absurd leads
+  journal_by workers room keys count some (kinds.WaitGroup start) few (states.WaitGroup n other) leads =
       subst (λ (g : group.GroupState). FollowsFrom events.WaitGroup answered.WaitGroup group.next group_edges.group_releases group_edges.group_acquires g journal) (group_begins workers start (few start refl) some ∙ ap (λ (w : ℕ). group_start w start) count)
       (by_log events.WaitGroup answered.WaitGroup group.next group_edges.group_releases group_edges.group_acquires (λ caller e r. refl) (λ e r. refl) (λ e r. refl) (group.next (group.start workers) 0 (Add (pos start))).0 n leads)
-  journal_by workers room count some (kinds.WaitGroup start) few o leads = absurd leads
-  journal_by workers room count some (kinds.Once atomic delta) few (states.Once n other amount) leads = subst (λ (w : ℕ). FollowsFrom events.Once answered.Once once.next once_edges.once_releases once_edges.once_acquires (once.start w) journal) count
+  journal_by workers room keys count some (kinds.WaitGroup start) few o leads = absurd leads
+  journal_by workers room keys count some (kinds.Once atomic delta) few (states.Once n other amount) leads = subst (λ (w : ℕ). FollowsFrom events.Once answered.Once once.next once_edges.once_releases once_edges.once_acquires (once.start w) journal) count
       (by_log events.Once answered.Once once.next once_edges.once_releases once_edges.once_acquires (λ caller e r. refl) (λ e r. refl) (λ e r. refl) (once.start workers) n leads)
-  journal_by workers room count some (kinds.Once atomic delta) few o leads = absurd leads
-  journal_by workers room count some (kinds.OnceFunc code) few (states.OnceFunc n other) leads = subst (λ (w : ℕ). FollowsFrom events.OnceFunc answered.OnceFunc once.next once_edges.once_releases once_edges.once_acquires (once.start w) journal) count
+  journal_by workers room keys count some (kinds.Once atomic delta) few o leads = absurd leads
+  journal_by workers room keys count some (kinds.OnceFunc code) few (states.OnceFunc n other) leads = subst (λ (w : ℕ). FollowsFrom events.OnceFunc answered.OnceFunc once.next once_edges.once_releases once_edges.once_acquires (once.start w) journal) count
       (by_log events.OnceFunc answered.OnceFunc once.next once_edges.once_releases once_edges.once_acquires (λ caller e r. refl) (λ e r. refl) (λ e r. refl) (once.start workers) n leads)
-  journal_by workers room count some (kinds.OnceFunc code) few o leads = absurd leads
-  journal_by workers room count some (kinds.OnceValue value) few (states.OnceValue n other) leads = subst (λ (w : ℕ). FollowsFrom events.OnceValue answered.OnceValue once.next once_edges.once_releases once_edges.once_acquires (once.start w) journal) count
+  journal_by workers room keys count some (kinds.OnceFunc code) few o leads = absurd leads
+  journal_by workers room keys count some (kinds.OnceValue value) few (states.OnceValue n other) leads = subst (λ (w : ℕ). FollowsFrom events.OnceValue answered.OnceValue once.next once_edges.once_releases once_edges.once_acquires (once.start w) journal) count
       (by_log events.OnceValue answered.OnceValue once.next once_edges.once_releases once_edges.once_acquires (λ caller e r. refl) (λ e r. refl) (λ e r. refl) (once.start workers) n leads)
-  journal_by workers room count some (kinds.OnceValue value) few o leads = absurd leads
+  journal_by workers room keys count some (kinds.OnceValue value) few o leads = absurd leads
+  journal_by workers room keys count some (kinds.Sema size) few (states.Sema n other) leads = subst (λ (w : ℕ). FollowsFrom events.Sema answered.Sema sema.next sema_edges.sema_releases sema_edges.sema_acquires (sema.start w size) journal) count
+      (by_log events.Sema answered.Sema sema.next sema_edges.sema_releases sema_edges.sema_acquires (λ caller e r. refl) (λ e r. refl) (λ e r. refl) (sema.start workers size) n leads)
+  journal_by workers room keys count some (kinds.Sema size) few o leads = absurd leads
+  journal_by workers room keys count some (kinds.Flight atomic delta) few (states.Flight n names other amount) leads = subst (λ (w : ℕ). FollowsFrom events.Flight answered.Flight flight.next flight_edges.flight_releases flight_edges.flight_acquires (flight.start w) journal) count
+      (by_log events.Flight answered.Flight flight.next flight_edges.flight_releases flight_edges.flight_acquires (λ caller e r. refl) (λ e r. refl) (λ e r. refl) (flight.start workers) n leads)
+  journal_by workers room keys count some (kinds.Flight atomic delta) few o leads = absurd leads
 
 -- the object that is at a place at the end of a run
 pub object_there : {A B K : Type 0} (kind : A → K) (line_kind : B → K) (objects : List A) (lines : List B) (place : ℕ) (line : B) → map kind objects ≡ map line_kind lines → slice_get lines place ≡ Some line → (o : A) × (slice_get objects place ≡ Some o)

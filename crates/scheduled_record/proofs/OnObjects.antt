@@ -99,6 +99,8 @@ module _ (plan : Plan) (place : ℕ) (there : place < length plan.objects) where
   of_event caller other (events.Once event) answer = here_or_not caller other (events.Once event) answer
   of_event caller other (events.OnceFunc event) answer = here_or_not caller other (events.OnceFunc event) answer
   of_event caller other (events.OnceValue event) answer = here_or_not caller other (events.OnceValue event) answer
+  of_event caller other (events.Sema event) answer = here_or_not caller other (events.Sema event) answer
+  of_event caller other (events.Flight event) answer = here_or_not caller other (events.Flight event) answer
 
   of_calls : (caller : ℕ) (calls : List (SharedCall × SharedReply)) → on caller (map (made_shared plan) calls) ≡ []
   of_calls caller [] = refl

@@ -138,6 +138,8 @@ module _ (plan : Plan) (place part : ℕ) (pool : HasPool plan place) (within : 
   of_event caller other (events.Once event) answer is there = elsewhere caller (object_number other) (events.Once event) answer (object_apart other there) ∙ none_at (other == place)
   of_event caller other (events.OnceFunc event) answer is there = elsewhere caller (object_number other) (events.OnceFunc event) answer (object_apart other there) ∙ none_at (other == place)
   of_event caller other (events.OnceValue event) answer is there = elsewhere caller (object_number other) (events.OnceValue event) answer (object_apart other there) ∙ none_at (other == place)
+  of_event caller other (events.Sema event) answer is there = elsewhere caller (object_number other) (events.Sema event) answer (object_apart other there) ∙ none_at (other == place)
+  of_event caller other (events.Flight event) answer is there = elsewhere caller (object_number other) (events.Flight event) answer (object_apart other there) ∙ none_at (other == place)
 
   of_calls : (caller : ℕ) (calls : List (SharedCall × SharedReply)) → on caller (map (made_shared plan) calls) ≡ []
   of_calls caller [] = refl

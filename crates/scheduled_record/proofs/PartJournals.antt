@@ -39,10 +39,10 @@ callers_on plan place (item ∷ items) all = chosen (item.object == place) (call
 
 module _ (laws : PartLaws) (plan : Plan) (place part room : ℕ) (within : part < plan.workers) (items : List Item) (all : AreItemsOf plan items) (journal : List ObjectEntry)
     (are : map told journal ≡ flat_map (part_told place part) items) (keeps : KeepsEdges frees takes journal) where
-  pub part_journal : (o : ObjectState) → LeadsTo (new_object plan.workers room kinds.Pool) (on_object place items) o → IsPartJournal room journal
-  part_journal (states.Pool n) (log, same, follows, ends) =
+  pub part_journal : (keys : List (List ℕ)) (o : ObjectState) → LeadsTo (new_object plan.workers room keys kinds.Pool) (on_object place items) o → IsPartJournal room journal
+  part_journal keys (states.Pool n) (log, same, follows, ends) =
       follows_from events.Pool answered.Pool part_next pool_releases pool_acquires (λ e r. refl) (λ e r. refl) (part_start room) journal (part_log part log)
       (are ∙ (told_on_part place part items ∙ (ap (flat_map (by_part part)) same ∙ from_part_log part log)))
       (part_follows laws part plan.workers (pool.start plan.workers room) (part_start room) log (length-replicate plan.workers (empty room), length-replicate plan.workers (empty room))
       (log_callers plan.workers (on_object place items) log same (callers_on plan place items all)) (there plan.workers part (empty room) within, there plan.workers part (empty room) within) follows) keeps
-  part_journal o leads = absurd leads
+  part_journal keys o leads = absurd leads

@@ -94,6 +94,8 @@ module _ (plan : Plan) (parts : (place part : ℕ) → HasPool plan place → pa
   of_event caller other (events.Once event) answer within at = of_place caller other (events.Once event) answer at
   of_event caller other (events.OnceFunc event) answer within at = of_place caller other (events.OnceFunc event) answer at
   of_event caller other (events.OnceValue event) answer within at = of_place caller other (events.OnceValue event) answer at
+  of_event caller other (events.Sema event) answer within at = of_place caller other (events.Sema event) answer at
+  of_event caller other (events.Flight event) answer within at = of_place caller other (events.Flight event) answer at
 
   of_calls : (caller : ℕ) (calls : List (SharedCall × SharedReply)) → on caller (map (made_shared plan) calls) ≡ []
   of_calls caller [] = refl

@@ -74,6 +74,7 @@ one_done w moment object objects reply is = chosen (slice_get objects object) is
   chosen (Some (states.WaitGroup g start)) is = (_, _, refl)
   chosen (Some (states.Cond c other)) is = absurd (beside (states.Cond c other) (slice_get objects other) other is)
   chosen (Some (states.Once o other delta)) is = absurd (beside (states.Once o other delta) (slice_get objects other) other is)
+  chosen (Some (states.Flight f keys other delta)) is = absurd (beside (states.Flight f keys other delta) (slice_get objects other) other is)
   chosen (Some o) is = still_not reply is
 
 pub done_made : (plan : Plan) (w object : ℕ) (made : List Item) (acts : List Act) → IsOneOn w object made → is_nothing (made_by w (fold (with_item plan) acts made)) ≡ false

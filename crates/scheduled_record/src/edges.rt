@@ -2,10 +2,12 @@
 ghost use Rattle.std.specs.Prelude.{◌≡◌};
 ghost use Rattle.run_record.specs.Edges.{frees, takes};
 
+use flight_core::FlightCore;
 use mutex_core::MutexCore;
 use pool_core::PartCore;
 use run_record::{ObjectEvent, ObjectReply};
 use rw_core::RwCore;
+use sema_core::SemaCore;
 use starts_core::StartsCore;
 use sync_model::Machine;
 use wait_cores::{GroupCore, NotifyCore, OnceCore};
@@ -33,6 +35,10 @@ pub(crate) fn frees(event: &ObjectEvent, reply: &ObjectReply) -> bool
             event, reply,
         ),
         (ObjectEvent::Pool(event), ObjectReply::Pool(reply)) => PartCore::releases(event, reply),
+        (ObjectEvent::Sema(event), ObjectReply::Sema(reply)) => SemaCore::releases(event, reply),
+        (ObjectEvent::Flight(event), ObjectReply::Flight(reply)) => FlightCore::releases(
+            event, reply,
+        ),
         (ObjectEvent::Starts(event), ObjectReply::Starts(reply)) => StartsCore::releases(
             event, reply,
         ),
@@ -63,6 +69,10 @@ pub(crate) fn takes(event: &ObjectEvent, reply: &ObjectReply) -> bool
             event, reply,
         ),
         (ObjectEvent::Pool(event), ObjectReply::Pool(reply)) => PartCore::acquires(event, reply),
+        (ObjectEvent::Sema(event), ObjectReply::Sema(reply)) => SemaCore::acquires(event, reply),
+        (ObjectEvent::Flight(event), ObjectReply::Flight(reply)) => FlightCore::acquires(
+            event, reply,
+        ),
         (ObjectEvent::Starts(event), ObjectReply::Starts(reply)) => StartsCore::acquires(
             event, reply,
         ),

@@ -2,7 +2,6 @@
 ghost use Rattle.std.specs.Prelude.{◌≡◌, ◌≤◌, ◌++◌, true, false, drop, length, vec_capacity, IfOk, None};
 ghost use Rattle.std.specs.List.{list_all};
 ghost use Rattle.script_calls.specs.Outcome.{shows_to};
-ghost use Rattle.workload.specs.Dialect.{has_variables};
 ghost use Rattle.workload.specs.Lines.{lines_of};
 ghost use Rattle.workload.specs.declared.limits.TheConstants.{MAX_KEYS};
 ghost use Rattle.run_report.specs.ReportText.{report_text};
@@ -99,7 +98,6 @@ fn written(
     items: &[ItemLine],
     outcome: &Outcome,
 ) -> Result<Option<Vec<u8>>, AllocError>
-    requires plain { has_variables workload.now ≡ false }
     requires few { have_few_numbers items.now ≡ true }
     requires pairs { shows_to MAX_KEYS outcome.now ≡ true }
     ensures { IfOk result (IsWritten workload.now items.now (report_text workload.now outcome.now)) }
@@ -125,7 +123,6 @@ fn text_of(
     outcome: &Outcome,
     trace: &Trace,
 ) -> Result<Option<Vec<u8>>, AllocError>
-    requires plain { has_variables workload.now ≡ false }
     requires trace { trace.now ≡ trace_of workload.now }
     requires pairs { shows_to MAX_KEYS outcome.now ≡ true }
     ensures written { IfOk result (IsWritten workload.now (told_items workload.now) (report_text workload.now outcome.now)) }
@@ -142,7 +139,6 @@ fn text_of(
 /// A run that is done gives the text of its record, unless that passes a limit: the workload in its canonical form, the items in
 /// the order of the turns, `outcome done`, and the report. Each of the other ways to end gives no text. Only want of memory is an `Err`.
 pub fn recorded(alloc: Global, workload: &Workload) -> Result<Recorded, AllocError>
-    requires { has_variables workload.now ≡ false }
     ensures { IfOk result (IsRecorded workload.now) }
 {
     each_run_has_one_outcome();

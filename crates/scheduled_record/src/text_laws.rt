@@ -2,7 +2,7 @@
 ghost use Rattle.std.specs.Prelude.{◌≡◌, ◌==◌, ℕ, Bool, true, false, length, Some, slice_get};
 ghost use Rattle.std.specs.List.{list_all};
 ghost use Rattle.script_calls.specs.declared.outcome.Report.{Report};
-ghost use Rattle.workload.specs.Dialect.{has_variables};
+ghost use Rattle.workload.specs.Dialect.{has_unrecorded, has_variables};
 ghost use Rattle.workload.specs.Plan.{Plan, is_valid};
 ghost use Rattle.workload.specs.Readable.{IsReadable};
 ghost use Rattle.record_text.specs.declared.item_line.ItemLine.{ItemLine};
@@ -20,6 +20,7 @@ use crate::recorded_run::Recorded;
 use kept_record::laws::{a_front_has_a_number_for_each_worker, a_record_has_what_was_made};
 use record_text::laws::{a_written_text_tells_what_was_written, each_item_of_a_record_has_a_line};
 use step_runner::laws::each_run_has_one_outcome;
+use workload::laws::records_tell_of_all_but_variables_semaphores_and_flights;
 
 /// Each item that is told of a run by schedule has a front with a number for each worker.
 pub fn an_item_of_a_run_has_a_number_for_each_worker()
@@ -53,10 +54,11 @@ pub fn the_items_of_a_run_are_in_range()
 }
 
 /// The text of the record of a run that is done tells the run: it is read back as the workload, the items, an outcome that is done, and the
-/// lines of the report.
+/// lines of the report. It is a plain text, which has no variables, no semaphores and no flights.
 pub fn the_text_of_a_run_tells_its_record()
-    ensures { (plan : Plan) (left : Report) → IsReadable plan → has_variables plan ≡ false → IsDoneWithin plan true left → IsTold (done_text plan left) (told_done plan left) }
+    ensures { (plan : Plan) (left : Report) → IsReadable plan → has_unrecorded plan ≡ false → IsDoneWithin plan true left → IsTold (done_text plan left) (told_done plan left) }
 {
+    records_tell_of_all_but_variables_semaphores_and_flights();
     the_items_of_a_run_are_in_range();
     a_written_text_tells_what_was_written();
 }

@@ -3,7 +3,7 @@ ghost use Rattle.std.specs.Prelude.{◌≡◌, ℕ, ◌<◌, true, false, List, 
 ghost use Rattle.script_calls.specs.Runs.{RunsAlong};
 ghost use Rattle.script_calls.specs.declared.outcome.Outcome.TheVariants as outcomes;
 ghost use Rattle.script_calls.specs.declared.outcome.Report.{Report};
-ghost use Rattle.workload.specs.Dialect.{has_variables};
+ghost use Rattle.workload.specs.Dialect.{has_unrecorded, has_variables};
 ghost use Rattle.workload.specs.Plan.{Plan, is_valid};
 ghost use Rattle.workload.specs.Readable.{IsReadable};
 ghost use Rattle.run_cuts.specs.CallsAlong.{calls_along};
@@ -40,6 +40,7 @@ use step_runner::laws::{
 };
 use step_runner::turns::laws::spelling_within::items_are_of_their_workers;
 use sync_types::Name;
+use workload::laws::records_tell_of_all_but_variables_semaphores_and_flights;
 
 /// Each item of a run that is done is told to be of the call of its script of which it is in its worker's list, or of none: however the list is read as
 /// a line, whose completed calls run along the script.
@@ -92,12 +93,14 @@ pub fn no_item_of_a_run_is_a_halt()
     a_record_has_what_was_made();
 }
 
-/// All nine clauses of a checker of records hold of what is told of a run that is done, of a readable workload without variables: by an account whose record is that of the run.
+/// All nine clauses of a checker of records hold of what is told of a run that is done, of a readable workload of which a record tells all objects: by an account
+/// whose record is that of the run.
 pub fn what_is_told_of_a_run_holds()
-    ensures { (plan : Plan) (left : Report) → IsReadable plan → has_variables plan ≡ false → StepsTo plan (outcomes.Done left)
+    ensures { (plan : Plan) (left : Report) → IsReadable plan → has_unrecorded plan ≡ false → StepsTo plan (outcomes.Done left)
         → (account : Account) × (record_of (claim_of plan left) account ≡ scheduled_record plan) × (outcome_of (claim_of plan left) account ≡ outcomes.Done left)
         × ((clause : Clause) → Holds (claim_of plan left) account clause) }
 {
+    records_tell_of_all_but_variables_semaphores_and_flights();
     the_items_of_a_run_are_lines_of_its_record();
     a_record_explains_every_scheduled_run_that_is_done();
     each_item_of_a_run_is_told_its_call();
@@ -110,9 +113,10 @@ pub fn what_is_told_of_a_run_holds()
 /// by one.
 pub fn each_item_of_a_run_has_its_line()
     ensures workers { (plan : Plan) (left : Report) → length (claim_of plan left).lists ≡ plan.workers }
-    ensures lines { (plan : Plan) (left : Report) (worker : ℕ) (list : List ToldItem) → IsReadable plan → has_variables plan ≡ false → IsDoneWithin plan true left → slice_get (claim_of plan left).lists worker ≡ Some list
+    ensures lines { (plan : Plan) (left : Report) (worker : ℕ) (list : List ToldItem) → IsReadable plan → has_unrecorded plan ≡ false → IsDoneWithin plan true left → slice_get (claim_of plan left).lists worker ≡ Some list
         → map (λ (x : ToldItem). item_line worker x.call x.number x.made) list ≡ map Some (lines_of_worker (told_items plan) worker) }
 {
+    records_tell_of_all_but_variables_semaphores_and_flights();
     the_items_of_a_run_are_lines_of_its_record();
     each_item_of_a_run_has_a_line();
 }

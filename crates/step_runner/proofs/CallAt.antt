@@ -14,14 +14,17 @@ use Rattle.wait_cores.specs.NotifyStanding.{has_ticket}
 use Rattle.wait_cores.specs.OnceStanding as once
 use Rattle.workload.specs.declared.object.ObjectKind.{ObjectKind}
 use Rattle.workload.specs.Plan.{reference_of}
+use Rattle.flight_core.specs.FlightStanding as flight
+use Rattle.flight_core.specs.declared.calls.FlightStand.{FlightStand}
+use Rattle.flight_core.specs.declared.calls.FlightStand.TheVariants.{Out, Leads, Waits}
 use Rattle.step_runner.specs.declared.turns.answer.Answer.{Answer}
 use Rattle.step_runner.specs.declared.turns.answer.Answer.TheVariants as answers
 use Rattle.step_runner.specs.declared.turns.object_state.ObjectState.{ObjectState}
 use Rattle.step_runner.specs.declared.turns.object_state.ObjectState.TheVariants as states
-use Rattle.step_runner.specs.TurnsLeft.{refers_to, mutex_left, rw_left, left_at, left_in, turns_left, TakesBy, mutex_told, rw_told, told_at, is_told, TellsOwn}
+use Rattle.step_runner.specs.TurnsLeft.{refers_to, mutex_left, rw_left, left_at, left_in, turns_left, TakesBy, mutex_told, rw_told, told_at, is_told, TellsOwn, flight_left}
 use Rattle.step_runner.specs.declared.turns.item.Item.{Item}
 use Rattle.step_runner.specs.Items.{items_on, items_on_both, items_by, items_at, goes_back, unlocks}
-use Rattle.step_runner.specs.Due.{group_behind}
+use Rattle.step_runner.specs.Due.{group_behind, sema_behind}
 use Rattle.step_runner.specs.Objects.{kind_of}
 use Rattle.step_runner.specs.Ready.{IsReady}
 use Rattle.step_runner.specs.Stands.{IsOutAt}
@@ -212,6 +215,11 @@ rw_few rw_place.Waiting = omega arith
 rw_few rw_place.Granted = omega arith
 rw_few rw_place.Admitted = omega arith
 
+flight_few : (s : FlightStand) → flight_left s ≤ 1
+flight_few Out = omega arith
+flight_few Leads = omega arith
+flight_few Waits = omega arith
+
 left_few : (x : ℕ) (o : ObjectState) → left_at x o ≤ 2
 left_few x (states.Map m) = omega arith
 left_few x (states.Atomic number) = omega arith
@@ -223,6 +231,8 @@ left_few x (states.Once o place delta) = omega (arith, few (once.waits_at o x ||
 left_few x (states.OnceFunc o code) = omega (arith, few (once.waits_at o x || once.runs_at o x))
 left_few x (states.OnceValue o value) = omega (arith, few (once.waits_at o x || once.runs_at o x))
 left_few x (states.Pool p) = omega arith
+left_few x (states.Sema s size) = omega (arith, few (is_some (sema_behind s x)))
+left_few x (states.Flight f keys place delta) = omega (arith, flight_few (flight.stands_at f x))
 left_few x (states.Var held) = omega arith
 
 any_few : (x : ℕ) (o : Option ObjectState) → left_of x o ≤ 2
@@ -233,6 +243,7 @@ any_few x (Some o) = left_few x o
 with_reference : (x : ℕ) (objects : List ObjectState) (o : ObjectState) → left_at x o + left_in x objects (reference_of (kind_of o)) ≤ 3
 with_reference x objects (states.Cond c place) = omega (arith, few (has_ticket c x), any_few x (slice_get objects place))
 with_reference x objects (states.Once o place delta) = omega (arith, few (once.waits_at o x || once.runs_at o x), any_few x (slice_get objects place))
+with_reference x objects (states.Flight f keys place delta) = omega (arith, flight_few (flight.stands_at f x), any_few x (slice_get objects place))
 with_reference x objects (states.Map m) = omega (arith, left_few x (states.Map m))
 with_reference x objects (states.Atomic number) = omega (arith, left_few x (states.Atomic number))
 with_reference x objects (states.Mutex m) = omega (arith, left_few x (states.Mutex m))
@@ -241,6 +252,7 @@ with_reference x objects (states.WaitGroup g first) = omega (arith, left_few x (
 with_reference x objects (states.OnceFunc o code) = omega (arith, left_few x (states.OnceFunc o code))
 with_reference x objects (states.OnceValue o value) = omega (arith, left_few x (states.OnceValue o value))
 with_reference x objects (states.Pool p) = omega (arith, left_few x (states.Pool p))
+with_reference x objects (states.Sema s size) = omega (arith, left_few x (states.Sema s size))
 with_reference x objects (states.Var held) = omega (arith, left_few x (states.Var held))
 
 pub at_most_four : (x : ℕ) (call : Call) (objects : List ObjectState) → turns_left (map kind_of objects) call x objects ≤ 4
@@ -266,4 +278,6 @@ out_untold x (states.Once o place delta) out = refl
 out_untold x (states.OnceFunc o code) out = refl
 out_untold x (states.OnceValue o value) out = refl
 out_untold x (states.Pool p) out = refl
+out_untold x (states.Sema s size) out = refl
+out_untold x (states.Flight f keys place delta) out = refl
 out_untold x (states.Var held) out = refl

@@ -16,6 +16,7 @@ use Rattle.workload.specs.declared.turn.Turn.{Turn}
 use Rattle.workload.specs.declared.turn.Turn.TheVariants as items
 use Rattle.workload.specs.Plan.{Plan}
 use Rattle.workload.specs.Puts.{puts_at}
+use Rattle.workload.specs.Keys.{keys_in}
 use Rattle.step_runner.specs.declared.turns.answer.Answer.{Answer}
 use Rattle.step_runner.specs.declared.turns.answer.Answer.TheVariants as answers
 use Rattle.step_runner.specs.declared.turns.object_state.ObjectState.{ObjectState}
@@ -641,5 +642,5 @@ module _ (plan : Plan) (worker number : ℕ) where
           arith,
           woken_turns stands same (standing_kept stands plan goes) list (start plan) h,
           told_none (length (get_or (start plan).replies worker []) == number) (told_by (stand_of worker (start plan)) (get_or (start plan).replies worker []) (start plan).objects)
-              (out_everywhere (start plan).objects (each_start (λ place object. (None ≡ Some place → ⊥) → IsOutAt worker object) plan (λ place kind ne. stands.begins worker plan.workers (puts_at place plan.scripts) kind)) (stand_of worker (start plan)) (get_or (start plan).replies worker [])),
+              (out_everywhere (start plan).objects (each_start (λ place object. (None ≡ Some place → ⊥) → IsOutAt worker object) plan (λ place kind ne. stands.begins worker plan.workers (puts_at place plan.scripts) (keys_in plan.scripts) kind)) (stand_of worker (start plan)) (get_or (start plan).replies worker [])),
         )

@@ -38,18 +38,25 @@ use Rattle.protocols.specs.declared.mutex.MutexStage.{MutexStage}
 use Rattle.protocols.specs.declared.rw_mutex.RwMutexStage.{RwMutexStage}
 use Rattle.run_record.specs.declared.entered.ObjectEvent.TheVariants as events
 use Rattle.run_record.specs.declared.entered.ObjectReply.TheVariants as answered
+use Rattle.sema_core.specs.SemaMachine as sema
+use Rattle.sema_core.specs.SemaStages.{sema_event, sema_meaning}
+use Rattle.flight_core.specs.FlightMachine as flight
+use Rattle.flight_core.specs.FlightStages.{flight_event, flight_meaning}
+use Rattle.flight_core.specs.FlightStanding as flight_standing
+use Rattle.sema_core.specs.declared.calls.SemaStage.{SemaStage}
+use Rattle.workload.specs.Keys.{key_number}
 use Rattle.step_runner.specs.declared.turns.object_state.ObjectState.{ObjectState}
 use Rattle.step_runner.specs.declared.turns.object_state.ObjectState.TheVariants as states
-use Rattle.step_runner.specs.TurnsLeft.{mutex_left, rw_left, once_left, left_at, mutex_told, rw_told, told_at}
-use Rattle.step_runner.specs.Due.{mutex_due, rw_due, group_turn, group_behind, cond_due, once_due}
+use Rattle.step_runner.specs.TurnsLeft.{mutex_left, rw_left, once_left, left_at, mutex_told, rw_told, told_at, flight_left}
+use Rattle.step_runner.specs.Due.{mutex_due, rw_due, group_turn, group_behind, cond_due, once_due, sema_turn, sema_behind, flight_due}
 use Rattle.step_runner.specs.declared.turns.item.Deed.TheVariants as deeds
 use Rattle.step_runner.specs.declared.turns.item.Item.{Item}
 use Rattle.step_runner.specs.Items.{stage_items, items_on, items_on_both, is_unlock, unlocks}
 use Rattle.step_runner.specs.Objects.{IsMachineOf}
 use Rattle.step_runner.specs.Stages.{make}
-use Rattle.step_runner.specs.TurnAtObjects.{once_made, turn_on, turn_on_both}
+use Rattle.step_runner.specs.TurnAtObjects.{once_made, turn_on, turn_on_both, flight_made}
 use Rattle.step_runner.proofs.Makes.{make_moves}
-use Rattle.step_runner.specs.MachinesStand.{MutexStands, RwStands, OnceStands, MachinesStand}
+use Rattle.step_runner.specs.MachinesStand.{MutexStands, RwStands, OnceStands, MachinesStand, FlightStands}
 use Rattle.step_runner.proofs.Refuted.{no}
 
 -- ---- at one object
@@ -170,6 +177,14 @@ turn_eases laws workers x by moment object (operations.WaitGroup call) (states.W
   ),
   λ was told. no told,
 )
+turn_eases laws workers x by moment object (operations.Sema call) (states.Sema s size) is apart = (
+  omega (
+    arith,
+    ap {B = ℕ} (λ (behind : Option SemaStage). if is_some behind then 0 else 1)
+        (make_moves sema.next sema_event sema_meaning by moment (λ n. sema_behind n x ≡ sema_behind s x) (sema_turn call s by) s refl (λ e. laws.semas.others s x by e apart)),
+  ),
+  λ was told. no told,
+)
 turn_eases laws workers x by moment object operations.OnceFunc (states.OnceFunc o code) is apart = (omega (arith, once_same laws.giving x by moment code o apart), λ was told. no told)
 turn_eases laws workers x by moment object operations.OnceValue (states.OnceValue o value) is apart = (omega (arith, once_same laws.giving x by moment value o apart), λ was told. no told)
 turn_eases laws workers x by moment object (operations.Pool call) (states.Pool p) is apart = (omega arith, λ was told. no told)
@@ -192,6 +207,16 @@ sum_eases law x by moment object other o place delta (Int64 held) apart =
     ((omega (arith, once_same law x by moment (int_wrapping_add w64 held delta) o apart), λ was told. no told), (omega arith, λ was told. no told))
 sum_eases law x by moment object other o place delta number apart = ((omega arith, λ untold told. no (sym untold ∙ told)), (omega arith, λ untold told. no (sym untold ∙ told)))
 
+flight_same : FlightStands → (x by moment key : ℕ) (value : ℤ) (f : flight.FlightState) → x ≢ by → flight_standing.stands_at (flight_made by moment key value f).0 x ≡ flight_standing.stands_at f x
+flight_same law x by moment key value f apart =
+    make_moves flight.next flight_event flight_meaning by moment (λ n. flight_standing.stands_at n x ≡ flight_standing.stands_at f x) (flight_due key value (flight.place_of f by)) f refl (λ e. law.others f x by e apart)
+
+fly_eases : FlightStands → (x by moment object other : ℕ) (key : List ℕ) (f : flight.FlightState) (keys : List (List ℕ)) (place : ℕ) (delta : ℤ) (number : Number) → x ≢ by
+    → BothEase x (states.Flight f keys place delta) (states.Atomic number) (turn_on_both (operations.Fly key) by moment (states.Flight f keys place delta) (states.Atomic number)).0 (items_on_both (operations.Fly key) by moment object other (states.Flight f keys place delta) (states.Atomic number))
+fly_eases law x by moment object other key f keys place delta (Int64 held) apart =
+    ((omega (arith, ap flight_left (flight_same law x by moment (key_number keys key) (int_wrapping_add w64 held delta) f apart)), λ was told. no told), (omega arith, λ was told. no told))
+fly_eases law x by moment object other key f keys place delta number apart = ((omega arith, λ untold told. no (sym untold ∙ told)), (omega arith, λ untold told. no (sym untold ∙ told)))
+
 pub both_ease : MachinesStand → (workers x by moment object other : ℕ) (operation : Operation) (o target : ObjectState) → IsMachineOf workers target → x ≢ by
     → BothEase x o target (turn_on_both operation by moment o target).0 (items_on_both operation by moment object other o target)
 both_ease laws workers x by moment object other (operations.Cond call) (states.Cond c place) (states.Mutex m) is apart =
@@ -208,4 +233,5 @@ both_ease laws workers x by moment object other (operations.Cond call) (states.C
       (eases.0, λ was told. behind_cond by moment object due.0 c (stage_items events.Mutex answered.Mutex mutex.next mutex_stages.mutex_event by moment other due.1 m) (eases.1 was told)),
     )
 both_ease laws workers x by moment object other operations.Once (states.Once o place delta) (states.Atomic number) is apart = sum_eases laws.adding x by moment object other o place delta number apart
+both_ease laws workers x by moment object other (operations.Fly key) (states.Flight f keys place delta) (states.Atomic number) is apart = fly_eases laws.flights x by moment object other key f keys place delta number apart
 both_ease laws workers x by moment object other operation o target is apart = ((omega arith, λ untold told. no (sym untold ∙ told)), (omega arith, λ untold told. no (sym untold ∙ told)))

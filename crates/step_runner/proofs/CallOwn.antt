@@ -82,21 +82,30 @@ use Rattle.run_record.specs.declared.entered.ObjectEvent.TheVariants as events
 use Rattle.run_record.specs.declared.entered.ObjectReply.{ObjectReply}
 use Rattle.run_record.specs.declared.entered.ObjectReply.TheVariants as answered
 use Rattle.run_record.specs.OnceKind.{failure}
+use Rattle.sema_core.specs.SemaMachine as sema
+use Rattle.sema_core.specs.SemaStages.{sema_event, sema_meaning}
+use Rattle.flight_core.specs.FlightMachine as flight
+use Rattle.flight_core.specs.FlightStages.{flight_event}
+use Rattle.sema_core.specs.SemaEventsLeft.{sema_left}
+use Rattle.flight_core.specs.declared.calls.FlightOutcome.{FlightOutcome}
+use Rattle.flight_core.specs.declared.calls.FlightOutcome.TheVariants.{Lead, Got, Landed}
+use Rattle.workload.specs.Keys.{key_number}
+use Rattle.step_runner.proofs.FlightTurns.{flight_takes}
 use Rattle.step_runner.specs.declared.turns.answer.Answer.{Answer}
 use Rattle.step_runner.specs.declared.turns.answer.Answer.TheVariants as answers
 use Rattle.step_runner.specs.declared.turns.object_state.ObjectState.{ObjectState}
 use Rattle.step_runner.specs.declared.turns.object_state.ObjectState.TheVariants as states
 use Rattle.step_runner.specs.TurnsLeft.{mutex_left, rw_left, once_left, left_at, TakesOf, TakesBy, mutex_told, rw_told, told_at, TellsOwn}
 use Rattle.step_runner.specs.Completes.{IsCompleted}
-use Rattle.step_runner.specs.Due.{mutex_due, rw_due, locked, group_turn, group_behind, GroupFits, group_from, cond_due, waited, once_due, ran_or}
+use Rattle.step_runner.specs.Due.{mutex_due, rw_due, locked, group_turn, group_behind, GroupFits, group_from, cond_due, waited, once_due, ran_or, sema_turn, sema_behind, SemaFits, sema_from, flight_due}
 use Rattle.step_runner.specs.declared.turns.item.Deed.TheVariants as deeds
 use Rattle.step_runner.specs.declared.turns.item.Item.{Item}
-use Rattle.step_runner.specs.Items.{stage_items, items_on, items_on_both, add_items, once_items, look_items, unless_found, pool_items, is_requeued, goes_back}
+use Rattle.step_runner.specs.Items.{stage_items, items_on, items_on_both, add_items, once_items, look_items, unless_found, pool_items, is_requeued, goes_back, landed_items, flight_items}
 use Rattle.step_runner.specs.Objects.{IsMachineOf}
 use Rattle.step_runner.specs.PoolTurn.{looked, pool_step}
 use Rattle.step_runner.specs.Stages.{outcome_of, make, answer_by}
-use Rattle.step_runner.specs.TurnAtObjects.{once_made, turn_on, turn_on_both, cond_turn}
-use Rattle.step_runner.specs.MachinesStand.{MutexStands, RwStands, CondStands, OnceStands, MachinesStand}
+use Rattle.step_runner.specs.TurnAtObjects.{once_made, turn_on, turn_on_both, cond_turn, flight_made}
+use Rattle.step_runner.specs.MachinesStand.{MutexStands, RwStands, CondStands, OnceStands, MachinesStand, FlightStands}
 use Rattle.step_runner.proofs.CompletesLemmas.{pool_completes}
 use Rattle.step_runner.proofs.DueLemmas.{OfDue, both_due, mutex_answer, mutex_answers, rw_answers, OnceAnswer, once_answers}
 use Rattle.step_runner.proofs.KindTurns.{kind_leaves}
@@ -417,6 +426,9 @@ turn_takes laws workers x moment object (operations.RwMutex call) (states.RwMute
 turn_takes laws workers x moment object (operations.WaitGroup call) (states.WaitGroup g first) below is =
     forward x (states.WaitGroup g first) (turn_on (operations.WaitGroup call) x moment (states.WaitGroup g first)) (items_on (operations.WaitGroup call) x moment object (states.WaitGroup g first)) (stage_forward events.WaitGroup answered.WaitGroup (λ e r. refl) group.next group_event x moment object (group_turn call g x) g) refl
     (kind_leaves group.next group_event group_meaning group.callers_of group_turn group_behind GroupFits group_from group_left laws.groups (λ done. replies.Returned) call x moment g (omega (arith, below, is)) (λ n. Unit {0}) tt).1
+turn_takes laws workers x moment object (operations.Sema call) (states.Sema s size) below is =
+    forward x (states.Sema s size) (turn_on (operations.Sema call) x moment (states.Sema s size)) (items_on (operations.Sema call) x moment object (states.Sema s size)) (stage_forward events.Sema answered.Sema (λ e r. refl) sema.next sema_event x moment object (sema_turn call s x) s) refl
+    (kind_leaves sema.next sema_event sema_meaning sema.callers_of sema_turn sema_behind SemaFits sema_from sema_left laws.semas replies.Lock call x moment s (omega (arith, below, is)) (λ n. Unit {0}) tt).1
 turn_takes laws workers x moment object operations.OnceFunc (states.OnceFunc o code) below is =
     forward x (states.OnceFunc o code) (turn_on operations.OnceFunc x moment (states.OnceFunc o code)) (items_on operations.OnceFunc x moment object (states.OnceFunc o code)) (once_forward events.OnceFunc answered.OnceFunc (λ e r. refl) x moment object code o) refl
     (once_own_takes laws.giving (replies.OnceFunc (failure code)) (λ kept. replies.OnceFunc (failure kept)) code x moment o (omega (arith, below, is)))
@@ -566,8 +578,28 @@ sum_takes law x moment object other o place delta (Int64 held) below =
     (beside_none (once_left o x) (once_left (once_made x moment sum o).0 x) step.1 (once_own_takes law (replies.Once (do_replies.Ran sum)) (λ kept. replies.Once do_replies.Done) sum x moment o below), λ told. told)
 sum_takes law x moment object other o place delta number below = (tt, λ told. told)
 
+landed_forward : (x other : ℕ) (delta : ℤ) (number : Number) (made : Result FlightOutcome Answer) (rest : List Item) → goes_back rest ≡ false → goes_back (landed_items x other delta number made ++ rest) ≡ false
+landed_forward x other delta number (Ok (Landed shared)) rest on = on
+landed_forward x other delta number (Ok Lead) rest on = on
+landed_forward x other delta number (Ok (Got value)) rest on = on
+landed_forward x other delta number (Err answer) rest on = on
+
+fly_takes : FlightStands → (x moment object other : ℕ) (key : List ℕ) (f : flight.FlightState) (keys : List (List ℕ)) (place : ℕ) (delta : ℤ) (number : Number) → x < flight.callers_of f
+    → BothTake x (states.Flight f keys place delta) (states.Atomic number) (turn_on_both (operations.Fly key) x moment (states.Flight f keys place delta) (states.Atomic number)) (items_on_both (operations.Fly key) x moment object other (states.Flight f keys place delta) (states.Atomic number))
+fly_takes law x moment object other key f keys place delta (Int64 held) below =
+    let sum = int_wrapping_add w64 held delta in
+    let number = key_number keys key in
+    let due = flight_due number sum (flight.place_of f x) in
+    let step = turn_on_both (operations.Fly key) x moment (states.Flight f keys place delta) (states.Atomic (Int64 held)) in
+    let made = items_on_both (operations.Fly key) x moment object other (states.Flight f keys place delta) (states.Atomic (Int64 held)) in
+    let on : goes_back made ≡ false = landed_forward x other delta (Int64 held) (flight_made x moment number sum f).1 (flight_items x moment object number sum f) (stage_forward events.Flight answered.Flight (λ e r. refl) flight.next flight_event x moment object due f) in
+    subst (λ (back : Bool). TakesBy back (left_at x (states.Flight f keys place delta) + 0) (left_at x step.0.0 + 0) step.1 × TellsOwn back false false) (sym on)
+    (beside_none (left_at x (states.Flight f keys place delta)) (left_at x step.0.0) step.1 (flight_takes law x moment number sum f below), λ told. told)
+fly_takes law x moment object other key f keys place delta number below = (tt, λ told. told)
+
 pub both_take : MachinesStand → (workers x moment object other : ℕ) (operation : Operation) (o target : ObjectState) → x < workers → IsMachineOf workers o → IsMachineOf workers target
     → BothTake x o target (turn_on_both operation x moment o target) (items_on_both operation x moment object other o target)
 both_take laws workers x moment object other (operations.Cond call) (states.Cond c place) (states.Mutex m) below is is_there = cond_takes laws call x moment object other place c m (omega (arith, below, is_there.1)) (omega (arith, below, is)) is_there.0
 both_take laws workers x moment object other operations.Once (states.Once o place delta) (states.Atomic number) below is is_there = sum_takes laws.adding x moment object other o place delta number (omega (arith, below, is))
+both_take laws workers x moment object other (operations.Fly key) (states.Flight f keys place delta) (states.Atomic number) below is is_there = fly_takes laws.flights x moment object other key f keys place delta number (omega (arith, below, is))
 both_take laws workers x moment object other operation o target below is is_there = (tt, λ told. told)

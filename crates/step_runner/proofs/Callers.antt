@@ -33,15 +33,22 @@ use Rattle.run_record.specs.declared.entered.ObjectEvent.TheVariants as events
 use Rattle.run_record.specs.declared.entered.ObjectReply.{ObjectReply}
 use Rattle.run_record.specs.declared.entered.ObjectReply.TheVariants as answered
 use Rattle.workload.specs.Plan.{reference_of}
+use Rattle.sema_core.specs.SemaMachine as sema
+use Rattle.sema_core.specs.SemaStages.{sema_event}
+use Rattle.flight_core.specs.FlightMachine as flight
+use Rattle.flight_core.specs.FlightStages.{flight_event}
+use Rattle.flight_core.specs.declared.calls.FlightOutcome.{FlightOutcome}
+use Rattle.flight_core.specs.declared.calls.FlightOutcome.TheVariants.{Lead, Got, Landed}
+use Rattle.workload.specs.Keys.{key_number}
 use Rattle.step_runner.specs.declared.turns.answer.Answer.{Answer}
 use Rattle.step_runner.specs.declared.turns.object_state.ObjectState.{ObjectState}
 use Rattle.step_runner.specs.declared.turns.object_state.ObjectState.TheVariants as states
-use Rattle.step_runner.specs.Due.{mutex_due, rw_due, group_due, cond_due, once_due, looks_of}
+use Rattle.step_runner.specs.Due.{mutex_due, rw_due, group_due, cond_due, once_due, looks_of, sema_due, flight_due}
 use Rattle.step_runner.specs.declared.turns.item.Item.{Item}
-use Rattle.step_runner.specs.Items.{stage_items, unless_found, look_items, pool_items, items_on, add_items, sum_items, items_on_both, items_by, items_at}
+use Rattle.step_runner.specs.Items.{stage_items, unless_found, look_items, pool_items, items_on, add_items, sum_items, items_on_both, items_by, items_at, landed_items, fly_items}
 use Rattle.step_runner.specs.Objects.{kind_of}
 use Rattle.step_runner.specs.PoolTurn.{looked}
-use Rattle.step_runner.specs.TurnAtObjects.{once_made}
+use Rattle.step_runner.specs.TurnAtObjects.{once_made, flight_made}
 
 abbrev AllBy : ℕ → List Item → Type 0
 AllBy worker [] = Unit {0}
@@ -77,6 +84,7 @@ on_by (operations.Composed (IfEqual value passes)) worker moment object (states.
 on_by (operations.Mutex call) worker moment object (states.Mutex m) = stage_by events.Mutex answered.Mutex mutex.next mutex_event worker moment object (mutex_due call (mutex.place_of m worker)) m
 on_by (operations.RwMutex call) worker moment object (states.RwMutex m) = stage_by events.RwMutex answered.RwMutex rw.next rw_event worker moment object (rw_due call (rw.place_of m worker)) m
 on_by (operations.WaitGroup call) worker moment object (states.WaitGroup g first) = stage_by events.WaitGroup answered.WaitGroup group.next group_event worker moment object (group_due call (group.place_of g worker)) g
+on_by (operations.Sema call) worker moment object (states.Sema s size) = stage_by events.Sema answered.Sema sema.next sema_event worker moment object (sema_due call (sema.place_of s worker)) s
 on_by operations.OnceFunc worker moment object (states.OnceFunc o code) = stage_by events.OnceFunc answered.OnceFunc once.next once_event worker moment object (once_due code (runs_at o worker) (once.place_of o worker)) o
 on_by operations.OnceValue worker moment object (states.OnceValue o value) = stage_by events.OnceValue answered.OnceValue once.next once_event worker moment object (once_due value (runs_at o worker) (once.place_of o worker)) o
 on_by (operations.Pool call) worker moment object (states.Pool p) = pool_by worker moment object call p
@@ -95,12 +103,25 @@ sum_by_worker worker moment object other o delta number (Int64 sum) =
     (stage_by events.Once answered.Once once.next once_event worker moment object (once_due sum (runs_at o worker) (once.place_of o worker)) o)
 sum_by_worker worker moment object other o delta number sum = tt
 
+landed_by : (worker object : ℕ) (delta : ℤ) (number : Number) (made : Result FlightOutcome Answer) → AllBy worker (landed_items worker object delta number made)
+landed_by worker object delta number (Ok (Landed shared)) = (refl, tt)
+landed_by worker object delta number (Ok Lead) = tt
+landed_by worker object delta number (Ok (Got value)) = tt
+landed_by worker object delta number (Err a) = tt
+
+fly_by_worker : (key worker moment object other : ℕ) (f : flight.FlightState) (delta : ℤ) (number sum : Number) → AllBy worker (fly_items key worker moment object other f delta number sum)
+fly_by_worker key worker moment object other f delta number (Int64 sum) =
+    both_by worker (landed_items worker other delta number (flight_made worker moment key sum f).1) _ (landed_by worker other delta number (flight_made worker moment key sum f).1)
+    (stage_by events.Flight answered.Flight flight.next flight_event worker moment object (flight_due key sum (flight.place_of f worker)) f)
+fly_by_worker key worker moment object other f delta number sum = tt
+
 on_both_by : (operation : Operation) (worker moment object other : ℕ) (o target : ObjectState) → AllBy worker (items_on_both operation worker moment object other o target)
 on_both_by (operations.Cond call) worker moment object other (states.Cond c place) (states.Mutex m) =
     let due = cond_due call (mutex.place_of m worker) (notify.place_of c worker) in
     both_by worker (stage_items events.Cond answered.Cond notify.next cond_event worker moment object due.0 c) (stage_items events.Mutex answered.Mutex mutex.next mutex_event worker moment other due.1 m)
     (stage_by events.Cond answered.Cond notify.next cond_event worker moment object due.0 c) (stage_by events.Mutex answered.Mutex mutex.next mutex_event worker moment other due.1 m)
 on_both_by operations.Once worker moment object other (states.Once o place delta) (states.Atomic number) = sum_by_worker worker moment object other o delta number (atomic_after (Add (Int64 delta)) number)
+on_both_by (operations.Fly key) worker moment object other (states.Flight f keys place delta) (states.Atomic number) = fly_by_worker (key_number keys key) worker moment object other f delta number (atomic_after (Add (Int64 delta)) number)
 on_both_by operation worker moment object other o target = tt
 
 target_by : (call : Call) (worker moment other : ℕ) (object : ObjectState) (o : Option ObjectState) → AllBy worker (option_map_or (λ target. items_on_both call.operation worker moment call.object other object target) o [])

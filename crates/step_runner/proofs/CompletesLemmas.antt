@@ -42,6 +42,8 @@ none_referring (kinds.Cond place) (operations.Cond call) other some has never = 
 none_referring (kinds.Cond place) operation other some has never = no has
 none_referring (kinds.Once place delta) operations.Once other some has never = no never
 none_referring (kinds.Once place delta) operation other some has never = no has
+none_referring (kinds.Flight place delta) (operations.Fly key) other some has never = no never
+none_referring (kinds.Flight place delta) operation other some has never = no has
 none_referring kind operation other some has never = nothing some
 
 pub at_completes : (workers worker : ℕ) (call : Call) (moment : ℕ) (objects : List ObjectState) → takes_one_turn call.operation ≡ true → IsReady workers worker call objects → IsCompleted (turn_at call worker moment objects).1

@@ -25,9 +25,16 @@ use Rattle.wait_cores.specs.OnceStanding as once_standing
 use Rattle.wait_cores.specs.declared.group.GroupEvent.TheVariants as group_event
 use Rattle.protocols.specs.declared.wait_group.GroupStage.TheVariants as group_stage
 use Rattle.protocols.specs.OnceStages.{once_event, once_meaning}
+use Rattle.sema_core.specs.SemaMachine as sema
+use Rattle.sema_core.specs.SemaStanding as sema_standing
+use Rattle.sema_core.specs.declared.calls.SemaStage.TheVariants as sema_stage
+use Rattle.flight_core.specs.FlightMachine as flight
+use Rattle.flight_core.specs.FlightStanding as flight_standing
+use Rattle.flight_core.specs.declared.calls.FlightStand.TheVariants as stand
 use Rattle.protocols.specs.Spelling.{CallAnswer}
 use Rattle.run_record.specs.AtomicKind.{adds}
 use Rattle.run_record.specs.Calls.{call_on, call_at, SpellsCall}
+use Rattle.run_record.specs.FlightKind.{flight_part}
 use Rattle.run_record.specs.Objects.{atomic_number}
 use Rattle.run_record.specs.OnceKind.{failure}
 use Rattle.run_record.specs.Parts.{Part, returns, stages}
@@ -38,17 +45,18 @@ use Rattle.run_record.specs.declared.made.Made.{Made}
 use Rattle.workload.specs.declared.object.ObjectKind.{ObjectKind}
 use Rattle.workload.specs.declared.object.ObjectKind.TheVariants as kinds
 use Rattle.workload.specs.declared.object.ObjectLine.{ObjectLine}
+use Rattle.workload.specs.Keys.{keys_in, key_number}
 use Rattle.workload.specs.Plan.{Plan, has_call, reference_of}
 use Rattle.step_runner.specs.declared.turns.object_state.ObjectState.{ObjectState}
 use Rattle.step_runner.specs.declared.turns.object_state.ObjectState.TheVariants as states
 use Rattle.step_runner.specs.Objects.{new_object, kind_of, EachAt}
 use Rattle.step_runner.specs.Ready.{IsReady}
 use Rattle.step_runner.specs.Stands.{IsOutAt, IsOutBut}
-use Rattle.step_runner.specs.Left.{mutex_waits, rw_waits, mutex_left, rw_left, group_left, cond_left, once_left, left_on, left_on_both, left_at}
+use Rattle.step_runner.specs.Left.{mutex_waits, rw_waits, mutex_left, rw_left, group_left, sema_left, cond_left, once_left, flight_left, left_on, left_on_both, left_at}
 use Rattle.step_runner.specs.Within.{IsIdle, StandsOn, StandsOnBoth, IsWithin}
 use Rattle.step_runner.proofs.SpeltAtObjects.{left_alone, left_referring, stands_alone, stands_referring}
 use Rattle.step_runner.proofs.RwSides.{out_sides}
-use Rattle.step_runner.proofs.TurnOwn.{Pair, only_pairs, cond_refers, once_refers, wait_for_alone, go_alone}
+use Rattle.step_runner.proofs.TurnOwn.{Pair, only_pairs, cond_refers, once_refers, fly_refers, wait_for_alone, go_alone}
 use Rattle.step_runner.proofs.Refuted.{no}
 
 -- ---- a new object
@@ -76,19 +84,23 @@ pub record Begins : Type 0 where
   pub groups : GroupBegins
   pub adding : OnceBegins ℤ
   pub giving : OnceBegins ℕ
+  pub semas : (callers size x : ℕ) → sema_standing.waits_at (sema.start callers size) x ≡ false
+  pub flights : (callers x : ℕ) → flight_standing.stands_at (flight.start callers) x ≡ stand.Out
 
-pub new_idle : Begins → (x workers room : ℕ) (kind : ObjectKind) → IsIdle x (new_object workers room kind)
-new_idle laws x workers room kinds.Map = tt
-new_idle laws x workers room (kinds.Atomic kind) = tt
-new_idle laws x workers room kinds.Mutex = tt
-new_idle laws x workers room kinds.RwMutex = tt
-new_idle laws x workers room (kinds.Cond place) = laws.tickets workers x
-new_idle laws x workers room (kinds.WaitGroup first) = ap (λ (b : Bool). if b then Some group_stage.Leave else None) (new_group laws.groups x workers first)
-new_idle laws x workers room (kinds.Once place delta) = laws.adding workers x
-new_idle laws x workers room (kinds.OnceFunc code) = laws.giving workers x
-new_idle laws x workers room (kinds.OnceValue value) = laws.giving workers x
-new_idle laws x workers room kinds.Pool = tt
-new_idle laws x workers room kinds.Var = tt
+pub new_idle : Begins → (x workers room : ℕ) (keys : List (List ℕ)) (kind : ObjectKind) → IsIdle x (new_object workers room keys kind)
+new_idle laws x workers room keys kinds.Map = tt
+new_idle laws x workers room keys (kinds.Atomic kind) = tt
+new_idle laws x workers room keys kinds.Mutex = tt
+new_idle laws x workers room keys kinds.RwMutex = tt
+new_idle laws x workers room keys (kinds.Cond place) = laws.tickets workers x
+new_idle laws x workers room keys (kinds.WaitGroup first) = ap (λ (b : Bool). if b then Some group_stage.Leave else None) (new_group laws.groups x workers first)
+new_idle laws x workers room keys (kinds.Once place delta) = laws.adding workers x
+new_idle laws x workers room keys (kinds.OnceFunc code) = laws.giving workers x
+new_idle laws x workers room keys (kinds.OnceValue value) = laws.giving workers x
+new_idle laws x workers room keys kinds.Pool = tt
+new_idle laws x workers room keys (kinds.Sema size) = ap (λ (b : Bool). if b then Some sema_stage.Leave else None) (laws.semas workers size x)
+new_idle laws x workers room keys (kinds.Flight place delta) = laws.flights workers x
+new_idle laws x workers room keys kinds.Var = tt
 
 -- ---- the next call
 
@@ -98,6 +110,7 @@ enter_on (operations.RwMutex rw_calls.RLock) x (states.RwMutex m) idle out = (ou
 enter_on (operations.RwMutex call) x (states.RwMutex m) idle out = tt
 enter_on (operations.WaitGroup group_calls.Wait) x (states.WaitGroup g first) idle out = tt
 enter_on (operations.WaitGroup call) x (states.WaitGroup g first) idle out = idle
+enter_on (operations.Sema call) x (states.Sema s size) idle out = tt
 enter_on operations.OnceFunc x (states.OnceFunc o code) idle out = λ is. idle.0
 enter_on operations.OnceValue x (states.OnceValue o value) idle out = λ is. idle.0
 enter_on operation x o idle out = idle
@@ -107,6 +120,7 @@ enter_both (operations.Cond cond_calls.Wait) x (states.Cond c at) (states.Mutex 
 enter_both (operations.Cond cond_calls.Signal) x (states.Cond c at) (states.Mutex m) pair idle out = idle
 enter_both (operations.Cond cond_calls.Broadcast) x (states.Cond c at) (states.Mutex m) pair idle out = idle
 enter_both operations.Once x (states.Once o at delta) (states.Atomic (Int64 held)) pair idle out = λ is. idle.0
+enter_both (operations.Fly key) x (states.Flight f keys at delta) (states.Atomic (Int64 held)) pair idle out = tt
 enter_both operation x o target pair idle out = absurd pair
 
 module _ (plan : Plan) (x before place : ℕ) where
@@ -120,6 +134,7 @@ module _ (plan : Plan) (x before place : ℕ) where
   whole_on (operations.RwMutex call) (states.RwMutex m) has alone idle out = ap (rw_left (object_number place) call) (ap rw_waits out)
   whole_on (operations.WaitGroup group_calls.Wait) (states.WaitGroup g first) has alone idle out = ap (group_left (object_number place) group_calls.Wait) idle
   whole_on (operations.WaitGroup call) (states.WaitGroup g first) has alone idle out = refl
+  whole_on (operations.Sema call) (states.Sema s size) has alone idle out = ap (sema_left (object_number place) call) idle
   whole_on operations.OnceFunc (states.OnceFunc o code) has alone idle out =
       λ i. once_left (stages events.OnceFunc answered.OnceFunc once_event once_meaning (object_number place)) (returns code) (λ kept. replies.OnceFunc (failure kept)) (λ kept. replies.OnceFunc (failure kept)) (idle.1 i) (idle.0 i)
   whole_on operations.OnceValue (states.OnceValue o value) has alone idle out =
@@ -128,6 +143,7 @@ module _ (plan : Plan) (x before place : ℕ) where
   whole_on (operations.Var call) (states.Var held) has alone idle out = refl
   whole_on (operations.Cond call) o has alone idle out = absurd (cond_refers o call has alone)
   whole_on operations.Once o has alone idle out = absurd (once_refers o has alone)
+  whole_on (operations.Fly key) o has alone idle out = absurd (fly_refers o key has alone)
   whole_on (operations.Composed (WaitFor atomic value tries)) o has alone idle out = absurd (wait_for_alone o atomic tries value has)
   whole_on (operations.Composed (Go started)) o has alone idle out = absurd (go_alone o started has)
   whole_on operation o has alone idle out = absurd (no has)
@@ -142,6 +158,8 @@ module _ (plan : Plan) (x before place : ℕ) where
   whole_both other (operations.Cond cond_calls.Broadcast) (states.Cond c at) (states.Mutex m) pair some idle out = λ i. cond_left (object_number place) (object_number (some_place some i)) cond_calls.Broadcast (idle i) (mutex_waits (out i))
   whole_both other operations.Once (states.Once o at delta) (states.Atomic (Int64 held)) pair some idle out =
       λ i. once_left (stages events.Once answered.Once once_event once_meaning (object_number place)) (adds (atomic_number plan.objects (some_place some i)) delta) (λ sum. replies.Once (do_replies.Ran sum)) (λ kept. replies.Once do_replies.Done) (idle.1 i) (idle.0 i)
+  whole_both other (operations.Fly key) (states.Flight f keys at delta) (states.Atomic (Int64 held)) pair some idle out =
+      λ i. flight_left (flight_part (object_number place)) (adds (atomic_number plan.objects (some_place some i)) delta) (key_number (keys_in plan.scripts) key) (idle i)
   whole_both other operation o target pair some idle out = absurd pair
 
 -- the line of the object at a place

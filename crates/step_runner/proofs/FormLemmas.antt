@@ -39,7 +39,7 @@ use Rattle.step_runner.proofs.WithinKeeps.{out_anywhere}
 
 -- what the law of turns says
 pub record TurnStands : Type 0 where
-  pub begins : (worker workers room : ℕ) (kind : ObjectKind) → IsOutAt worker (new_object workers room kind)
+  pub begins : (worker workers room : ℕ) (keys : List (List ℕ)) (kind : ObjectKind) → IsOutAt worker (new_object workers room keys kind)
   pub forms : (workers worker moment begun : ℕ) (call : Call) (objects : List ObjectState) → IsReadyWithin workers worker call objects → IsOutBut (waits_within (map kind_of objects) call begun) worker objects
       → HasForm call.operation (turn_within call worker moment begun objects).1
   pub own : (workers worker moment begun : ℕ) (call : Call) (objects : List ObjectState) → IsReadyWithin workers worker call objects → IsOutBut (waits_within (map kind_of objects) call begun) worker objects
@@ -222,7 +222,7 @@ standing_kept laws plan goes_on = record {
 pub start_stands : TurnStands → (plan : Plan) → IsStateOf plan (start plan) → Standing plan (start plan)
 start_stands laws plan of = record {
   of = of;
-  out = λ worker. each_start (λ place object. (awaited plan worker (start plan) ≡ Some place → ⊥) → IsOutAt worker object) plan (λ place kind ne. laws.begins worker plan.workers (puts_at place plan.scripts) kind);
+  out = λ worker. each_start (λ place object. (awaited plan worker (start plan) ≡ Some place → ⊥) → IsOutAt worker object) plan (λ place kind ne. laws.begins worker plan.workers (puts_at place plan.scripts) (keys_in plan.scripts) kind);
   forms = forms_begin plan.scripts plan.workers (omega (arith, valid_scripts plan of.valid));
 }
 

@@ -1,6 +1,6 @@
 -- Whatever is left of a call can be spelt.
 use Rattle.std.proofs.Common.{◌≡◌, ℕ, ◌+◌, Bool, true, false, List, [], ◌∷◌, ◌++◌, map, Option, Some, None, refl, sym, subst, append-nil, arith}
-use Rattle.std.specs.Prelude.{pos, Ok}
+use Rattle.std.specs.Prelude.{ℤ, pos, Ok}
 use Rattle.std.specs.List.{range_with_len}
 use Rattle.std.proofs.lemmas.List.Sorted.{IsPermutation-refl}
 use Rattle.sync_types.specs.Renaming.{renamed_call}
@@ -37,6 +37,14 @@ use Rattle.wait_cores.specs.OnceStanding as once_standing
 use Rattle.wait_cores.specs.declared.once.OnceEvent.{OnceEvent}
 use Rattle.wait_cores.specs.declared.once.OnceReply.{OnceReply}
 use Rattle.pool_core.specs.declared.pool_event.PoolEvent.{PoolEvent}
+use Rattle.sync_types.specs.declared.sema_call.SemaCall.{SemaCall}
+use Rattle.sema_core.specs.SemaStages.{sema_event, sema_meaning}
+use Rattle.sema_core.specs.declared.calls.SemaStage.{SemaStage}
+use Rattle.flight_core.specs.FlightStages.{flight_event, flight_meaning}
+use Rattle.flight_core.specs.FlightStanding as flight_standing
+use Rattle.flight_core.specs.declared.calls.FlightStage.TheVariants as flight_stage
+use Rattle.flight_core.specs.declared.calls.FlightStand.{FlightStand}
+use Rattle.flight_core.specs.declared.calls.FlightStand.TheVariants.{Out, Leads, Waits}
 use Rattle.protocols.specs.CondStages.{cond_event, cond_meaning}
 use Rattle.protocols.specs.GroupStages as group_stages
 use Rattle.protocols.specs.MutexStages.{mutex_event, mutex_meaning}
@@ -53,6 +61,7 @@ use Rattle.protocols.specs.declared.rw_mutex.RwMutexStage.TheVariants as rw_stag
 use Rattle.protocols.specs.declared.step.Step.{Step}
 use Rattle.protocols.specs.declared.wait_group.GroupStage.{GroupStage}
 use Rattle.run_record.specs.AtomicKind.{adds}
+use Rattle.run_record.specs.FlightKind.{flight_part, was_shared}
 use Rattle.run_record.specs.MapKind.{cursor_showing}
 use Rattle.run_record.specs.MutexKind.{mutex_stage as mutex_first}
 use Rattle.run_record.specs.Objects.{map_number, atomic_number, first_part}
@@ -61,6 +70,7 @@ use Rattle.run_record.specs.Parts.{Part, and_then, read_as, returns, stages}
 use Rattle.run_record.specs.PoolKind as record_pool
 use Rattle.run_record.specs.Record.{object_number}
 use Rattle.run_record.specs.RwMutexKind.{rw_part, write_part}
+use Rattle.run_record.specs.SemaKind.{sema_part}
 use Rattle.run_record.specs.StartsKind.{go_call}
 use Rattle.run_record.specs.WaitGroupKind.{wait_group_part, wait_group_call}
 use Rattle.run_record.specs.declared.entered.ObjectEvent.{ObjectEvent}
@@ -73,14 +83,14 @@ use Rattle.workload.specs.Keys.{keys_in, key_number}
 use Rattle.workload.specs.Plan.{Plan, has_call, reference_of}
 use Rattle.step_runner.specs.declared.turns.object_state.ObjectState.{ObjectState}
 use Rattle.step_runner.specs.declared.turns.object_state.ObjectState.TheVariants as states
-use Rattle.step_runner.specs.Due.{group_behind, group_from}
+use Rattle.step_runner.specs.Due.{group_behind, group_from, sema_behind, sema_from}
 use Rattle.step_runner.specs.Objects.{kind_of}
 use Rattle.step_runner.specs.Ready.{IsReady}
-use Rattle.step_runner.specs.Left.{mutex_waits, rw_waits, rw_later, mutex_left, rw_left, group_left, cond_left, once_left, left_on, left_on_both, left_at}
+use Rattle.step_runner.specs.Left.{mutex_waits, rw_waits, rw_later, mutex_left, rw_left, group_left, sema_left, cond_left, once_left, flight_left, left_on, left_on_both, left_at}
 use Rattle.step_runner.proofs.SpeltAtObjects.{left_alone, left_referring}
 use Rattle.step_runner.proofs.PlacedSpelled.{places}
 use Rattle.step_runner.proofs.Spelled.{refused}
-use Rattle.step_runner.proofs.TurnOwn.{Pair, only_pairs, cond_refers, once_refers, wait_for_alone, go_alone}
+use Rattle.step_runner.proofs.TurnOwn.{Pair, only_pairs, cond_refers, once_refers, fly_refers, wait_for_alone, go_alone}
 use Rattle.step_runner.proofs.Refuted.{no}
 
 -- some items spell it
@@ -129,6 +139,9 @@ group_can : (object : ℕ) (call : WaitGroupCall) (behind : Option GroupStage) �
 group_can object call behind =
     read_halts (λ done. replies.Returned) (wait_group_part object (group_from call behind)) (stage_halts events.WaitGroup answered.WaitGroup group_stages.group_event group_stages.group_meaning object (group_from call behind))
 
+sema_can : (object : ℕ) (call : SemaCall) (behind : Option SemaStage) → CanHalt (sema_left object call behind)
+sema_can object call behind = read_halts replies.Lock (sema_part object (sema_from call behind)) (stage_halts events.Sema answered.Sema sema_event sema_meaning object (sema_from call behind))
+
 -- a `go`, whose `add` is refused
 pub go_can : (group starts worker : ℕ) → CanBe (go_call group starts worker)
 go_can group starts worker = halted (go_call group starts worker) (then_halts (wait_group_call group (group_calls.Add (pos 1))) _ (group_can group (group_calls.Add (pos 1)) None))
@@ -148,6 +161,14 @@ once_can event answer object function ran returned value made is true false =
     let ends = read_halts (λ ended. ran value) (stages event answer once_event once_meaning object (once_stage.End value)) (stage_halts event answer once_event once_meaning object (once_stage.End value)) in
     (made ++ ends.0, (made, ends.0, Done (Ok value), refl, is, ends.1))
 once_can event answer object function ran returned value made is false false = then_halts (stages event answer once_event once_meaning object once_stage.Begin) _ (stage_halts event answer once_event once_meaning object once_stage.Begin)
+
+-- of flights whose function can be run
+flight_can : (object : ℕ) (function : Part ℤ) (key : ℕ) (value : ℤ) (made : List Made) → function made (Done (Ok value)) → (at : FlightStand) → CanHalt (flight_left (flight_part object) function key at)
+flight_can object function key value made is Out = then_halts (flight_part object (flight_stage.Join key)) _ (stage_halts events.Flight answered.Flight flight_event flight_meaning object (flight_stage.Join key))
+flight_can object function key value made is Leads =
+    let lands = read_halts (λ outcome. replies.Flown value (was_shared outcome)) (flight_part object (flight_stage.Land value)) (stage_halts events.Flight answered.Flight flight_event flight_meaning object (flight_stage.Land value)) in
+    (made ++ lands.0, (made, lands.0, Done (Ok value), refl, is, lands.1))
+flight_can object function key value made is Waits = then_halts (flight_part object flight_stage.Leave) _ (stage_halts events.Flight answered.Flight flight_event flight_meaning object flight_stage.Leave)
 
 found_can : (worker first : ℕ) (looks : List (PoolEvent ℕ)) → CanBe (record_pool.found_by worker first looks)
 found_can worker first [] = ([], _, (refl, refl))
@@ -172,6 +193,7 @@ module _ (plan : Plan) (x before place : ℕ) where
   on_can (operations.Mutex call) (states.Mutex m) has alone plain = halted (mutex_left (object_number place) call (mutex_waits (mutex.place_of m x))) (mutex_can (object_number place) call (mutex_waits (mutex.place_of m x)))
   on_can (operations.RwMutex call) (states.RwMutex m) has alone plain = halted (rw_left (object_number place) call (rw_waits (rw.place_of m x))) (rw_can (object_number place) call (rw_waits (rw.place_of m x)))
   on_can (operations.WaitGroup call) (states.WaitGroup g first) has alone plain = halted (group_left (object_number place) call (group_behind g x)) (group_can (object_number place) call (group_behind g x))
+  on_can (operations.Sema call) (states.Sema s size) has alone plain = halted (sema_left (object_number place) call (sema_behind s x)) (sema_can (object_number place) call (sema_behind s x))
   on_can operations.OnceFunc (states.OnceFunc o code) has alone plain =
       halted (left_on plan x before place operations.OnceFunc (states.OnceFunc o code))
       (once_can events.OnceFunc answered.OnceFunc (object_number place) (returns code) (λ kept. replies.OnceFunc (failure kept)) (λ kept. replies.OnceFunc (failure kept)) code [] (refl, refl) (once_standing.runs_at o x) (once_standing.waits_at o x))
@@ -185,6 +207,7 @@ module _ (plan : Plan) (x before place : ℕ) where
   on_can (operations.Pool pool_calls.Get) (states.Pool p) has alone plain = found_can x (first_part plan place) (record_pool.looks_of plan.workers x)
   on_can (operations.Cond call) o has alone plain = absurd (cond_refers o call has alone)
   on_can operations.Once o has alone plain = absurd (once_refers o has alone)
+  on_can (operations.Fly key) o has alone plain = absurd (fly_refers o key has alone)
   on_can (operations.Composed (WaitFor atomic value tries)) o has alone plain = absurd (wait_for_alone o atomic tries value has)
   on_can (operations.Composed (Go started)) o has alone plain = absurd (go_alone o started has)
   on_can (operations.Var call) o has alone plain = no (sym plain)
@@ -197,6 +220,10 @@ module _ (plan : Plan) (x before place : ℕ) where
       halted (left_on_both plan x before place other operations.Once (states.Once o at delta) (states.Atomic (Int64 held)))
       (once_can events.Once answered.Once (object_number place) (adds (atomic_number plan.objects other) delta) (λ sum. replies.Once (do_replies.Ran sum)) (λ kept. replies.Once do_replies.Done) held _
       (held, places plan ((calls.Atomic (atomic_number plan.objects other) (Add (Int64 delta)), shared.Atomic (atomic_replies.Held (Int64 held))) ∷ []), refl) (once_standing.runs_at o x) (once_standing.waits_at o x))
+  both_can other (operations.Fly key) (states.Flight f keys at delta) (states.Atomic (Int64 held)) pair =
+      halted (left_on_both plan x before place other (operations.Fly key) (states.Flight f keys at delta) (states.Atomic (Int64 held)))
+      (flight_can (object_number place) (adds (atomic_number plan.objects other) delta) (key_number (keys_in plan.scripts) key) held _
+      (held, places plan ((calls.Atomic (atomic_number plan.objects other) (Add (Int64 delta)), shared.Atomic (atomic_replies.Held (Int64 held))) ∷ []), refl) (flight_standing.stands_at f x))
   both_can other operation o target pair = absurd pair
 
 pub left_can : (plan : Plan) (x before : ℕ) (call : Call) (objects : List ObjectState) → IsReady plan.workers x call objects → is_access_operation call.operation ≡ false → CanBe (left_at plan x before call objects)

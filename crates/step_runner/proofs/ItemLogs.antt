@@ -40,18 +40,25 @@ use Rattle.run_record.specs.declared.entered.ObjectEvent.{ObjectEvent}
 use Rattle.run_record.specs.declared.entered.ObjectEvent.TheVariants as events
 use Rattle.run_record.specs.declared.entered.ObjectReply.{ObjectReply}
 use Rattle.run_record.specs.declared.entered.ObjectReply.TheVariants as answered
+use Rattle.sema_core.specs.SemaMachine as sema
+use Rattle.sema_core.specs.SemaStages.{sema_event, sema_meaning}
+use Rattle.flight_core.specs.FlightMachine as flight
+use Rattle.flight_core.specs.FlightStages.{flight_event, flight_meaning}
+use Rattle.flight_core.specs.declared.calls.FlightOutcome.{FlightOutcome}
+use Rattle.flight_core.specs.declared.calls.FlightOutcome.TheVariants.{Lead, Got, Landed}
+use Rattle.workload.specs.Keys.{key_number}
 use Rattle.step_runner.specs.declared.turns.answer.Answer.{Answer}
 use Rattle.step_runner.specs.declared.turns.object_state.ObjectState.{ObjectState}
 use Rattle.step_runner.specs.declared.turns.object_state.ObjectState.TheVariants as states
 use Rattle.step_runner.specs.LeadsTo.{on_object, told_in, told_by, FollowsTo, CallsTo, MapGoes, AtomicGoes, LeadsTo, VarGoes}
-use Rattle.step_runner.specs.Due.{mutex_due, rw_due, group_due, cond_due, once_due, looks_of}
+use Rattle.step_runner.specs.Due.{mutex_due, rw_due, group_due, cond_due, once_due, looks_of, sema_due, flight_due}
 use Rattle.step_runner.specs.declared.turns.item.Deed.{Deed}
 use Rattle.step_runner.specs.declared.turns.item.Item.{Item}
-use Rattle.step_runner.specs.Items.{stage_items, once_items, pool_item, unless_found, look_items, pool_items, items_on, add_items, items_on_both, items_at}
+use Rattle.step_runner.specs.Items.{stage_items, once_items, pool_item, unless_found, look_items, pool_items, items_on, add_items, items_on_both, items_at, landed_items, flight_items}
 use Rattle.step_runner.specs.PoolTurn.{looked, found_or, found_by, pool_step}
 use Rattle.step_runner.specs.Ready.{IsReady}
 use Rattle.step_runner.specs.Stages.{make}
-use Rattle.step_runner.specs.TurnAtObjects.{once_made, turn_on, turn_on_both, number_after, turn_at}
+use Rattle.step_runner.specs.TurnAtObjects.{once_made, turn_on, turn_on_both, number_after, turn_at, flight_made, number_landed}
 use Rattle.step_runner.proofs.AtObjects.{at_ready}
 use Rattle.step_runner.proofs.CallAt.{items_alone, items_referring}
 
@@ -91,6 +98,8 @@ comes_nowhere (states.Once o place delta) = ([], refl, tt, refl)
 comes_nowhere (states.OnceFunc o code) = ([], refl, tt, refl)
 comes_nowhere (states.OnceValue o value) = ([], refl, tt, refl)
 comes_nowhere (states.Pool p) = ([], refl, tt, refl)
+comes_nowhere (states.Sema s size) = ([], refl, tt, refl)
+comes_nowhere (states.Flight f keys place delta) = ([], refl, tt, refl)
 comes_nowhere (states.Var held) = refl
 
 pub comes_on : (a b c : ObjectState) (one two : List Item) → LeadsTo a one b → LeadsTo b two c → LeadsTo a (one ++ two) c
@@ -104,6 +113,8 @@ comes_on (states.Once l p d) (states.Once m q e) (states.Once n r f) one two fir
 comes_on (states.OnceFunc l p) (states.OnceFunc m q) (states.OnceFunc n r) one two first later = join_logs events.OnceFunc answered.OnceFunc once.next l m n one two first later
 comes_on (states.OnceValue l p) (states.OnceValue m q) (states.OnceValue n r) one two first later = join_logs events.OnceValue answered.OnceValue once.next l m n one two first later
 comes_on (states.Pool l) (states.Pool m) (states.Pool n) one two first later = join_logs events.Pool answered.Pool pool.next l m n one two first later
+comes_on (states.Sema l p) (states.Sema m q) (states.Sema n r) one two first later = join_logs events.Sema answered.Sema sema.next l m n one two first later
+comes_on (states.Flight l k p d) (states.Flight m h q e) (states.Flight n j r g) one two first later = join_logs events.Flight answered.Flight flight.next l m n one two first later
 comes_on (states.Var l) (states.Var m) (states.Var n) one two first later = join_calls VarGoes l m n one two first later
 comes_on (states.Map m) (states.Map n) c one two first later = absurd later
 comes_on (states.Map m) b c one two first later = absurd first
@@ -125,6 +136,10 @@ comes_on (states.OnceValue m p) (states.OnceValue n q) c one two first later = a
 comes_on (states.OnceValue m p) b c one two first later = absurd first
 comes_on (states.Pool m) (states.Pool n) c one two first later = absurd later
 comes_on (states.Pool m) b c one two first later = absurd first
+comes_on (states.Sema m p) (states.Sema n q) c one two first later = absurd later
+comes_on (states.Sema m p) b c one two first later = absurd first
+comes_on (states.Flight m k p d) (states.Flight n h q e) c one two first later = absurd later
+comes_on (states.Flight m k p d) b c one two first later = absurd first
 comes_on (states.Var m) (states.Var n) c one two first later = absurd later
 comes_on (states.Var m) b c one two first later = absurd first
 
@@ -171,6 +186,7 @@ on_comes (operations.Composed (IfEqual value passes)) worker moment object (stat
 on_comes (operations.Mutex call) worker moment object (states.Mutex m) = stage_comes events.Mutex answered.Mutex mutex.next mutex_event mutex_meaning worker moment object (mutex_due call (mutex.place_of m worker)) m
 on_comes (operations.RwMutex call) worker moment object (states.RwMutex m) = stage_comes events.RwMutex answered.RwMutex rw.next rw_event rw_meaning worker moment object (rw_due call (rw.place_of m worker)) m
 on_comes (operations.WaitGroup call) worker moment object (states.WaitGroup g first) = stage_comes events.WaitGroup answered.WaitGroup group.next group_event group_meaning worker moment object (group_due call (group.place_of g worker)) g
+on_comes (operations.Sema call) worker moment object (states.Sema s size) = stage_comes events.Sema answered.Sema sema.next sema_event sema_meaning worker moment object (sema_due call (sema.place_of s worker)) s
 on_comes operations.OnceFunc worker moment object (states.OnceFunc o code) = once_comes events.OnceFunc answered.OnceFunc worker moment object code o
 on_comes operations.OnceValue worker moment object (states.OnceValue o value) = once_comes events.OnceValue answered.OnceValue worker moment object value o
 on_comes (operations.Pool call) worker moment object (states.Pool p) = pool_comes worker moment object call p
@@ -221,6 +237,7 @@ on_at (operations.Composed (IfEqual value passes)) worker moment object (states.
 on_at (operations.Mutex call) worker moment object (states.Mutex m) = stage_at events.Mutex answered.Mutex mutex.next mutex_event worker moment object (mutex_due call (mutex.place_of m worker)) m
 on_at (operations.RwMutex call) worker moment object (states.RwMutex m) = stage_at events.RwMutex answered.RwMutex rw.next rw_event worker moment object (rw_due call (rw.place_of m worker)) m
 on_at (operations.WaitGroup call) worker moment object (states.WaitGroup g first) = stage_at events.WaitGroup answered.WaitGroup group.next group_event worker moment object (group_due call (group.place_of g worker)) g
+on_at (operations.Sema call) worker moment object (states.Sema s size) = stage_at events.Sema answered.Sema sema.next sema_event worker moment object (sema_due call (sema.place_of s worker)) s
 on_at operations.OnceFunc worker moment object (states.OnceFunc o code) = stage_at events.OnceFunc answered.OnceFunc once.next once_event worker moment object (once_due code (runs_at o worker) (once.place_of o worker)) o
 on_at operations.OnceValue worker moment object (states.OnceValue o value) = stage_at events.OnceValue answered.OnceValue once.next once_event worker moment object (once_due value (runs_at o worker) (once.place_of o worker)) o
 on_at (operations.Pool call) worker moment object (states.Pool p) = pool_at worker moment object call p
@@ -275,6 +292,34 @@ sum_comes worker moment object other k o place delta (Int64 held) apart =
     (stage_at events.Once answered.Once once.next once_event worker moment object (once_due sum (runs_at o worker) (once.place_of o worker)) o) (add_comes worker other delta held made) (once_comes events.Once answered.Once worker moment object sum o))
 sum_comes worker moment object other k o place delta number apart = none_made object other k (states.Once o place delta) (states.Atomic number)
 
+landed_at : (worker other : ℕ) (delta : ℤ) (number : Number) (made : Result FlightOutcome Answer) → AllAt other (landed_items worker other delta number made)
+landed_at worker other delta number (Ok (Landed shared)) = (refl, tt)
+landed_at worker other delta number (Ok Lead) = tt
+landed_at worker other delta number (Ok (Got value)) = tt
+landed_at worker other delta number (Err answer) = tt
+
+landed_comes : (worker other : ℕ) (delta held : ℤ) (made : Result FlightOutcome Answer)
+    → LeadsTo (states.Atomic (Int64 held)) (landed_items worker other delta (Int64 held) made) (states.Atomic (number_landed made (Int64 (int_wrapping_add w64 held delta)) (Int64 held)))
+landed_comes worker other delta held (Ok (Landed shared)) = (operations.Atomic (Add (Int64 delta)), _, _, refl, (refl, refl), refl)
+landed_comes worker other delta held (Ok Lead) = refl
+landed_comes worker other delta held (Ok (Got value)) = refl
+landed_comes worker other delta held (Err answer) = refl
+
+fly_comes : (key : List ℕ) (worker moment object other k : ℕ) (f : flight.FlightState) (keys : List (List ℕ)) (place : ℕ) (delta : ℤ) (number : Number) → other ≢ object
+    → Both object other k (states.Flight f keys place delta) (states.Atomic number) (turn_on_both (operations.Fly key) worker moment (states.Flight f keys place delta) (states.Atomic number)).0 (items_on_both (operations.Fly key) worker moment object other (states.Flight f keys place delta) (states.Atomic number))
+fly_comes key worker moment object other k f keys place delta (Int64 held) apart =
+    let sum = int_wrapping_add w64 held delta in
+    let due = flight_due (key_number keys key) sum (flight.place_of f worker) in
+    let made = flight_made worker moment (key_number keys key) sum f in
+    let n = states.Flight made.0 keys place delta in
+    let t = states.Atomic (number_landed made.1 (Int64 sum) (Int64 held)) in
+    let adds = landed_items worker other delta (Int64 held) made.1 in
+    let rest = flight_items worker moment object (key_number keys key) sum f in
+    swapped object other k (states.Flight f keys place delta) (states.Atomic (Int64 held)) n t (adds ++ rest)
+    (two_parts other object k (states.Atomic (Int64 held)) (states.Flight f keys place delta) t n adds rest (λ same. apart (sym same)) (landed_at worker other delta (Int64 held) made.1)
+    (stage_at events.Flight answered.Flight flight.next flight_event worker moment object due f) (landed_comes worker other delta held made.1) (stage_comes events.Flight answered.Flight flight.next flight_event flight_meaning worker moment object due f))
+fly_comes key worker moment object other k f keys place delta number apart = none_made object other k (states.Flight f keys place delta) (states.Atomic number)
+
 both_come : (operation : Operation) (worker moment object other k : ℕ) (o target : ObjectState) → other ≢ object
     → Both object other k o target (turn_on_both operation worker moment o target).0 (items_on_both operation worker moment object other o target)
 both_come (operations.Cond call) worker moment object other k (states.Cond c place) (states.Mutex m) apart =
@@ -284,6 +329,7 @@ both_come (operations.Cond call) worker moment object other k (states.Cond c pla
     (stage_at events.Cond answered.Cond notify.next cond_event worker moment object due.0 c) (stage_at events.Mutex answered.Mutex mutex.next mutex_event worker moment other due.1 m)
     (stage_comes events.Cond answered.Cond notify.next cond_event cond_meaning worker moment object due.0 c) (stage_comes events.Mutex answered.Mutex mutex.next mutex_event mutex_meaning worker moment other due.1 m)
 both_come operations.Once worker moment object other k (states.Once o place delta) (states.Atomic number) apart = sum_comes worker moment object other k o place delta number apart
+both_come (operations.Fly key) worker moment object other k (states.Flight f keys place delta) (states.Atomic number) apart = fly_comes key worker moment object other k f keys place delta number apart
 both_come operation worker moment object other k o target apart = none_made object other k o target
 
 -- ---- at all objects

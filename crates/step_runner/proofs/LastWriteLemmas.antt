@@ -17,6 +17,7 @@ use Rattle.script_calls.specs.declared.outcome.Report.{Report}
 use Rattle.workload.specs.Dialect.{is_variable, has_variables}
 use Rattle.workload.specs.Plan.{Plan}
 use Rattle.workload.specs.Puts.{puts_at}
+use Rattle.workload.specs.Keys.{keys_in}
 use Rattle.step_runner.specs.Computed.{whole_run, outcome_of, turns, variables_left}
 use Rattle.step_runner.specs.Ends.{variables_of, variables_from, variables_behind}
 use Rattle.step_runner.specs.LastWrites.{written_by, written_to, last_or, variable_at, variable_places, last_written}
@@ -43,6 +44,8 @@ one_write (operations.RwMutex call) reply first next later goes = absurd goes
 one_write (operations.Cond call) reply first next later goes = absurd goes
 one_write (operations.WaitGroup call) reply first next later goes = absurd goes
 one_write operations.Once reply first next later goes = absurd goes
+one_write (operations.Sema call) reply first next later goes = absurd goes
+one_write (operations.Fly key) reply first next later goes = absurd goes
 one_write operations.OnceFunc reply first next later goes = absurd goes
 one_write operations.OnceValue reply first next later goes = absurd goes
 one_write (operations.Pool call) reply first next later goes = absurd goes
@@ -56,18 +59,20 @@ calls_write (item ∷ made) first last (operation, reply, next, deed, goes, rest
     ∙ ap (λ done. last_or first (written_by done ++ flat_map (λ item. written_by item.deed) made)) (sym deed)
 
 -- an object that is a variable at last was one at first, which held 0
-pub variable_writes : (workers room : ℕ) (kind : ObjectKind) (made : List Item) (last : ℕ) → LeadsTo (new_object workers room kind) made (states.Var last) → last ≡ last_or 0 (flat_map (λ item. written_by item.deed) made)
-variable_writes workers room kinds.Var made last leads = calls_write made 0 last leads
-variable_writes workers room kinds.Map made last leads = absurd leads
-variable_writes workers room (kinds.Atomic kind) made last leads = absurd leads
-variable_writes workers room kinds.Mutex made last leads = absurd leads
-variable_writes workers room kinds.RwMutex made last leads = absurd leads
-variable_writes workers room (kinds.Cond place) made last leads = absurd leads
-variable_writes workers room (kinds.WaitGroup first) made last leads = absurd leads
-variable_writes workers room (kinds.Once place delta) made last leads = absurd leads
-variable_writes workers room (kinds.OnceFunc code) made last leads = absurd leads
-variable_writes workers room (kinds.OnceValue value) made last leads = absurd leads
-variable_writes workers room kinds.Pool made last leads = absurd leads
+pub variable_writes : (workers room : ℕ) (keys : List (List ℕ)) (kind : ObjectKind) (made : List Item) (last : ℕ) → LeadsTo (new_object workers room keys kind) made (states.Var last) → last ≡ last_or 0 (flat_map (λ item. written_by item.deed) made)
+variable_writes workers room keys kinds.Var made last leads = calls_write made 0 last leads
+variable_writes workers room keys kinds.Map made last leads = absurd leads
+variable_writes workers room keys (kinds.Atomic kind) made last leads = absurd leads
+variable_writes workers room keys kinds.Mutex made last leads = absurd leads
+variable_writes workers room keys kinds.RwMutex made last leads = absurd leads
+variable_writes workers room keys (kinds.Cond place) made last leads = absurd leads
+variable_writes workers room keys (kinds.WaitGroup first) made last leads = absurd leads
+variable_writes workers room keys (kinds.Once place delta) made last leads = absurd leads
+variable_writes workers room keys (kinds.OnceFunc code) made last leads = absurd leads
+variable_writes workers room keys (kinds.OnceValue value) made last leads = absurd leads
+variable_writes workers room keys kinds.Pool made last leads = absurd leads
+variable_writes workers room keys (kinds.Sema size) made last leads = absurd leads
+variable_writes workers room keys (kinds.Flight place delta) made last leads = absurd leads
 
 -- ---- of all variables
 
@@ -87,6 +92,8 @@ module _ (made : List Item) where
   one_end place (states.OnceFunc o code) is = refl
   one_end place (states.OnceValue o value) is = refl
   one_end place (states.Pool p) is = refl
+  one_end place (states.Sema s size) is = refl
+  one_end place (states.Flight f keys other delta) is = refl
 
   pub all_ends : (place : ℕ) (lines : List ObjectLine) (objects : List ObjectState) → map kind_of objects ≡ map (λ line. line.kind) lines
       → ((k value : ℕ) → slice_get objects k ≡ Some (states.Var value) → value ≡ last_or 0 (written_to (k + place) made))
@@ -126,7 +133,7 @@ objects_end plan made objects kinds leads =
     (λ (k value : ℕ) (at : slice_get objects k ≡ Some (states.Var value)).
     let line = line_there plan.objects objects k (states.Var value) kinds at in
     subst (λ p. value ≡ last_or 0 (written_to p made)) (omega arith)
-    (variable_writes plan.workers (puts_at k plan.scripts) line.0.kind (on_object k made) value (leads k line.0 (states.Var value) line.1 at)))
+    (variable_writes plan.workers (puts_at k plan.scripts) (keys_in plan.scripts) line.0.kind (on_object k made) value (leads k line.0 (states.Var value) line.1 at)))
 
 done_ending : (plan : Plan) (x : State × Ending) (report : Report) → outcome_of plan x ≡ outcomes.Done report → x.1 ≡ endings.Done
 done_ending plan (s, endings.Done) report is = refl
@@ -152,6 +159,8 @@ no_place place (kinds.Once other delta) none = refl
 no_place place (kinds.OnceFunc code) none = refl
 no_place place (kinds.OnceValue value) none = refl
 no_place place kinds.Pool none = refl
+no_place place (kinds.Sema size) none = refl
+no_place place (kinds.Flight other delta) none = refl
 
 none_there : (place : ℕ) (lines : List ObjectLine) → list_any (λ line. is_variable line.kind) lines ≡ false → variable_places place lines ≡ []
 none_there place [] none = refl

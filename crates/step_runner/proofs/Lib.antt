@@ -11,6 +11,9 @@ mod NotedLemmas
 mod TraceLaws
 mod TraceLemmas
 mod TraceReplies
+mod FlightEnds
+mod FlightSpelled
+mod FlightTurns
 mod OnceEnds
 mod OneTurnCalls
 mod Numbered

@@ -14,11 +14,15 @@ use Rattle.wait_cores.specs.NotifyMachine as notify
 use Rattle.wait_cores.specs.GroupMachine as group
 use Rattle.wait_cores.specs.OnceMachine as once
 use Rattle.pool_core.specs.PoolMachine as pool
+use Rattle.sema_core.specs.SemaMachine as sema
+use Rattle.sema_core.specs.declared.event.SemaEvent.{SemaEvent}
+use Rattle.flight_core.specs.FlightMachine as flight
+use Rattle.flight_core.specs.declared.event.FlightEvent.{FlightEvent}
 use Rattle.wait_cores.specs.declared.notify.NotifyEvent.{NotifyEvent}
 use Rattle.wait_cores.specs.declared.group.GroupEvent.{GroupEvent}
 use Rattle.wait_cores.specs.declared.once.OnceEvent.{OnceEvent}
 use Rattle.pool_core.specs.declared.pool_event.PoolEvent.{PoolEvent}
-use Rattle.step_runner.specs.MachinesStand.{GroupTurns, OnceUses}
+use Rattle.step_runner.specs.MachinesStand.{GroupTurns, SemaTurns, OnceUses, FlightStands}
 
 -- ---- their states stay valid, and their callers the same
 
@@ -40,6 +44,8 @@ pub record Laws : Type 0 where
   pub groups : (g : group.GroupState) (c : ℕ) (e : GroupEvent) → group.callers_of (group.next g c e).0 ≡ group.callers_of g
   pub adding : OnceLaw ℤ
   pub giving : OnceLaw ℕ
+  pub semas : (s : sema.SemaState) (c : ℕ) (e : SemaEvent) → sema.callers_of (sema.next s c e).0 ≡ sema.callers_of s
+  pub flights : (f : flight.FlightState) (c : ℕ) (e : FlightEvent) → flight.callers_of (flight.next f c e).0 ≡ flight.callers_of f
   pub pools : (p : pool.PoolState ℕ) (c n : ℕ) (e : PoolEvent ℕ) → length p.primary ≡ n → length p.victims ≡ n
       → (length (pool.next p c e).0.primary ≡ n) × (length (pool.next p c e).0.victims ≡ n)
 
@@ -66,3 +72,5 @@ pub record Uses : Type 0 where
   pub groups : GroupTurns
   pub adding : OnceUses ℤ
   pub giving : OnceUses ℕ
+  pub semas : SemaTurns
+  pub flights : FlightStands

@@ -44,6 +44,7 @@ module _ {K L : Type 0} (rename : K → L) (most : ℕ) where
   same_pairs (replies.Once reply) = refl
   same_pairs (replies.OnceFunc code) = refl
   same_pairs (replies.OnceValue value) = refl
+  same_pairs (replies.Flown value shared) = refl
   same_pairs (replies.Pool reply) = refl
   same_pairs (replies.Var reply) = refl
 

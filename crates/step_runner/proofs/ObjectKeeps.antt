@@ -16,6 +16,12 @@ use Rattle.rw_core.specs.RwMachine as rw
 use Rattle.wait_cores.specs.NotifyMachine as notify
 use Rattle.wait_cores.specs.GroupMachine as group
 use Rattle.wait_cores.specs.OnceMachine as once
+use Rattle.sema_core.specs.SemaMachine as sema
+use Rattle.sema_core.specs.SemaStages.{sema_event, sema_meaning}
+use Rattle.flight_core.specs.FlightMachine as flight
+use Rattle.flight_core.specs.FlightStages.{flight_event, flight_meaning}
+use Rattle.flight_core.specs.declared.calls.FlightOutcome.{FlightOutcome}
+use Rattle.flight_core.specs.declared.calls.FlightOutcome.TheVariants.{Landed}
 use Rattle.protocols.specs.declared.cond.CondStage.{CondStage}
 use Rattle.protocols.specs.CondStages.{cond_event, cond_meaning}
 use Rattle.protocols.specs.MutexStages.{mutex_event, mutex_meaning}
@@ -24,20 +30,21 @@ use Rattle.protocols.specs.declared.once.OnceOutcome.{OnceOutcome}
 use Rattle.protocols.specs.declared.once.OnceOutcome.TheVariants.{Ended}
 use Rattle.workload.specs.declared.object.ObjectKind.{ObjectKind}
 use Rattle.workload.specs.declared.object.ObjectKind.TheVariants as kinds
+use Rattle.workload.specs.Keys.{key_number}
 use Rattle.workload.specs.Plan.{has_call, is_target, reference_of}
 use Rattle.step_runner.specs.declared.turns.answer.Answer.{Answer}
 use Rattle.step_runner.specs.declared.turns.object_state.ObjectState.{ObjectState}
 use Rattle.step_runner.specs.declared.turns.object_state.ObjectState.TheVariants as states
 use Rattle.step_runner.specs.Objects.{kind_of, IsMachineOf, EachAt}
-use Rattle.step_runner.specs.Due.{mutex_due, rw_due, group_due, cond_due}
+use Rattle.step_runner.specs.Due.{mutex_due, rw_due, group_due, sema_due, cond_due, flight_due}
 use Rattle.step_runner.specs.Ready.{IsReady}
 use Rattle.step_runner.specs.Stages.{make}
-use Rattle.step_runner.specs.TurnAtObjects.{once_made, number_after, turn_on, turn_on_both, turn_at}
+use Rattle.step_runner.specs.TurnAtObjects.{once_made, number_after, flight_made, number_landed, turn_on, turn_on_both, turn_at}
 use Rattle.step_runner.proofs.AtObjects.{at_ready, each_set}
 use Rattle.step_runner.proofs.AtomicTypes.{after_type}
 use Rattle.step_runner.proofs.MachineLaws.{OnceLaw, Laws}
 use Rattle.step_runner.proofs.SpeltAtObjects.{set_there}
-use Rattle.step_runner.proofs.Makes.{mutex_keeps, rw_keeps, group_keeps, cond_keeps, once_keeps, pool_keeps}
+use Rattle.step_runner.proofs.Makes.{make_keeps, mutex_keeps, rw_keeps, group_keeps, cond_keeps, once_keeps, pool_keeps}
 use Rattle.step_runner.proofs.Writes.{get_other}
 
 pub record Keeps (workers : ℕ) (old new : ObjectState) : Type 0 where
@@ -71,6 +78,8 @@ turn_keeps laws workers (operations.RwMutex call) worker moment (states.RwMutex 
 }
 turn_keeps laws workers (operations.WaitGroup call) worker moment (states.WaitGroup g first) has =
     record { kind = refl; machine = group_keeps worker moment (λ g. group.callers_of g ≡ workers) (λ g e h. laws.groups g worker e ∙ h) (group_due call (group.place_of g worker)) g }
+turn_keeps laws workers (operations.Sema call) worker moment (states.Sema s size) has =
+    record { kind = refl; machine = make_keeps sema.next sema_event sema_meaning worker moment (λ s. sema.callers_of s ≡ workers) (λ s e h. laws.semas s worker e ∙ h) (sema_due call (sema.place_of s worker)) s }
 turn_keeps laws workers operations.OnceFunc worker moment (states.OnceFunc o code) has = record { kind = refl; machine = once_callers laws.giving workers worker moment code o }
 turn_keeps laws workers operations.OnceValue worker moment (states.OnceValue o value) has = record { kind = refl; machine = once_callers laws.giving workers worker moment value o }
 turn_keeps laws workers (operations.Pool call) worker moment (states.Pool p) has =
@@ -106,11 +115,29 @@ sum_keeps laws workers worker moment o place delta (Int64 held) =
     }
 sum_keeps laws workers worker moment o place delta number = both_same workers (states.Once o place delta) (states.Atomic number)
 
+-- the same of the number of a group of flights
+pub landed_any : (P : Number → Type 0) (r : Result FlightOutcome Answer) (new old : Number) → P new → P old → P (number_landed r new old)
+landed_any P (Ok (Landed shared)) new old is was = is
+landed_any P other new old is was = was
+
+fly_keeps : Laws → (workers : ℕ) (key : List ℕ) (worker moment : ℕ) (f : flight.FlightState) (keys : List (List ℕ)) (place : ℕ) (delta : ℤ) (number : Number)
+    → KeepsBoth workers (states.Flight f keys place delta) (states.Atomic number) (turn_on_both (operations.Fly key) worker moment (states.Flight f keys place delta) (states.Atomic number)).0
+fly_keeps laws workers key worker moment f keys place delta (Int64 held) =
+    let sum = int_wrapping_add w64 held delta in
+    let due = flight_due (key_number keys key) sum (flight.place_of f worker) in
+    record {
+      first = record { kind = refl; machine = make_keeps flight.next flight_event flight_meaning worker moment (λ f. flight.callers_of f ≡ workers) (λ f e h. laws.flights f worker e ∙ h) due f };
+      second = landed_any (λ number. Keeps workers (states.Atomic (Int64 held)) (states.Atomic number)) (flight_made worker moment (key_number keys key) sum f).1 (Int64 sum) (Int64 held)
+          (record { kind = refl; machine = λ h. h }) (same workers (states.Atomic (Int64 held)));
+    }
+fly_keeps laws workers key worker moment f keys place delta number = both_same workers (states.Flight f keys place delta) (states.Atomic number)
+
 both_keep : Laws → (workers : ℕ) (operation : Operation) (worker moment : ℕ) (o target : ObjectState) → KeepsBoth workers o target (turn_on_both operation worker moment o target).0
 both_keep laws workers (operations.Cond call) worker moment (states.Cond c place) (states.Mutex m) =
     let due = cond_due call (mutex.place_of m worker) (notify.place_of c worker) in
     record { first = list_keeps laws workers worker moment place due.0 c; second = record { kind = refl; machine = mutex_machine laws workers worker moment due.1 m } }
 both_keep laws workers operations.Once worker moment (states.Once o place delta) (states.Atomic number) = sum_keeps laws workers worker moment o place delta number
+both_keep laws workers (operations.Fly key) worker moment (states.Flight f keys place delta) (states.Atomic number) = fly_keeps laws workers key worker moment f keys place delta number
 both_keep laws workers operation worker moment o target = both_same workers o target
 
 -- ---- all objects

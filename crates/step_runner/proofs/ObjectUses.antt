@@ -41,6 +41,12 @@ use Rattle.wait_cores.specs.NotifyEventsLeft.{notify_left, notify_used}
 use Rattle.wait_cores.specs.NotifyMachine as notify
 use Rattle.wait_cores.specs.OnceEventsLeft.{once_left, once_used, once_given}
 use Rattle.wait_cores.specs.OnceMachine as once
+use Rattle.sema_core.specs.SemaEventsLeft.{sema_left}
+use Rattle.sema_core.specs.SemaMachine as sema
+use Rattle.sema_core.specs.SemaStages.{sema_event, sema_meaning}
+use Rattle.flight_core.specs.FlightEventsLeft.{flight_left}
+use Rattle.flight_core.specs.FlightMachine as flight
+use Rattle.flight_core.specs.declared.calls.FlightOutcome.{FlightOutcome}
 use Rattle.wait_cores.specs.OnceStanding as once_standing
 use Rattle.wait_cores.specs.declared.notify.NotifyEvent.TheVariants as notify_event
 use Rattle.wait_cores.specs.declared.notify.NotifyPlace.{NotifyPlace}
@@ -61,20 +67,22 @@ use Rattle.protocols.specs.declared.rw_mutex.RwMutexStage.{RwMutexStage}
 use Rattle.protocols.specs.declared.rw_mutex.RwMutexStage.TheVariants as rw_stage
 use Rattle.protocols.specs.declared.step.Step.{Step}
 use Rattle.run_record.specs.OnceKind.{failure}
+use Rattle.workload.specs.Keys.{key_number}
 use Rattle.step_runner.specs.declared.turns.answer.Answer.{Answer}
 use Rattle.step_runner.specs.declared.turns.answer.Answer.TheVariants as answers
 use Rattle.step_runner.specs.declared.turns.object_state.ObjectState.{ObjectState}
 use Rattle.step_runner.specs.declared.turns.object_state.ObjectState.TheVariants as states
 use Rattle.step_runner.specs.Completes.{IsCompleted}
-use Rattle.step_runner.specs.Due.{mutex_due, rw_due, locked, group_turn, group_behind, GroupFits, group_from, cond_due, waited, once_due, ran_or}
+use Rattle.step_runner.specs.Due.{mutex_due, rw_due, locked, group_turn, group_behind, GroupFits, group_from, sema_turn, sema_behind, SemaFits, sema_from, cond_due, waited, once_due, ran_or, flown}
 use Rattle.step_runner.specs.ObjectLeft.{object_left, UsesBy}
 use Rattle.step_runner.specs.Objects.{IsMachineOf}
 use Rattle.step_runner.specs.PoolTurn.{pool_step}
 use Rattle.step_runner.specs.Ready.{IsReady}
 use Rattle.step_runner.specs.Stages.{outcome_of, make, answer_by}
-use Rattle.step_runner.specs.TurnAtObjects.{once_made, number_after, cond_turn, turn_on, turn_on_both, with_object, with_both, turn_at}
+use Rattle.step_runner.specs.TurnAtObjects.{once_made, number_after, flight_made, number_landed, cond_turn, turn_on, turn_on_both, with_object, with_both, turn_at}
 use Rattle.step_runner.proofs.AtObjects.{at_ready}
 use Rattle.step_runner.proofs.CompletesLemmas.{pool_completes}
+use Rattle.step_runner.proofs.FlightTurns.{flight_uses}
 use Rattle.step_runner.proofs.KindTurns.{kind_leaves}
 use Rattle.step_runner.proofs.DueLemmas.{OfDue, each_due, OnceAnswer, mutex_answer, mutex_answers, rw_answers, once_answers}
 use Rattle.step_runner.specs.MachinesStand.{OnceUses}
@@ -272,6 +280,8 @@ turn_uses uses workers (operations.Mutex call) worker moment (states.Mutex m) be
 turn_uses uses workers (operations.RwMutex call) worker moment (states.RwMutex m) below is = rw_uses uses.rw_mutexes call worker moment m (omega (arith, below, is.1)) is.0
 turn_uses uses workers (operations.WaitGroup call) worker moment (states.WaitGroup g first) below is =
     (kind_leaves group.next group_event group_meaning group.callers_of group_turn group_behind GroupFits group_from group_left uses.groups (λ done. replies.Returned) call worker moment g (omega (arith, below, is)) (λ h. states.WaitGroup h first ≡ states.WaitGroup g first) refl).0
+turn_uses uses workers (operations.Sema call) worker moment (states.Sema s size) below is =
+    (kind_leaves sema.next sema_event sema_meaning sema.callers_of sema_turn sema_behind SemaFits sema_from sema_left uses.semas replies.Lock call worker moment s (omega (arith, below, is)) (λ h. states.Sema h size ≡ states.Sema s size) refl).0
 turn_uses uses workers operations.OnceFunc worker moment (states.OnceFunc o code) below is =
     once_uses uses.giving (replies.OnceFunc (failure code)) (λ kept. replies.OnceFunc (failure kept)) worker moment code o (omega (arith, below, is)) (λ made. states.OnceFunc made.0 code ≡ states.OnceFunc o code) refl
 turn_uses uses workers operations.OnceValue worker moment (states.OnceValue o value) below is =
@@ -331,6 +341,16 @@ sum_uses uses worker moment o place delta (Int64 held) below =
     (once_uses uses.adding (replies.Once (do_replies.Ran sum)) (λ kept. replies.Once do_replies.Done) worker moment sum o below Same (refl, refl)) (λ same. same) (omega arith)
 sum_uses uses worker moment o place delta number below = (refl, refl)
 
+fly_uses : Uses → (key : List ℕ) (worker moment : ℕ) (f : flight.FlightState) (keys : List (List ℕ)) (place : ℕ) (delta : ℤ) (number : Number) → worker < flight.callers_of f
+    → BothUse (states.Flight f keys place delta) (states.Atomic number) (turn_on_both (operations.Fly key) worker moment (states.Flight f keys place delta) (states.Atomic number))
+fly_uses uses key worker moment f keys place delta (Int64 held) below =
+    let sum = int_wrapping_add w64 held delta in
+    let made = flight_made worker moment (key_number keys key) sum f in
+    let Same : flight.FlightState × Result FlightOutcome Answer → Type 0 = λ made. (states.Flight made.0 keys place delta ≡ states.Flight f keys place delta) × (states.Atomic (number_landed made.1 (Int64 sum) (Int64 held)) ≡ states.Atomic (Int64 held)) in
+    uses_more (answer_by (flown sum) made.1) (flight_left f) (flight_left made.0) (flight_left f + 0) (flight_left made.0 + 0) (Same made) (Same made)
+    (flight_uses uses.flights worker moment (key_number keys key) sum f below Same (refl, refl)) (λ same. same) (omega arith)
+fly_uses uses key worker moment f keys place delta number below = (refl, refl)
+
 both_use : Uses → (workers : ℕ) (operation : Operation) (worker moment : ℕ) (o target : ObjectState) → worker < workers → IsMachineOf workers o → IsMachineOf workers target
     → BothUse o target (turn_on_both operation worker moment o target)
 both_use uses workers (operations.Cond cond_calls.Wait) worker moment (states.Cond c place) (states.Mutex m) below at_cond at_mutex =
@@ -338,6 +358,7 @@ both_use uses workers (operations.Cond cond_calls.Wait) worker moment (states.Co
 both_use uses workers (operations.Cond cond_calls.Signal) worker moment (states.Cond c place) (states.Mutex m) below at_cond at_mutex = omega (arith, uses.conds c worker notify_event.Signal (omega (arith, below, at_cond)))
 both_use uses workers (operations.Cond cond_calls.Broadcast) worker moment (states.Cond c place) (states.Mutex m) below at_cond at_mutex = omega (arith, uses.conds c worker notify_event.Broadcast (omega (arith, below, at_cond)))
 both_use uses workers operations.Once worker moment (states.Once o place delta) (states.Atomic number) below at_once at_number = sum_uses uses worker moment o place delta number (omega (arith, below, at_once))
+both_use uses workers (operations.Fly key) worker moment (states.Flight f keys place delta) (states.Atomic number) below at_group at_number = fly_uses uses key worker moment f keys place delta number (omega (arith, below, at_group))
 both_use uses workers operation worker moment o target below first second = (refl, refl)
 
 -- ---- all objects

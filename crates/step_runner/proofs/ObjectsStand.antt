@@ -119,7 +119,7 @@ at_other laws workers x by call moment but objects r apart out = at_ready (λ y.
     P : ℕ → ObjectState → Type 0
     P place o = (but ≡ Some place → ⊥) → IsOutAt x o
 
-pub new_out : (x workers room : ℕ) (kind : ObjectKind) → IsOutAt x (new_object workers room kind)
-new_out x workers room kinds.Mutex = refl
-new_out x workers room kinds.RwMutex = refl
-new_out x workers room kind = tt
+pub new_out : (x workers room : ℕ) (keys : List (List ℕ)) (kind : ObjectKind) → IsOutAt x (new_object workers room keys kind)
+new_out x workers room keys kinds.Mutex = refl
+new_out x workers room keys kinds.RwMutex = refl
+new_out x workers room keys kind = tt

@@ -1,5 +1,5 @@
 -- Another's turn leaves a worker's call where it is: what is left of it is the same, and so is where the worker stands.
-use Rattle.std.proofs.Common.{◌≡◌, ◌≢◌, ℕ, Bool, true, false, Option, Some, None, inl, inr, refl, sym, ap, ◌∙◌}
+use Rattle.std.proofs.Common.{◌≡◌, ◌≢◌, ℕ, Bool, true, false, List, Option, Some, None, inl, inr, refl, sym, ap, ◌∙◌}
 use Rattle.std.specs.Prelude.{ℤ, if◌then◌else◌}
 use Rattle.script_calls.specs.declared.call.ComposedCall.TheVariants.{IfEqual, WaitFor, Go}
 use Rattle.script_calls.specs.declared.call.Operation.{Operation}
@@ -30,6 +30,11 @@ use Rattle.wait_cores.specs.NotifyMachine as notify
 use Rattle.wait_cores.specs.NotifyStanding.{has_ticket}
 use Rattle.wait_cores.specs.GroupMachine as group
 use Rattle.wait_cores.specs.OnceMachine as once
+use Rattle.sema_core.specs.SemaMachine as sema
+use Rattle.sema_core.specs.SemaStages.{sema_event, sema_meaning}
+use Rattle.flight_core.specs.FlightMachine as flight
+use Rattle.flight_core.specs.FlightStages.{flight_event, flight_meaning}
+use Rattle.flight_core.specs.FlightStanding as flight_standing
 use Rattle.wait_cores.specs.OnceStanding as once_standing
 use Rattle.protocols.specs.CondStages.{cond_event, cond_meaning}
 use Rattle.protocols.specs.GroupStages.{group_event, group_meaning}
@@ -41,20 +46,22 @@ use Rattle.protocols.specs.declared.step.Step.{Step}
 use Rattle.run_record.specs.AtomicKind.{adds}
 use Rattle.run_record.specs.Objects.{atomic_number}
 use Rattle.run_record.specs.CondKind.{cond_call}
+use Rattle.run_record.specs.FlightKind.{flight_part, fly_call}
 use Rattle.run_record.specs.OnceKind.{do_call, failure}
 use Rattle.run_record.specs.Parts.{returns, stages}
 use Rattle.run_record.specs.Record.{object_number}
 use Rattle.run_record.specs.Tests.{wait_for_call}
 use Rattle.run_record.specs.declared.entered.ObjectEvent.TheVariants as events
 use Rattle.run_record.specs.declared.entered.ObjectReply.TheVariants as answered
+use Rattle.workload.specs.Keys.{keys_in, key_number}
 use Rattle.workload.specs.Plan.{Plan}
 use Rattle.step_runner.specs.declared.turns.object_state.ObjectState.{ObjectState}
 use Rattle.step_runner.specs.declared.turns.object_state.ObjectState.TheVariants as states
-use Rattle.step_runner.specs.Due.{mutex_due, rw_due, group_turn, group_behind, cond_due, once_due}
+use Rattle.step_runner.specs.Due.{mutex_due, rw_due, group_turn, group_behind, sema_turn, sema_behind, cond_due, once_due, flight_due}
 use Rattle.step_runner.specs.Objects.{IsMachineOf}
 use Rattle.step_runner.specs.Stages.{make}
-use Rattle.step_runner.specs.TurnAtObjects.{once_made, turn_on, turn_on_both}
-use Rattle.step_runner.specs.Left.{mutex_waits, rw_waits, mutex_left, rw_left, group_left, cond_left, once_left, left_on, left_on_both}
+use Rattle.step_runner.specs.TurnAtObjects.{once_made, flight_made, turn_on, turn_on_both}
+use Rattle.step_runner.specs.Left.{mutex_waits, rw_waits, mutex_left, rw_left, group_left, sema_left, cond_left, once_left, flight_left, left_on, left_on_both}
 use Rattle.step_runner.specs.Within.{IsIdle, StandsAtRw, StandsAtOnce, StandsOn, StandsOnBoth}
 use Rattle.step_runner.specs.MachinesStand.{MutexStands, OnceStands}
 use Rattle.step_runner.proofs.SpellingLaws.{Laws}
@@ -137,6 +144,8 @@ Same x (states.Once m place delta) (states.Once n other amount) = ((once_standin
 Same x (states.OnceFunc m code) (states.OnceFunc n other) = ((once_standing.runs_at n x ≡ once_standing.runs_at m x) × (once_standing.waits_at n x ≡ once_standing.waits_at m x)) × (other ≡ code)
 Same x (states.OnceValue m value) (states.OnceValue n other) = ((once_standing.runs_at n x ≡ once_standing.runs_at m x) × (once_standing.waits_at n x ≡ once_standing.waits_at m x)) × (other ≡ value)
 Same x (states.Pool m) (states.Pool n) = Unit {0}
+Same x (states.Sema m size) (states.Sema n other) = (sema_behind n x ≡ sema_behind m x) × (other ≡ size)
+Same x (states.Flight m keys place delta) (states.Flight n later other amount) = (flight_standing.stands_at n x ≡ flight_standing.stands_at m x) × ((other ≡ place) × (amount ≡ delta))
 Same x (states.Var m) (states.Var n) = Unit {0}
 Same x o n = ⊥
 
@@ -151,6 +160,8 @@ same_self x (states.Once m place delta) = ((refl, refl), (refl, refl))
 same_self x (states.OnceFunc m code) = ((refl, refl), refl)
 same_self x (states.OnceValue m value) = ((refl, refl), refl)
 same_self x (states.Pool m) = tt
+same_self x (states.Sema m size) = (refl, refl)
+same_self x (states.Flight m keys place delta) = (refl, (refl, refl))
 same_self x (states.Var m) = tt
 
 -- ---- another's turn
@@ -194,6 +205,8 @@ module _ (laws : Laws) (x by moment : ℕ) (apart : x ≢ by) where
       (refl, λ call stands. stands) (λ e. (rw_same e (rw.place_of m x) (rw.place_of (rw.next m by e).0 x) (laws.machines.rw_mutexes.others m x by e is.0 apart), sides m e is.0))
   turn_same workers (operations.WaitGroup call) (states.WaitGroup g first) is =
       (made_kept group.next group_event group_meaning by moment (λ n. group_behind n x ≡ group_behind g x) (group_turn call g by) g refl (λ e. laws.machines.groups.others g x by e apart), refl)
+  turn_same workers (operations.Sema call) (states.Sema s size) is =
+      (made_kept sema.next sema_event sema_meaning by moment (λ n. sema_behind n x ≡ sema_behind s x) (sema_turn call s by) s refl (λ e. laws.machines.semas.others s x by e apart), refl)
   turn_same workers operations.OnceFunc (states.OnceFunc o code) is = (once_same laws.machines.giving code o, refl)
   turn_same workers operations.OnceValue (states.OnceValue o value) is = (once_same laws.machines.giving value o, refl)
   turn_same workers (operations.Pool call) (states.Pool p) is = tt
@@ -204,11 +217,21 @@ module _ (laws : Laws) (x by moment : ℕ) (apart : x ≢ by) where
   sum_same o place delta (Int64 held) = ((once_same laws.machines.adding _ o, (refl, refl)), tt)
   sum_same o place delta number = (same_self x (states.Once o place delta), tt)
 
+  flight_same : (key : ℕ) (value : ℤ) (f : flight.FlightState) → flight_standing.stands_at (flight_made by moment key value f).0 x ≡ flight_standing.stands_at f x
+  flight_same key value f =
+      made_kept flight.next flight_event flight_meaning by moment (λ n. flight_standing.stands_at n x ≡ flight_standing.stands_at f x) (flight_due key value (flight.place_of f by)) f refl (λ e. laws.machines.flights.others f x by e apart)
+
+  fly_same : (key : List ℕ) (f : flight.FlightState) (keys : List (List ℕ)) (place : ℕ) (delta : ℤ) (number : Number)
+      → let new = (turn_on_both (operations.Fly key) by moment (states.Flight f keys place delta) (states.Atomic number)).0 in Same x (states.Flight f keys place delta) new.0 × Same x (states.Atomic number) new.1
+  fly_same key f keys place delta (Int64 held) = ((flight_same (key_number keys key) _ f, (refl, refl)), tt)
+  fly_same key f keys place delta number = (same_self x (states.Flight f keys place delta), tt)
+
   pub both_same : (workers : ℕ) (operation : Operation) (o target : ObjectState) → IsMachineOf workers target → let new = (turn_on_both operation by moment o target).0 in Same x o new.0 × Same x target new.1
   both_same workers (operations.Cond call) (states.Cond c place) (states.Mutex m) is =
       let due = cond_due call (mutex.place_of m by) (notify.place_of c by) in
       ((made_kept notify.next cond_event cond_meaning by moment (λ n. has_ticket n x ≡ has_ticket c x) due.0 c refl (λ e. laws.machines.conds.others c x by e apart), refl), mutex_made_same due.1 m is.0)
   both_same workers operations.Once (states.Once o place delta) (states.Atomic number) is = sum_same o place delta number
+  both_same workers (operations.Fly key) (states.Flight f keys place delta) (states.Atomic number) is = fly_same key f keys place delta number
   both_same workers operation o target is = (same_self x o, same_self x target)
 
 -- ---- what that leaves of a worker's call
@@ -240,6 +263,11 @@ module _ (plan : Plan) (x before place : ℕ) where
   left_same (states.OnceValue m value) (states.OnceValue n other) operation same = refl
   left_same (states.Pool m) (states.Pool n) (operations.Pool call) same = refl
   left_same (states.Pool m) (states.Pool n) operation same = refl
+  left_same (states.Sema m size) (states.Sema n other) (operations.Sema call) same = ap (sema_left (object_number place) call) same.0
+  left_same (states.Sema m size) (states.Sema n other) operation same = refl
+  left_same (states.Flight m keys at delta) (states.Flight n later other amount) (operations.Fly key) same =
+      λ i. fly_call (object_number place) (atomic_number plan.objects (same.1.0 i)) (same.1.1 i) (key_number (keys_in plan.scripts) key)
+  left_same (states.Flight m keys at delta) (states.Flight n later other amount) operation same = refl
   left_same (states.Var m) (states.Var n) (operations.Var call) same = refl
   left_same (states.Var m) (states.Var n) operation same = refl
   left_same o n operation same = absurd same
@@ -253,6 +281,10 @@ module _ (plan : Plan) (x before place : ℕ) where
       λ i. once_left (stages events.Once answered.Once once_event once_meaning (object_number place)) (adds (atomic_number plan.objects other) (one.1.1 i)) (λ sum. replies.Once (do_replies.Ran sum)) (λ kept. replies.Once do_replies.Done) (one.0.0 i) (one.0.1 i)
   left_both_same other operations.Once (states.Once o at delta) (states.Atomic (Int64 held)) (states.Once p to amount) t pair one two = absurd two
   left_both_same other operations.Once (states.Once o at delta) (states.Atomic (Int64 held)) n t pair one two = absurd one
+  left_both_same other (operations.Fly key) (states.Flight f keys at delta) (states.Atomic (Int64 held)) (states.Flight g later to amount) (states.Atomic k) pair one two =
+      λ i. flight_left (flight_part (object_number place)) (adds (atomic_number plan.objects other) (one.1.1 i)) (key_number (keys_in plan.scripts) key) (one.0 i)
+  left_both_same other (operations.Fly key) (states.Flight f keys at delta) (states.Atomic (Int64 held)) (states.Flight g later to amount) t pair one two = absurd two
+  left_both_same other (operations.Fly key) (states.Flight f keys at delta) (states.Atomic (Int64 held)) n t pair one two = absurd one
   left_both_same other operation o target n t pair one two = absurd pair
 
 -- ---- where the worker stands
@@ -271,6 +303,8 @@ idle_same x (states.Once m at delta) (states.Once n other amount) same idle = (s
 idle_same x (states.OnceFunc m code) (states.OnceFunc n other) same idle = (same.0.1 ∙ idle.0, same.0.0 ∙ idle.1)
 idle_same x (states.OnceValue m value) (states.OnceValue n other) same idle = (same.0.1 ∙ idle.0, same.0.0 ∙ idle.1)
 idle_same x (states.Pool m) (states.Pool n) same idle = tt
+idle_same x (states.Sema m size) (states.Sema n other) same idle = same.0 ∙ idle
+idle_same x (states.Flight m keys at delta) (states.Flight n later other amount) same idle = same.0 ∙ idle
 idle_same x (states.Var m) (states.Var n) same idle = tt
 idle_same x o n same idle = absurd same
 
@@ -296,6 +330,10 @@ stands_same x (states.OnceValue m value) (states.OnceValue n other) operations.O
 stands_same x (states.OnceValue m value) (states.OnceValue n other) operation same stands = (same.0.1 ∙ stands.0, same.0.0 ∙ stands.1)
 stands_same x (states.Pool m) (states.Pool n) (operations.Map call) same stands = tt
 stands_same x (states.Pool m) (states.Pool n) operation same stands = tt
+stands_same x (states.Sema m size) (states.Sema n other) (operations.Sema call) same stands = tt
+stands_same x (states.Sema m size) (states.Sema n other) operation same stands = same.0 ∙ stands
+stands_same x (states.Flight m keys at delta) (states.Flight n later other amount) (operations.Map call) same stands = same.0 ∙ stands
+stands_same x (states.Flight m keys at delta) (states.Flight n later other amount) operation same stands = same.0 ∙ stands
 stands_same x (states.Var m) (states.Var n) (operations.Map call) same stands = tt
 stands_same x (states.Var m) (states.Var n) operation same stands = tt
 stands_same x o n operation same stands = absurd same
@@ -309,4 +347,7 @@ both_stands_same x (operations.Cond call) (states.Cond c at) (states.Mutex m) n 
 both_stands_same x operations.Once (states.Once o at delta) (states.Atomic (Int64 held)) (states.Once p to amount) (states.Atomic k) pair one two stands = once_stands x o p one.0 stands
 both_stands_same x operations.Once (states.Once o at delta) (states.Atomic (Int64 held)) (states.Once p to amount) t pair one two stands = absurd two
 both_stands_same x operations.Once (states.Once o at delta) (states.Atomic (Int64 held)) n t pair one two stands = absurd one
+both_stands_same x (operations.Fly key) (states.Flight f keys at delta) (states.Atomic (Int64 held)) (states.Flight g later to amount) (states.Atomic k) pair one two stands = tt
+both_stands_same x (operations.Fly key) (states.Flight f keys at delta) (states.Atomic (Int64 held)) (states.Flight g later to amount) t pair one two stands = absurd two
+both_stands_same x (operations.Fly key) (states.Flight f keys at delta) (states.Atomic (Int64 held)) n t pair one two stands = absurd one
 both_stands_same x operation o target n t pair one two stands = absurd pair

@@ -26,6 +26,7 @@ use Rattle.rw_core.specs.declared.place.Place.{Place as RwPlace}
 use Rattle.rw_core.specs.declared.place.Place.TheVariants as rw_place
 use Rattle.wait_cores.specs.NotifyMachine as notify
 use Rattle.wait_cores.specs.OnceMachine as once
+use Rattle.flight_core.specs.FlightMachine.{FlightState}
 use Rattle.protocols.specs.MutexStages.{mutex_event as event_of, mutex_meaning}
 use Rattle.protocols.specs.RwMutexStages.{rw_event as stage_event, rw_meaning}
 use Rattle.protocols.specs.declared.mutex.MutexStage.{MutexStage}
@@ -92,6 +93,7 @@ turn_other laws workers x by (operations.Mutex call) moment (states.Mutex m) is 
 turn_other laws workers x by (operations.RwMutex call) moment (states.RwMutex m) is apart out =
     make_moves rw.next stage_event rw_meaning by moment (λ n. rw.place_of n x ≡ rw_place.Out) (rw_due call (rw.place_of m by)) m out (λ e. rw_other laws.rw_mutexes m x by e is.0 apart out)
 turn_other laws workers x by (operations.WaitGroup call) moment (states.WaitGroup g first) is apart out = tt
+turn_other laws workers x by (operations.Sema call) moment (states.Sema s size) is apart out = tt
 turn_other laws workers x by operations.OnceFunc moment (states.OnceFunc o code) is apart out = tt
 turn_other laws workers x by operations.OnceValue moment (states.OnceValue o value) is apart out = tt
 turn_other laws workers x by (operations.Pool call) moment (states.Pool p) is apart out = tt
@@ -103,8 +105,14 @@ sum_other : (x by moment : ℕ) (o : once.OnceState ℤ) (place : ℕ) (delta : 
 sum_other x by moment o place delta (Int64 held) = (tt, tt)
 sum_other x by moment o place delta number = (tt, tt)
 
+fly_other : (x by moment : ℕ) (key : List ℕ) (f : FlightState) (keys : List (List ℕ)) (place : ℕ) (delta : ℤ) (number : Number)
+    → let new = (turn_on_both (operations.Fly key) by moment (states.Flight f keys place delta) (states.Atomic number)).0 in IsOutAt x new.0 × IsOutAt x new.1
+fly_other x by moment key f keys place delta (Int64 held) = (tt, tt)
+fly_other x by moment key f keys place delta number = (tt, tt)
+
 pub both_other : Stands → (workers x by : ℕ) (operation : Operation) (moment : ℕ) (o target : ObjectState) → IsMachineOf workers target → x ≢ by → let new = (turn_on_both operation by moment o target).0 in (IsOutAt x o → IsOutAt x new.0) × (IsOutAt x target → IsOutAt x new.1)
 both_other laws workers x by (operations.Cond call) moment (states.Cond c place) (states.Mutex m) is apart =
     (λ out. tt, λ out. mutex_made_other laws.mutexes x by moment (cond_due call (mutex.place_of m by) (notify.place_of c by)).1 m is.0 apart out)
 both_other laws workers x by operations.Once moment (states.Once o place delta) (states.Atomic number) is apart = let outs = sum_other x by moment o place delta number in (λ out. outs.0, λ out. outs.1)
+both_other laws workers x by (operations.Fly key) moment (states.Flight f keys place delta) (states.Atomic number) is apart = let outs = fly_other x by moment key f keys place delta number in (λ out. outs.0, λ out. outs.1)
 both_other laws workers x by operation moment o target is apart = (λ out. out, λ out. out)

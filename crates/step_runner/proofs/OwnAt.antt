@@ -130,7 +130,7 @@ module _ (laws : Laws) (kinds : KindsKept) (plan : Plan) (worker before moment :
         let new = set (set objects call.object step.0.0) other step.0.1 in
         let turn = turn_referring call worker moment objects object r.there other target some t.there in
         let stands = subst (λ (T : Type 0). T) (stands_referring call objects object r.there worker other target some t.there) within.here in
-        let own = both_own laws plan worker before call.object moment other call.operation object target r.has t.is r.below r.machine t.machine (out_waitless objects call worker other target out t.there) stands in
+        let own = both_own laws plan worker before call.object moment other call.operation object target r.has t.is r.below r.machine t.machine (keys call.object object r.there) (out_waitless objects call worker other target out t.there) stands in
         let elsewhere : (k : ℕ) (o : ObjectState) → k ≢ call.object → slice_get objects k ≡ Some o → IsIdle worker o = λ k o apart at. within.elsewhere k o at apart in
         let there = set_other (set objects call.object step.0.0) other call.object step.0.1 (λ same. two (sym same)) ∙ set_there objects call.object step.0.0 object r.there in
         let kind = same_kind objects new call.object object step.0.0 (ap (λ (x : List ObjectState × Answer). map kind_of x.0) (sym turn) ∙ kinds plan.workers worker moment call objects r) r.there there in

@@ -62,15 +62,29 @@ use Rattle.protocols.specs.declared.rw_mutex.RwMutexStage.TheVariants as rw_stag
 use Rattle.protocols.specs.declared.step.Step.{Step}
 use Rattle.protocols.specs.declared.step.Step.TheVariants.{Finished, Misused, Waits, Next, Never}
 use Rattle.run_record.specs.OnceKind.{failure}
+use Rattle.sema_core.specs.SemaMachine as sema
+use Rattle.sema_core.specs.SemaStages.{sema_event, sema_meaning, acquire_meaning, leave_meaning, try_meaning, release_meaning}
+use Rattle.flight_core.specs.FlightMachine as flight
+use Rattle.flight_core.specs.FlightStages.{flight_event, flight_meaning}
+use Rattle.sync_types.specs.declared.sema_call.SemaCall.{SemaCall}
+use Rattle.sync_types.specs.declared.sema_call.SemaCall.TheVariants as sema_calls
+use Rattle.sema_core.specs.declared.event.SemaEvent.TheVariants as sema_events
+use Rattle.sema_core.specs.declared.event.SemaPlace.{SemaPlace}
+use Rattle.sema_core.specs.declared.event.SemaPlace.TheVariants as sema_place
+use Rattle.sema_core.specs.declared.event.SemaReply.{SemaReply}
+use Rattle.sema_core.specs.declared.event.SemaReply.TheVariants as sema_reply
+use Rattle.flight_core.specs.declared.calls.FlightOutcome.{FlightOutcome}
+use Rattle.flight_core.specs.declared.calls.FlightOutcome.TheVariants.{Lead, Got, Landed}
+use Rattle.workload.specs.Keys.{key_number}
 use Rattle.step_runner.specs.declared.turns.answer.Answer.{Answer}
 use Rattle.step_runner.specs.declared.turns.answer.Answer.TheVariants as answers
 use Rattle.step_runner.specs.declared.turns.object_state.ObjectState.{ObjectState}
 use Rattle.step_runner.specs.declared.turns.object_state.ObjectState.TheVariants as states
-use Rattle.step_runner.specs.Due.{mutex_due, rw_due, locked, group_due, returned, cond_due, waited, once_due, ran_or, looks_of}
+use Rattle.step_runner.specs.Due.{mutex_due, rw_due, locked, group_due, returned, cond_due, waited, once_due, ran_or, looks_of, sema_due, flight_due, flown}
 use Rattle.step_runner.specs.Objects.{IsMachineOf}
 use Rattle.step_runner.specs.PoolTurn.{pool_step}
 use Rattle.step_runner.specs.ReplyForm.{HasForm}
-use Rattle.step_runner.specs.Stages.{outcome_of, answer_by}
+use Rattle.step_runner.specs.Stages.{outcome_of, answer_by, make}
 use Rattle.step_runner.specs.Stands.{may_wait, IsOutAt}
 use Rattle.step_runner.specs.TurnAtObjects.{turned, once_made, cond_turn, turn_on, turn_on_both}
 use Rattle.step_runner.proofs.DueLemmas.{OfDue, both_due, mutex_answer, mutex_answers, rw_answers}
@@ -302,6 +316,50 @@ group_own call x moment first g =
       out_after (operations.WaitGroup call) x step.0 step.1 tt,
     )
 
+acquire_form : (weight : ℕ) (r : SemaReply) → HasForm (operations.Sema (sema_calls.Acquire weight)) (answer_by locked (outcome_of (acquire_meaning r)))
+acquire_form weight sema_reply.Done = refl
+acquire_form weight sema_reply.Queued = tt
+acquire_form weight sema_reply.Refused = tt
+acquire_form weight (sema_reply.Misused misuse) = tt
+acquire_form weight sema_reply.Still = tt
+
+leave_form : (weight : ℕ) (r : SemaReply) → HasForm (operations.Sema (sema_calls.Acquire weight)) (answer_by locked (outcome_of (leave_meaning r)))
+leave_form weight sema_reply.Done = refl
+leave_form weight sema_reply.Queued = tt
+leave_form weight sema_reply.Refused = tt
+leave_form weight (sema_reply.Misused misuse) = tt
+leave_form weight sema_reply.Still = tt
+
+try_form : (weight : ℕ) (r : SemaReply) → HasForm (operations.Sema (sema_calls.TryAcquire weight)) (answer_by locked (outcome_of (try_meaning r)))
+try_form weight sema_reply.Done = refl
+try_form weight sema_reply.Queued = tt
+try_form weight sema_reply.Refused = refl
+try_form weight (sema_reply.Misused misuse) = tt
+try_form weight sema_reply.Still = tt
+
+release_form : (weight : ℕ) (r : SemaReply) → HasForm (operations.Sema (sema_calls.Release weight)) (answer_by locked (outcome_of (release_meaning r)))
+release_form weight sema_reply.Done = refl
+release_form weight sema_reply.Queued = tt
+release_form weight sema_reply.Refused = tt
+release_form weight (sema_reply.Misused misuse) = tt
+release_form weight sema_reply.Still = tt
+
+sema_form : (call : SemaCall) (p : SemaPlace) (x moment : ℕ) (s : sema.SemaState) → HasForm (operations.Sema call) (answer_by locked (make sema.next sema_event sema_meaning x moment (sema_due call p) s).1)
+sema_form (sema_calls.Acquire weight) sema_place.Out x moment s = acquire_form weight (sema.next s x (sema_events.Acquire weight)).1
+sema_form (sema_calls.Acquire weight) sema_place.Waiting x moment s = tt
+sema_form (sema_calls.Acquire weight) sema_place.Granted x moment s = leave_form weight (sema.next s x sema_events.Leave).1
+sema_form (sema_calls.TryAcquire weight) sema_place.Out x moment s = try_form weight (sema.next s x (sema_events.Try weight)).1
+sema_form (sema_calls.TryAcquire weight) sema_place.Waiting x moment s = tt
+sema_form (sema_calls.TryAcquire weight) sema_place.Granted x moment s = tt
+sema_form (sema_calls.Release weight) sema_place.Out x moment s = release_form weight (sema.next s x (sema_events.Release weight)).1
+sema_form (sema_calls.Release weight) sema_place.Waiting x moment s = tt
+sema_form (sema_calls.Release weight) sema_place.Granted x moment s = tt
+
+sema_own : (call : SemaCall) (x moment size : ℕ) (s : sema.SemaState) → Own (operations.Sema call) x (turn_on (operations.Sema call) x moment (states.Sema s size))
+sema_own call x moment size s =
+    let step = turn_on (operations.Sema call) x moment (states.Sema s size) in
+    (sema_form call (sema.place_of s x) x moment s, out_after (operations.Sema call) x step.0 step.1 tt)
+
 ran_form : {T : Type 0} (operation : Operation) (ran : Reply (List ℕ)) (had : T → Reply (List ℕ)) → is_reply_to operation ran ≡ true → ((kept : T) → is_reply_to operation (had kept) ≡ true) → (outcome : OnceOutcome T) → HasForm operation (ran_or ran had outcome)
 ran_form operation ran had form each Run = tt
 ran_form operation ran had form each (Already kept) = each kept
@@ -319,6 +377,21 @@ sum_own x moment o place delta (Int64 held) =
     (once_form operations.Once x moment sum o (replies.Once (do_replies.Ran sum)) (λ kept. replies.Once do_replies.Done) refl (λ kept. refl), (tt, out_after operations.Once x step.0.1 step.1 tt))
 sum_own x moment o place delta number = (tt, (tt, λ e. tt))
 
+flown_form : (key : List ℕ) (value : ℤ) (o : FlightOutcome) → HasForm (operations.Fly key) (flown value o)
+flown_form key value Lead = tt
+flown_form key value (Got got) = refl
+flown_form key value (Landed shared) = refl
+
+fly_own : (key : List ℕ) (x moment : ℕ) (f : flight.FlightState) (keys : List (List ℕ)) (place : ℕ) (delta : ℤ) (number : Number)
+    → OwnBoth (operations.Fly key) x (turn_on_both (operations.Fly key) x moment (states.Flight f keys place delta) (states.Atomic number))
+fly_own key x moment f keys place delta (Int64 held) =
+    let sum = int_wrapping_add w64 held delta in
+    let step = turn_on_both (operations.Fly key) x moment (states.Flight f keys place delta) (states.Atomic (Int64 held)) in (
+      make_answer (HasForm (operations.Fly key)) tt tt (λ misuse. tt) (flown sum) (flown_form key sum) flight.next flight_event flight_meaning x moment (flight_due (key_number keys key) sum (flight.place_of f x)) f,
+      (tt, out_after (operations.Fly key) x step.0.1 step.1 tt),
+    )
+fly_own key x moment f keys place delta number = (tt, (tt, λ e. tt))
+
 -- ---- of any object
 
 pub turn_own : Stands → (workers x : ℕ) (operation : Operation) (moment : ℕ) (o : ObjectState) → x < workers → IsMachineOf workers o → (may_wait operation ≡ false → IsOutAt x o) → Own operation x (turn_on operation x moment o)
@@ -331,6 +404,7 @@ turn_own laws workers x (operations.Var (var_calls.Write value)) moment (states.
 turn_own laws workers x (operations.Mutex call) moment (states.Mutex m) below is out = mutex_own laws.mutexes call x moment m (omega (arith, below, is.1)) is.0 out
 turn_own laws workers x (operations.RwMutex call) moment (states.RwMutex m) below is out = rw_own laws.rw_mutexes call x moment m (omega (arith, below, is.1)) is.0 out
 turn_own laws workers x (operations.WaitGroup call) moment (states.WaitGroup g first) below is out = group_own call x moment first g
+turn_own laws workers x (operations.Sema call) moment (states.Sema s size) below is out = sema_own call x moment size s
 turn_own laws workers x operations.OnceFunc moment (states.OnceFunc o code) below is out =
     let step = turn_on operations.OnceFunc x moment (states.OnceFunc o code) in
     (once_form operations.OnceFunc x moment code o (replies.OnceFunc (failure code)) (λ kept. replies.OnceFunc (failure kept)) refl (λ kept. refl), out_after operations.OnceFunc x step.0 step.1 tt)
@@ -351,4 +425,5 @@ both_own laws workers x (operations.Cond cond_calls.Wait) moment (states.Cond c 
 both_own laws workers x (operations.Cond cond_calls.Signal) moment (states.Cond c place) (states.Mutex m) below is here out = (refl, (tt, out refl))
 both_own laws workers x (operations.Cond cond_calls.Broadcast) moment (states.Cond c place) (states.Mutex m) below is here out = (refl, (tt, out refl))
 both_own laws workers x operations.Once moment (states.Once o place delta) (states.Atomic number) below is here out = sum_own x moment o place delta number
+both_own laws workers x (operations.Fly key) moment (states.Flight f keys place delta) (states.Atomic number) below is here out = fly_own key x moment f keys place delta number
 both_own laws workers x operation moment o target below is here out = (tt, (here, out))

@@ -1,5 +1,5 @@
 -- The keys of maps behind a turn, and the pairs that its reply shows.
-use Rattle.std.proofs.Common.{◌≡◌, ℕ, ◌*◌, ◌≤◌, true, List, length, set, refl, arith}
+use Rattle.std.proofs.Common.{◌≡◌, ℕ, ◌*◌, ◌≤◌, true, List, length, set, refl, arith, []}
 use Rattle.std.specs.Prelude.{ℤ, Option, Some}
 use Rattle.std.specs.Int.{w64, int_wrapping_add}
 use Rattle.std.specs.FinMap.{entries, len-entries}
@@ -37,10 +37,17 @@ use Rattle.workload.specs.declared.object.ObjectKind.{ObjectKind}
 use Rattle.workload.specs.declared.object.ObjectKind.TheVariants as kinds
 use Rattle.workload.specs.Draft.{operation_keys, keys_of, distinct_count}
 use Rattle.run_record.specs.OnceKind.{failure}
+use Rattle.sema_core.specs.SemaMachine as sema
+use Rattle.sema_core.specs.SemaStages.{sema_event, sema_meaning}
+use Rattle.flight_core.specs.FlightMachine as flight
+use Rattle.flight_core.specs.FlightStages.{flight_event, flight_meaning}
+use Rattle.flight_core.specs.declared.calls.FlightOutcome.{FlightOutcome}
+use Rattle.flight_core.specs.declared.calls.FlightOutcome.TheVariants.{Lead, Got, Landed}
+use Rattle.workload.specs.Keys.{key_number, with_names}
 use Rattle.step_runner.specs.declared.turns.answer.Answer.{Answer}
 use Rattle.step_runner.specs.declared.turns.object_state.ObjectState.{ObjectState}
 use Rattle.step_runner.specs.declared.turns.object_state.ObjectState.TheVariants as states
-use Rattle.step_runner.specs.Due.{mutex_due, rw_due, locked, group_due, returned, cond_due, waited, once_due, ran_or, looks_of}
+use Rattle.step_runner.specs.Due.{mutex_due, rw_due, locked, group_due, returned, cond_due, waited, once_due, ran_or, looks_of, sema_due, flight_due, flown}
 use Rattle.step_runner.specs.MapKeys.{AreAmong, HasObjectKeysIn}
 use Rattle.step_runner.specs.Objects.{new_object, EachAt}
 use Rattle.step_runner.specs.Pairs.{ShowsTo}
@@ -67,6 +74,11 @@ once_few : {T : Type 0} (most worker moment : ℕ) (value : T) (o : once.OnceSta
 once_few most worker moment value o ran had few each =
     make_answer (ShowsTo most) tt tt (λ misuse. tt) (ran_or ran had) (ran_few most ran had few each) once.next once_event once_meaning worker moment (once_due value (runs_at o worker) (once.place_of o worker)) o
 
+flown_few : (most : ℕ) (value : ℤ) (o : FlightOutcome) → ShowsTo most (flown value o)
+flown_few most value Lead = tt
+flown_few most value (Got got) = refl
+flown_few most value (Landed shared) = refl
+
 pool_few : (most worker moment : ℕ) (call : PoolCall) (p : pool.PoolState ℕ) → ShowsTo most (pool_step worker moment call p).1
 pool_few most worker moment (pool_calls.Put item) p = refl
 pool_few most worker moment pool_calls.Sweep p = refl
@@ -89,6 +101,8 @@ turn_on_keeps names most (operations.RwMutex call) worker moment (states.RwMutex
     (tt, make_answer (ShowsTo most) tt tt (λ misuse. tt) locked (λ outcome. refl) rw.next rw_event rw_meaning worker moment (rw_due call (rw.place_of m worker)) m)
 turn_on_keeps names most (operations.WaitGroup call) worker moment (states.WaitGroup g first) named room has =
     (tt, make_answer (ShowsTo most) tt tt (λ misuse. tt) returned (λ outcome. refl) group.next group_event group_meaning worker moment (group_due call (group.place_of g worker)) g)
+turn_on_keeps names most (operations.Sema call) worker moment (states.Sema s size) named room has =
+    (tt, make_answer (ShowsTo most) tt tt (λ misuse. tt) locked (λ outcome. refl) sema.next sema_event sema_meaning worker moment (sema_due call (sema.place_of s worker)) s)
 turn_on_keeps names most operations.OnceFunc worker moment (states.OnceFunc o code) named room has =
     (tt, once_few most worker moment code o (replies.OnceFunc (failure code)) (λ kept. replies.OnceFunc (failure kept)) refl (λ kept. refl))
 turn_on_keeps names most operations.OnceValue worker moment (states.OnceValue o value) named room has = (tt, once_few most worker moment value o (replies.OnceValue value) replies.OnceValue refl (λ kept. refl))
@@ -107,6 +121,14 @@ sum_keeps names most worker moment o place delta (Int64 held) =
     ((tt, tt), once_few most worker moment sum o (replies.Once (do_replies.Ran sum)) (λ kept. replies.Once do_replies.Done) refl (λ kept. refl))
 sum_keeps names most worker moment o place delta number = ((tt, tt), tt)
 
+-- a group keeps its numbers
+fly_keeps : (names : List (List ℕ)) (most : ℕ) (key : List ℕ) (worker moment : ℕ) (f : flight.FlightState) (keys : List (List ℕ)) (place : ℕ) (delta : ℤ) (number : Number) → HasObjectKeysIn names (states.Flight f keys place delta)
+    → KeepsBoth names most (turn_on_both (operations.Fly key) worker moment (states.Flight f keys place delta) (states.Atomic number))
+fly_keeps names most key worker moment f keys place delta (Int64 held) has =
+    let sum = int_wrapping_add w64 held delta in
+    ((has, tt), make_answer (ShowsTo most) tt tt (λ misuse. tt) (flown sum) (flown_few most sum) flight.next flight_event flight_meaning worker moment (flight_due (key_number keys key) sum (flight.place_of f worker)) f)
+fly_keeps names most key worker moment f keys place delta number has = ((has, tt), tt)
+
 both_keep : (names : List (List ℕ)) (most : ℕ) (operation : Operation) (worker moment : ℕ) (o target : ObjectState) → HasObjectKeysIn names o → HasObjectKeysIn names target
     → KeepsBoth names most (turn_on_both operation worker moment o target)
 both_keep names most (operations.Cond cond_calls.Wait) worker moment (states.Cond c place) (states.Mutex m) has there =
@@ -115,6 +137,7 @@ both_keep names most (operations.Cond cond_calls.Wait) worker moment (states.Con
 both_keep names most (operations.Cond cond_calls.Signal) worker moment (states.Cond c place) (states.Mutex m) has there = ((tt, tt), refl)
 both_keep names most (operations.Cond cond_calls.Broadcast) worker moment (states.Cond c place) (states.Mutex m) has there = ((tt, tt), refl)
 both_keep names most operations.Once worker moment (states.Once o place delta) (states.Atomic number) has there = sum_keeps names most worker moment o place delta number
+both_keep names most (operations.Fly key) worker moment (states.Flight f keys place delta) (states.Atomic number) has there = fly_keeps names most key worker moment f keys place delta number has
 both_keep names most operation worker moment o target has there = ((has, there), tt)
 
 -- ---- all objects
@@ -134,6 +157,7 @@ at_keys names most call worker moment objects named room all = at_any (ObjectsKe
     let keep = both_keep names most call.operation worker moment object target (all call.object object at) (all other target there) in
     (each_set (λ place. HasObjectKeysIn names) (set objects call.object new.0.0) other new.0.1 (each_set (λ place. HasObjectKeysIn names) objects call.object new.0.0 all keep.0.0) keep.0.1, keep.1))
 
-pub new_keys : (names : List (List ℕ)) (workers room : ℕ) (kind : ObjectKind) → HasObjectKeysIn names (new_object workers room kind)
+pub new_keys : (names : List (List ℕ)) (workers room : ℕ) (kind : ObjectKind) → HasObjectKeysIn names (new_object workers room (with_names [] names) kind)
 new_keys names workers room kinds.Map = empty_keys names
+new_keys names workers room (kinds.Flight place delta) = refl
 new_keys names workers room kind = tt

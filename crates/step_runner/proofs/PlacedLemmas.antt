@@ -35,6 +35,8 @@ none_refers (kinds.Cond place) (operations.Cond call) other some has one = no on
 none_refers (kinds.Cond place) operation other some has one = no has
 none_refers (kinds.Once place delta) operations.Once other some has one = no one
 none_refers (kinds.Once place delta) operation other some has one = no has
+none_refers (kinds.Flight place delta) (operations.Fly key) other some has one = no one
+none_refers (kinds.Flight place delta) operation other some has one = no has
 none_refers kind operation other some has one = nothing some
 
 pub at_answered : (workers worker : ℕ) (call : Call) (moment : ℕ) (objects : List ObjectState) → IsReady workers worker call objects → is_placed call.operation ≡ true
@@ -57,6 +59,7 @@ on_tested worker moment object objects value passes o at has = no has
 no_test_refers : (kind : ObjectKind) (value : Number) (passes other : ℕ) → reference_of kind ≡ Some other → has_call kind (operations.Composed (IfEqual value passes)) ≡ true → ⊥
 no_test_refers (kinds.Cond place) value passes other some has = no has
 no_test_refers (kinds.Once place delta) value passes other some has = no has
+no_test_refers (kinds.Flight place delta) value passes other some has = no has
 no_test_refers kind value passes other some has = nothing some
 
 pub at_tested : (workers worker moment : ℕ) (call : Call) (objects : List ObjectState) (value : Number) (passes : ℕ) → IsReady workers worker call objects → call.operation ≡ operations.Composed (IfEqual value passes)

@@ -15,6 +15,7 @@ use Rattle.pool_core.specs.declared.pool_event.PoolReply.TheVariants as pool_rep
 use Rattle.workload.specs.declared.object.ObjectKind.{ObjectKind}
 use Rattle.workload.specs.declared.turn.Turn.{Turn}
 use Rattle.workload.specs.Plan.{Plan}
+use Rattle.workload.specs.Keys.{keys_in}
 use Rattle.step_runner.specs.declared.turns.answer.Answer.{Answer}
 use Rattle.step_runner.specs.declared.turns.answer.Answer.TheVariants as answers
 use Rattle.step_runner.specs.declared.turns.object_state.ObjectState.{ObjectState}
@@ -33,7 +34,7 @@ use Rattle.step_runner.proofs.RunLemmas.{GoesOn, Kept, items_keep, moment_valid}
 
 -- what the law of turns says
 pub record Rooms : Type 0 where
-  pub begins : (workers room : ℕ) (kind : ObjectKind) → HasRoomFor room (new_object workers room kind)
+  pub begins : (workers room : ℕ) (keys : List (List ℕ)) (kind : ObjectKind) → HasRoomFor room (new_object workers room keys kind)
   pub goes_on : (worker moment begun : ℕ) (left : ℕ → ℕ) (call : Call) (objects : List ObjectState) → put_of call.object call ≤ left call.object → EachAt (λ place. HasRoomFor (left place)) objects
       → EachAt (λ place. HasRoomFor (left_behind (turn_within call worker moment begun objects).1 (put_of place call) (left place))) (turn_within call worker moment begun objects).0.0
   pub further : GoesFurther
@@ -154,7 +155,7 @@ start_has_room : Rooms → (plan : Plan) → IsStateOf plan (start plan) → Has
 start_has_room rooms plan of = record {
   of = of;
   fits = each_start (λ place. HasRoomFor (left_at plan (start plan) place)) plan
-      (λ place kind. subst (λ n. HasRoomFor n (new_object plan.workers (puts_at place plan.scripts) kind)) (sym (none_made place plan.scripts plan.workers)) (rooms.begins plan.workers (puts_at place plan.scripts) kind));
+      (λ place kind. subst (λ n. HasRoomFor n (new_object plan.workers (puts_at place plan.scripts) (keys_in plan.scripts) kind)) (sym (none_made place plan.scripts plan.workers)) (rooms.begins plan.workers (puts_at place plan.scripts) (keys_in plan.scripts) kind));
 }
 
 pub items_have_room : Rooms → (plan : Plan) → GoesOn plan → IsStateOf plan (start plan) → (list : List Turn) → HasRoom plan (after_items plan list (start plan))

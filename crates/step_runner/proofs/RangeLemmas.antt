@@ -17,16 +17,18 @@ use Rattle.wait_cores.specs.OnceMachine as once
 use Rattle.workload.specs.declared.object.ObjectKind.{ObjectKind}
 use Rattle.workload.specs.declared.object.ObjectKind.TheVariants as kinds
 use Rattle.workload.specs.Plan.{has_call}
+use Rattle.flight_core.specs.FlightMachine as flight
+use Rattle.workload.specs.Keys.{key_number}
 use Rattle.step_runner.specs.declared.turns.answer.Answer.{Answer}
 use Rattle.step_runner.specs.declared.turns.object_state.ObjectState.{ObjectState}
 use Rattle.step_runner.specs.declared.turns.object_state.ObjectState.TheVariants as states
 use Rattle.step_runner.specs.AtomicRange.{IsInRange}
 use Rattle.step_runner.specs.Objects.{new_object, kind_of, EachAt}
 use Rattle.step_runner.specs.Ready.{IsReady}
-use Rattle.step_runner.specs.TurnAtObjects.{once_made, turn_on, turn_on_both, turn_at}
+use Rattle.step_runner.specs.TurnAtObjects.{once_made, turn_on, turn_on_both, turn_at, flight_made}
 use Rattle.step_runner.proofs.AtObjects.{each_set, at_ready}
 use Rattle.step_runner.proofs.AtomicTypes.{after_type, zero_type}
-use Rattle.step_runner.proofs.ObjectKeeps.{number_any}
+use Rattle.step_runner.proofs.ObjectKeeps.{number_any, landed_any}
 
 -- what is known of the one-thread atomic
 abbrev pub BeginsInRange : Type 0
@@ -45,6 +47,7 @@ turn_on_stays law operations.Range worker moment (states.Map m) has is = tt
 turn_on_stays law (operations.Mutex call) worker moment (states.Mutex m) has is = tt
 turn_on_stays law (operations.RwMutex call) worker moment (states.RwMutex m) has is = tt
 turn_on_stays law (operations.WaitGroup call) worker moment (states.WaitGroup g first) has is = tt
+turn_on_stays law (operations.Sema call) worker moment (states.Sema s size) has is = tt
 turn_on_stays law operations.OnceFunc worker moment (states.OnceFunc o code) has is = tt
 turn_on_stays law operations.OnceValue worker moment (states.OnceValue o value) has is = tt
 turn_on_stays law (operations.Pool call) worker moment (states.Pool p) has is = tt
@@ -73,9 +76,17 @@ sum_stays worker moment o place delta (Int64 held) was =
     (tt, number_any (λ number. IsInRange (states.Atomic number)) (once_made worker moment sum o).1 (Int64 sum) (Int64 held) (sum_in_range held delta) was)
 sum_stays worker moment o place delta number was = (tt, was)
 
+fly_stays : (key : List ℕ) (worker moment : ℕ) (f : flight.FlightState) (keys : List (List ℕ)) (place : ℕ) (delta : ℤ) (number : Number) → IsInRange (states.Atomic number)
+    → BothStay (turn_on_both (operations.Fly key) worker moment (states.Flight f keys place delta) (states.Atomic number))
+fly_stays key worker moment f keys place delta (Int64 held) was =
+    let sum = int_wrapping_add w64 held delta in
+    (tt, landed_any (λ number. IsInRange (states.Atomic number)) (flight_made worker moment (key_number keys key) sum f).1 (Int64 sum) (Int64 held) (sum_in_range held delta) was)
+fly_stays key worker moment f keys place delta number was = (tt, was)
+
 both_stay : (operation : Operation) (worker moment : ℕ) (o target : ObjectState) → IsInRange o → IsInRange target → BothStay (turn_on_both operation worker moment o target)
 both_stay (operations.Cond call) worker moment (states.Cond c place) (states.Mutex m) is was = (tt, tt)
 both_stay operations.Once worker moment (states.Once o place delta) (states.Atomic number) is was = sum_stays worker moment o place delta number was
+both_stay (operations.Fly key) worker moment (states.Flight f keys place delta) (states.Atomic number) is was = fly_stays key worker moment f keys place delta number was
 both_stay operation worker moment o target is was = (is, was)
 
 -- ---- all objects
@@ -88,6 +99,6 @@ at_stays law workers worker call moment objects r are = at_ready (λ x. EachAt (
     let stay = both_stay call.operation worker moment r.object target (are call.object r.object st.at) (are other target st.there) in
     each_set (λ place. IsInRange) (set objects call.object new.0.0) other new.0.1 (each_set (λ place. IsInRange) objects call.object new.0.0 are stay.0) stay.1)
 
-pub new_range : BeginsInRange → (workers room : ℕ) (kind : ObjectKind) → IsInRange (new_object workers room kind)
-new_range law workers room (kinds.Atomic kind) = subst (λ (type : AtomicKind). is_of type (zero_of kind) ≡ true) (sym (zero_type kind)) (law kind)
-new_range law workers room kind = tt
+pub new_range : BeginsInRange → (workers room : ℕ) (keys : List (List ℕ)) (kind : ObjectKind) → IsInRange (new_object workers room keys kind)
+new_range law workers room keys (kinds.Atomic kind) = subst (λ (type : AtomicKind). is_of type (zero_of kind) ≡ true) (sym (zero_type kind)) (law kind)
+new_range law workers room keys kind = tt

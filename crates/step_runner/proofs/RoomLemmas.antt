@@ -25,6 +25,7 @@ use Rattle.workload.specs.Puts.{is_put}
 use Rattle.workload.specs.declared.object.ObjectKind.{ObjectKind}
 use Rattle.workload.specs.declared.object.ObjectKind.TheVariants as kinds
 use Rattle.run_record.specs.PoolKind.{stage_of}
+use Rattle.flight_core.specs.FlightMachine.{FlightState}
 use Rattle.step_runner.specs.declared.turns.answer.Answer.{Answer}
 use Rattle.step_runner.specs.declared.turns.answer.Answer.TheVariants as answers
 use Rattle.step_runner.specs.declared.turns.object_state.ObjectState.{ObjectState}
@@ -202,6 +203,7 @@ turn_on_fits one left (operations.Composed (IfEqual value passes)) worker moment
 turn_on_fits one left (operations.Mutex call) worker moment (states.Mutex m) is some fit = tt
 turn_on_fits one left (operations.RwMutex call) worker moment (states.RwMutex m) is some fit = tt
 turn_on_fits one left (operations.WaitGroup call) worker moment (states.WaitGroup g first) is some fit = tt
+turn_on_fits one left (operations.Sema call) worker moment (states.Sema s size) is some fit = tt
 turn_on_fits one left operations.OnceFunc worker moment (states.OnceFunc o code) is some fit = tt
 turn_on_fits one left operations.OnceValue worker moment (states.OnceValue o value) is some fit = tt
 turn_on_fits one left (operations.Var call) worker moment (states.Var held) is some fit = tt
@@ -216,9 +218,14 @@ sum_fits : (left there worker moment : ℕ) (o : once.OnceState ℤ) (place : �
 sum_fits left there worker moment o place delta (Int64 held) = (tt, tt)
 sum_fits left there worker moment o place delta number = (tt, tt)
 
+fly_fits : (left there : ℕ) (key : List ℕ) (worker moment : ℕ) (f : FlightState) (keys : List (List ℕ)) (place : ℕ) (delta : ℤ) (number : Number) → BothFit left there (turn_on_both (operations.Fly key) worker moment (states.Flight f keys place delta) (states.Atomic number)).0
+fly_fits left there key worker moment f keys place delta (Int64 held) = (tt, tt)
+fly_fits left there key worker moment f keys place delta number = (tt, tt)
+
 both_fit : (left there : ℕ) (operation : Operation) (worker moment : ℕ) (o target : ObjectState) → HasRoomFor left o → HasRoomFor there target → BothFit left there (turn_on_both operation worker moment o target).0
 both_fit left there (operations.Cond call) worker moment (states.Cond c place) (states.Mutex m) fit also = (tt, tt)
 both_fit left there operations.Once worker moment (states.Once o place delta) (states.Atomic number) fit also = sum_fits left there worker moment o place delta number
+both_fit left there (operations.Fly key) worker moment (states.Flight f keys place delta) (states.Atomic number) fit also = fly_fits left there key worker moment f keys place delta number
 both_fit left there operation worker moment o target fit also = (fit, also)
 
 -- ---- all objects
@@ -251,9 +258,9 @@ new_parts_fit room zero k part is = absurd cc
 new_parts_fit room (suc n) zero part is = let same : empty room ≡ part = cc in subst (PartFits room) same (omega arith)
 new_parts_fit room (suc n) (suc k) part is = new_parts_fit room n k part is
 
-pub new_object_fits : (workers room : ℕ) (kind : ObjectKind) → HasRoomFor room (new_object workers room kind)
-new_object_fits workers room kinds.Pool = record { primary = new_parts_fit room workers; victims = new_parts_fit room workers }
-new_object_fits workers room kind = tt
+pub new_object_fits : (workers room : ℕ) (keys : List (List ℕ)) (kind : ObjectKind) → HasRoomFor room (new_object workers room keys kind)
+new_object_fits workers room keys kinds.Pool = record { primary = new_parts_fit room workers; victims = new_parts_fit room workers }
+new_object_fits workers room keys kind = tt
 
 -- ---- a put
 

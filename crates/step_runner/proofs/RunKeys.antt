@@ -19,7 +19,7 @@ use Rattle.step_runner.specs.declared.turns.object_state.ObjectState.{ObjectStat
 use Rattle.step_runner.specs.MapKeys.{AreAmong, HasObjectKeysIn}
 use Rattle.step_runner.specs.Objects.{new_object, EachAt}
 use Rattle.script_calls.specs.Outcome.{has_pairs_to, shows_to}
-use Rattle.workload.specs.Keys.{keys_in, key_number}
+use Rattle.workload.specs.Keys.{keys_in, key_number, with_names}
 use Rattle.step_runner.specs.Pairs.{ShowsTo}
 use Rattle.step_runner.specs.TurnWithin.{turn_within}
 use Rattle.step_runner.specs.declared.step.Step.TheVariants as steps
@@ -40,7 +40,7 @@ use Rattle.step_runner.proofs.RunLemmas.{Kept, items_keep, run_keeps}
 
 -- what the law of turns says
 pub record Keys : Type 0 where
-  pub begins : (names : List (List ℕ)) (workers room : ℕ) (kind : ObjectKind) → HasObjectKeysIn names (new_object workers room kind)
+  pub begins : (names : List (List ℕ)) (workers room : ℕ) (kind : ObjectKind) → HasObjectKeysIn names (new_object workers room (with_names [] names) kind)
   pub goes_on : (names : List (List ℕ)) (most worker moment begun : ℕ) (call : Call) (objects : List ObjectState) → AreAmong names (keys_of call) → distinct_count names ≤ most
       → EachAt (λ place. HasObjectKeysIn names) objects → EachAt (λ place. HasObjectKeysIn names) (turn_within call worker moment begun objects).0.0 × ShowsTo most (turn_within call worker moment begun objects).1
 

@@ -10,6 +10,7 @@ use Rattle.workload.specs.declared.turn.Turn.{Turn}
 use Rattle.workload.specs.declared.turn.Turn.TheVariants as items
 use Rattle.workload.specs.Plan.{Plan}
 use Rattle.workload.specs.Puts.{puts_at}
+use Rattle.workload.specs.Keys.{keys_in}
 use Rattle.step_runner.specs.declared.turns.answer.Answer.{Answer}
 use Rattle.step_runner.specs.declared.turns.answer.Answer.TheVariants as answers
 use Rattle.step_runner.specs.declared.turns.object_state.ObjectState.{ObjectState}
@@ -97,23 +98,23 @@ module _ (laws : Leads) (plan : Plan) (k : ℕ) where
   items_come goes (items.Moment moment ∷ rest) s of = items_come goes rest (with_moment moment s) (moment_valid plan moment s of)
 
 -- an object begins as its line says
-new_there : (plan : Plan) (first k : ℕ) (lines : List ObjectLine) (line : ObjectLine) → slice_get lines k ≡ Some line → slice_get (new_objects plan first lines) k ≡ Some (new_object plan.workers (puts_at (first + k) plan.scripts) line.kind)
+new_there : (plan : Plan) (first k : ℕ) (lines : List ObjectLine) (line : ObjectLine) → slice_get lines k ≡ Some line → slice_get (new_objects plan first lines) k ≡ Some (new_object plan.workers (puts_at (first + k) plan.scripts) (keys_in plan.scripts) line.kind)
 new_there plan first k [] line at = absurd cc
 new_there plan first zero (here ∷ lines) line at =
     let same : here ≡ line = cc in
     let place : first ≡ first + 0 = omega arith in
-    ap (λ (l : ObjectLine). Some (new_object plan.workers (puts_at first plan.scripts) l.kind)) same ∙ ap (λ (n : ℕ). Some (new_object plan.workers (puts_at n plan.scripts) line.kind)) place
+    ap (λ (l : ObjectLine). Some (new_object plan.workers (puts_at first plan.scripts) (keys_in plan.scripts) l.kind)) same ∙ ap (λ (n : ℕ). Some (new_object plan.workers (puts_at n plan.scripts) (keys_in plan.scripts) line.kind)) place
 new_there plan first (suc k) (here ∷ lines) line at =
     let place : first + 1 + k ≡ first + suc k = omega arith in
-    new_there plan (first + 1) k lines line at ∙ ap (λ (n : ℕ). Some (new_object plan.workers (puts_at n plan.scripts) line.kind)) place
+    new_there plan (first + 1) k lines line at ∙ ap (λ (n : ℕ). Some (new_object plan.workers (puts_at n plan.scripts) (keys_in plan.scripts) line.kind)) place
 
 -- at every moment
 pub run_leads : Leads → (plan : Plan) → GoesOn plan → IsStateOf plan (start plan) → (list : List Turn) → LeadTo plan (all_made plan list (start plan)) (after_items plan list (start plan)).objects
 run_leads laws plan goes of list place line object at there =
     let same : 0 + place ≡ place = omega arith in
-    let begun : slice_get (start plan).objects place ≡ Some (new_object plan.workers (puts_at place plan.scripts) line.kind) =
-    new_there plan 0 place plan.objects line at ∙ ap (λ (n : ℕ). Some (new_object plan.workers (puts_at n plan.scripts) line.kind)) same in
-    items_come laws plan place goes list (start plan) of (new_object plan.workers (puts_at place plan.scripts) line.kind) object begun there
+    let begun : slice_get (start plan).objects place ≡ Some (new_object plan.workers (puts_at place plan.scripts) (keys_in plan.scripts) line.kind) =
+    new_there plan 0 place plan.objects line at ∙ ap (λ (n : ℕ). Some (new_object plan.workers (puts_at n plan.scripts) (keys_in plan.scripts) line.kind)) same in
+    items_come laws plan place goes list (start plan) of (new_object plan.workers (puts_at place plan.scripts) (keys_in plan.scripts) line.kind) object begun there
 
 -- at the end of a run that is done
 pub ends_lead : Leads → (plan : Plan) → GoesOn plan → IsStateOf plan (start plan) → (report : Report) → IsDone plan report

@@ -4,6 +4,7 @@ use Rattle.script_calls.specs.declared.call.Call.{Call}
 use Rattle.workload.specs.declared.object.ObjectKind.{ObjectKind}
 use Rattle.workload.specs.declared.turn.Turn.{Turn}
 use Rattle.workload.specs.Plan.{Plan}
+use Rattle.workload.specs.Keys.{keys_in}
 use Rattle.step_runner.specs.declared.turns.answer.Answer.{Answer}
 use Rattle.step_runner.specs.declared.turns.answer.Answer.TheVariants as answers
 use Rattle.step_runner.specs.declared.turns.object_state.ObjectState.{ObjectState}
@@ -20,7 +21,7 @@ use Rattle.step_runner.proofs.RunLemmas.{GoesOn, moment_valid, Kept, items_keep}
 
 -- what the law of turns says
 pub record Ranges : Type 0 where
-  pub begins : (workers room : ℕ) (kind : ObjectKind) → IsInRange (new_object workers room kind)
+  pub begins : (workers room : ℕ) (keys : List (List ℕ)) (kind : ObjectKind) → IsInRange (new_object workers room keys kind)
   pub goes_on : (workers worker moment begun : ℕ) (call : Call) (objects : List ObjectState) → IsReadyWithin workers worker call objects → EachAt (λ place. IsInRange) objects
       → EachAt (λ place. IsInRange) (turn_within call worker moment begun objects).0.0
 
@@ -55,4 +56,4 @@ ranges_kept ranges plan goes_on = record {
 pub in_range : Ranges → (plan : Plan) → GoesOn plan → IsStateOf plan (start plan) → (list : List Turn) → AllInRange (after_items plan list (start plan)).objects
 in_range ranges plan goes_on of list =
     (items_keep plan (InRange plan) (ranges_kept ranges plan goes_on) list (start plan)
-    (record { of = of; are = each_start (λ place. IsInRange) plan (λ place kind. ranges.begins plan.workers (puts_at place plan.scripts) kind) })).are
+    (record { of = of; are = each_start (λ place. IsInRange) plan (λ place kind. ranges.begins plan.workers (puts_at place plan.scripts) (keys_in plan.scripts) kind) })).are

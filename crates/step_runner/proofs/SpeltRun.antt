@@ -22,6 +22,7 @@ use Rattle.run_record.specs.Calls.{SpellsCall}
 use Rattle.run_record.specs.Lines.{SpeltCall, misused, EndsBy}
 use Rattle.run_record.specs.StartsKind.{done_part}
 use Rattle.run_record.specs.declared.made.Made.{Made}
+use Rattle.workload.specs.Keys.{keys_in}
 use Rattle.step_runner.specs.declared.turns.answer.Answer.{Answer}
 use Rattle.step_runner.specs.declared.turns.answer.Answer.TheVariants as answers
 use Rattle.step_runner.specs.declared.turns.object_state.ObjectState.{ObjectState}
@@ -550,8 +551,8 @@ begun laws stand_laws plan of worker = record {
   };
   unstarted = λ waits. refl;
   stands = fresh laws plan worker 0 (start plan) of (by_stand (stand_of worker (start plan)) refl) (none_begun plan.workers worker)
-      (each_start (λ place. IsIdle worker) plan (λ place kind. laws.begins worker plan.workers (puts_at place plan.scripts) kind))
-      (each_start (λ place object. (None ≡ Some place → ⊥) → IsOutAt worker object) plan (λ place kind far. stand_laws.begins worker plan.workers (puts_at place plan.scripts) kind));
+      (each_start (λ place. IsIdle worker) plan (λ place kind. laws.begins worker plan.workers (puts_at place plan.scripts) (keys_in plan.scripts) kind))
+      (each_start (λ place object. (None ≡ Some place → ⊥) → IsOutAt worker object) plan (λ place kind far. stand_laws.begins worker plan.workers (puts_at place plan.scripts) (keys_in plan.scripts) kind));
 }
   where
     by_stand : (stand : Stand) → stand_of worker (start plan) ≡ stand → Rests plan worker [] stand (begun_by worker (start plan))

@@ -65,7 +65,7 @@ pub record Spells : Type 0 where
       × ((items : List Made) (answer : CallAnswer (Reply ℕ)) → left_within plan worker before own (turn_within call other moment later objects).0.0 begun items answer → left_within plan worker before own objects begun items answer)
   pub idle : (workers worker other moment begun : ℕ) (call : Call) (objects : List ObjectState) → IsReadyWithin workers other call objects → worker ≢ other
       → EachAt (λ place. IsIdle worker) objects → EachAt (λ place. IsIdle worker) (turn_within call other moment begun objects).0.0
-  pub begins : (worker workers room : ℕ) (kind : ObjectKind) → IsIdle worker (new_object workers room kind)
+  pub begins : (worker workers room : ℕ) (keys : List (List ℕ)) (kind : ObjectKind) → IsIdle worker (new_object workers room keys kind)
   pub enters : (plan : Plan) (worker before : ℕ) (call : Call) (objects : List ObjectState) → IsReadyWithin plan.workers worker call objects → map kind_of objects ≡ map (λ (line : ObjectLine). line.kind) plan.objects
       → EachAt (λ place. IsIdle worker) objects → IsOutBut None worker objects
       → IsWithinCall worker call 0 objects × ((items : List Made) (answer : CallAnswer (Reply ℕ)) → left_within plan worker before call objects 0 items answer → SpellsCall plan worker before call items answer)

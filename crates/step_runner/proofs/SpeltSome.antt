@@ -146,6 +146,14 @@ module _ (plan : Plan) (worker before place : ℕ) (below : worker < plan.worker
   on_once atomic delta operations.Once = then_makes _ _ (stages_make _ _ _ _ _ _)
   on_once atomic delta operation = λ items answer never. absurd never
 
+  on_sema : (size : ℕ) (operation : Operation) → SomeOn (kinds.Sema size) operation
+  on_sema size (operations.Sema call) = read_makes _ _ (stages_make _ _ _ _ _ _)
+  on_sema size operation = λ items answer never. absurd never
+
+  on_flight : (atomic : ℕ) (delta : ℤ) (operation : Operation) → SomeOn (kinds.Flight atomic delta) operation
+  on_flight atomic delta (operations.Fly key) = then_makes _ _ (stages_make _ _ _ _ _ _)
+  on_flight atomic delta operation = λ items answer never. absurd never
+
   on_func : (code : ℕ) (operation : Operation) → SomeOn (kinds.OnceFunc code) operation
   on_func code operations.OnceFunc = then_makes _ _ (stages_make _ _ _ _ _ _)
   on_func code operation = λ items answer never. absurd never
@@ -165,6 +173,8 @@ module _ (plan : Plan) (worker before place : ℕ) (below : worker < plan.worker
   on_kind (kinds.OnceFunc code) operation = on_func code operation
   on_kind (kinds.OnceValue value) operation = on_value value operation
   on_kind kinds.Pool operation = on_pool operation
+  on_kind (kinds.Sema size) operation = on_sema size operation
+  on_kind (kinds.Flight atomic delta) operation = on_flight atomic delta operation
   on_kind kinds.Var operation = λ items answer never. absurd never
 
   at_line : (o : Option ObjectLine) (operation : Operation) → Makes (call_at plan worker before place o operation)

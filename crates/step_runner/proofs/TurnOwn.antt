@@ -23,6 +23,10 @@ use Rattle.wait_cores.specs.NotifyMachine as notify
 use Rattle.wait_cores.specs.GroupEventsLeft.{group_left}
 use Rattle.wait_cores.specs.GroupMachine as group
 use Rattle.wait_cores.specs.OnceMachine as once
+use Rattle.sema_core.specs.SemaEventsLeft.{sema_left}
+use Rattle.sema_core.specs.SemaMachine as sema
+use Rattle.sema_core.specs.SemaStages.{sema_event, sema_meaning}
+use Rattle.flight_core.specs.FlightMachine as flight
 use Rattle.wait_cores.specs.OnceStanding as once_standing
 use Rattle.wait_cores.specs.declared.once.OnceEvent.{OnceEvent}
 use Rattle.wait_cores.specs.declared.once.OnceReply.{OnceReply}
@@ -61,6 +65,7 @@ use Rattle.step_runner.specs.Recorded.{recorded, made_shared, shared_calls, reco
 use Rattle.step_runner.specs.Tells.{Tells}
 use Rattle.step_runner.specs.Within.{IsIdle, StandsAtOnce, StandsOn, StandsOnBoth}
 use Rattle.step_runner.proofs.CondSpelled.{CondBehind, CondStandsAt, cond_tells}
+use Rattle.step_runner.proofs.FlightSpelled.{flight_tells}
 use Rattle.step_runner.proofs.SpellingLaws.{Laws}
 use Rattle.step_runner.proofs.KindTurns.{Behind, kind_tells}
 use Rattle.step_runner.proofs.MutexSpelled.{mutex_tells}
@@ -94,7 +99,7 @@ nothing_first (Ok (Already kept)) rest = refl
 nothing_first (Ok Ended) rest = refl
 nothing_first (Err a) rest = refl
 
--- an object with a cond's call, or a once's, refers to another one
+-- an object with a call of a cond, of a once or of flights refers to another one
 pub cond_refers : (o : ObjectState) (call : CondCall) → has_call (kind_of o) (operations.Cond call) ≡ true → reference_of (kind_of o) ≡ None → ⊥
 cond_refers (states.Cond c place) call has alone = cc
 cond_refers o call has alone = no has
@@ -102,6 +107,10 @@ cond_refers o call has alone = no has
 pub once_refers : (o : ObjectState) → has_call (kind_of o) operations.Once ≡ true → reference_of (kind_of o) ≡ None → ⊥
 once_refers (states.Once o place delta) has alone = cc
 once_refers o has alone = no has
+
+pub fly_refers : (o : ObjectState) (key : List ℕ) → has_call (kind_of o) (operations.Fly key) ≡ true → reference_of (kind_of o) ≡ None → ⊥
+fly_refers (states.Flight f keys place delta) key has alone = cc
+fly_refers o key has alone = no has
 
 -- no object alone has a `waitfor`
 pub wait_for_alone : (o : ObjectState) (atomic tries : ℕ) (value : Number) → has_call (kind_of o) (operations.Composed (WaitFor atomic value tries)) ≡ true → ⊥
@@ -127,10 +136,11 @@ cond_behind cond_calls.Wait x at c m a is = is
 cond_behind cond_calls.Signal x at c m a is = is
 cond_behind cond_calls.Broadcast x at c m a is = is
 
--- an object that refers to another one, and has the call, is a cond with its mutex, or a once with its int64
+-- an object that refers to another one, and has the call, is a cond with its mutex, or a once or a group of flights with its int64
 abbrev pub Pair : Operation → ObjectState → ObjectState → Type 0
 Pair (operations.Cond call) (states.Cond c at) (states.Mutex m) = Unit {0}
 Pair operations.Once (states.Once o at delta) (states.Atomic (Int64 held)) = Unit {0}
+Pair (operations.Fly key) (states.Flight f keys at delta) (states.Atomic (Int64 held)) = Unit {0}
 Pair operation o target = ⊥
 
 pub only_pairs : (o : ObjectState) (operation : Operation) (target : ObjectState) → has_call (kind_of o) operation ≡ true → is_target (kind_of o) (kind_of target) ≡ true → Pair operation o target
@@ -141,6 +151,10 @@ only_pairs (states.Once o at delta) operations.Once (states.Atomic (Int64 held))
 only_pairs (states.Once o at delta) operations.Once (states.Atomic number) has is = no is
 only_pairs (states.Once o at delta) operations.Once target has is = no is
 only_pairs (states.Once o at delta) operation target has is = no has
+only_pairs (states.Flight f keys at delta) (operations.Fly key) (states.Atomic (Int64 held)) has is = tt
+only_pairs (states.Flight f keys at delta) (operations.Fly key) (states.Atomic number) has is = no is
+only_pairs (states.Flight f keys at delta) (operations.Fly key) target has is = no is
+only_pairs (states.Flight f keys at delta) operation target has is = no has
 only_pairs o operation target has is = no is
 
 module _ (laws : Laws) (plan : Plan) (worker before place moment : ℕ) where
@@ -202,6 +216,9 @@ module _ (laws : Laws) (plan : Plan) (worker before place moment : ℕ) where
   turn_own (operations.WaitGroup call) (states.WaitGroup g first) has alone below is keys out stands plain =
       kind_tells group.next group_event group_meaning group.callers_of due.group_turn due.group_behind due.GroupFits due.group_from group_left laws.machines.groups (λ done. replies.Returned) call worker moment g (omega (arith, below, is))
       events.WaitGroup answered.WaitGroup plan place (λ done. replies.Returned) (λ done. refl) (λ e r. refl) before stands
+  turn_own (operations.Sema call) (states.Sema s size) has alone below is keys out stands plain =
+      kind_tells sema.next sema_event sema_meaning sema.callers_of due.sema_turn due.sema_behind due.SemaFits due.sema_from sema_left laws.machines.semas replies.Lock call worker moment s (omega (arith, below, is))
+      events.Sema answered.Sema plan place replies.Lock (λ outcome. refl) (λ e r. refl) before stands
   turn_own operations.OnceFunc (states.OnceFunc o code) has alone below is keys out stands plain = func_own o code stands (omega (arith, below, is))
   turn_own operations.OnceValue (states.OnceValue o value) has alone below is keys out stands plain = value_own o value stands (omega (arith, below, is))
   turn_own (operations.Pool call) (states.Pool p) has alone below is keys out stands plain =
@@ -211,6 +228,7 @@ module _ (laws : Laws) (plan : Plan) (worker before place moment : ℕ) where
       )
   turn_own (operations.Cond call) o has alone below is keys out stands plain = absurd (cond_refers o call has alone)
   turn_own operations.Once o has alone below is keys out stands plain = absurd (once_refers o has alone)
+  turn_own (operations.Fly key) o has alone below is keys out stands plain = absurd (fly_refers o key has alone)
   turn_own (operations.Composed (WaitFor atomic number tries)) o has alone below is keys out stands plain = absurd (wait_for_alone o atomic tries number has)
   turn_own (operations.Composed (Go started)) o has alone below is keys out stands plain = absurd (go_alone o started has)
   turn_own (operations.Var call) o has alone below is keys out stands plain = no (sym plain)
@@ -254,10 +272,18 @@ module _ (laws : Laws) (plan : Plan) (worker before place moment : ℕ) where
         (told.1, tt),
       )
 
+  -- the group's numbers are the plan's
+  fly_own : (other : ℕ) (key : List ℕ) (f : flight.FlightState) (keys : List (List ℕ)) (at : ℕ) (delta held : ℤ) → keys ≡ keys_in plan.scripts → worker < flight.callers_of f
+      → BothTurn other (operations.Fly key) (states.Flight f keys at delta) (states.Atomic (Int64 held))
+  fly_own other key f keys at delta held named below =
+      let told = flight_tells laws.machines.flights plan place other worker moment before (key_number (keys_in plan.scripts) key) delta held f below in
+      subst (λ (keys : List (List ℕ)). BothTurn other (operations.Fly key) (states.Flight f keys at delta) (states.Atomic (Int64 held))) (sym named) (told.0, (told.1, tt))
+
   pub both_own : (other : ℕ) (operation : Operation) (o target : ObjectState) → has_call (kind_of o) operation ≡ true → is_target (kind_of o) (kind_of target) ≡ true → worker < plan.workers → IsMachineOf plan.workers o
-      → IsMachineOf plan.workers target → (may_wait operation ≡ false → IsOutAt worker target) → StandsOnBoth operation worker o target → BothTurn other operation o target
-  both_own other (operations.Cond call) (states.Cond c at) (states.Mutex m) has target below is there out stands =
+      → IsMachineOf plan.workers target → HasObjectKeysIn (all_keys plan.scripts) o → (may_wait operation ≡ false → IsOutAt worker target) → StandsOnBoth operation worker o target → BothTurn other operation o target
+  both_own other (operations.Cond call) (states.Cond c at) (states.Mutex m) has target below is there keys out stands =
       let told = cond_tells laws.machines.mutexes laws.machines.conds plan place other worker moment before call c m (cond_stands call worker at c m stands) (omega (arith, below, is)) (omega (arith, below, there.1)) there.0 in
       (told.0, (cond_behind call worker at _ _ _ told.1, tt))
-  both_own other operations.Once (states.Once o at delta) (states.Atomic (Int64 held)) has target below is there out stands = sum_own other at delta held o stands (omega (arith, below, is))
-  both_own other operation o target has is_one below is there out stands = absurd (only_pairs o operation target has is_one)
+  both_own other operations.Once (states.Once o at delta) (states.Atomic (Int64 held)) has target below is there keys out stands = sum_own other at delta held o stands (omega (arith, below, is))
+  both_own other (operations.Fly key) (states.Flight f keys at delta) (states.Atomic (Int64 held)) has target below is there named out stands = fly_own other key f keys at delta held named (omega (arith, below, is))
+  both_own other operation o target has is_one below is there keys out stands = absurd (only_pairs o operation target has is_one)

@@ -42,6 +42,7 @@ load_alone objects place worker moment o at has = no has
 no_load_refers : (kind : ObjectKind) (other : ℕ) → reference_of kind ≡ Some other → has_call kind (operations.Atomic Load) ≡ true → ⊥
 no_load_refers (kinds.Cond place) other some has = no has
 no_load_refers (kinds.Once place delta) other some has = no has
+no_load_refers (kinds.Flight place delta) other some has = no has
 no_load_refers kind other some has = nothing some
 
 -- it changes nothing

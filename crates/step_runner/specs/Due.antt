@@ -1,11 +1,13 @@
 -- The stage that a worker's call is at, by where the worker stands at the object: none, where it waits and isn't told to go on. With it, what an outcome makes of the call.
-use Rattle.std.specs.Prelude.{◌≡◌, ℕ, Bool, true, false, if◌then◌else◌, List, map, Option, Some, None, unwrap_or, Result}
+use Rattle.std.specs.Prelude.{◌≡◌, ℕ, ℤ, Bool, true, false, if◌then◌else◌, List, map, Option, Some, None, unwrap_or, Result}
 use Rattle.std.specs.List.{range_with_len}
 use Rattle.script_calls.specs.declared.call.Reply.{Reply}
 use Rattle.script_calls.specs.declared.call.Reply.TheVariants as replies
 use Rattle.sync_types.specs.declared.lock_call.LockReply.{LockReply}
 use Rattle.sync_types.specs.declared.lock_call.MutexCall.{MutexCall}
 use Rattle.sync_types.specs.declared.lock_call.RwMutexCall.{RwMutexCall}
+use Rattle.sync_types.specs.declared.sema_call.SemaCall.{SemaCall}
+use Rattle.sync_types.specs.declared.sema_call.SemaCall.TheVariants as sema_calls
 use Rattle.sync_types.specs.declared.wait_call.CondCall.{CondCall}
 use Rattle.sync_types.specs.declared.wait_call.CondCall.TheVariants as cond_calls
 use Rattle.sync_types.specs.declared.wait_call.WaitGroupCall.{WaitGroupCall}
@@ -23,6 +25,18 @@ use Rattle.wait_cores.specs.declared.notify.NotifyPlace.TheVariants as notify_pl
 use Rattle.wait_cores.specs.declared.once.OncePlace.{OncePlace}
 use Rattle.wait_cores.specs.declared.once.OncePlace.TheVariants as once_place
 use Rattle.pool_core.specs.Looks.{look}
+use Rattle.flight_core.specs.declared.calls.FlightOutcome.{FlightOutcome}
+use Rattle.flight_core.specs.declared.calls.FlightOutcome.TheVariants.{Lead, Got, Landed}
+use Rattle.flight_core.specs.declared.calls.FlightStage.{FlightStage}
+use Rattle.flight_core.specs.declared.calls.FlightStage.TheVariants as flight_stage
+use Rattle.flight_core.specs.declared.event.FlightPlace.{FlightPlace}
+use Rattle.flight_core.specs.declared.event.FlightPlace.TheVariants as flight_place
+use Rattle.sema_core.specs.SemaMachine as sema
+use Rattle.sema_core.specs.SemaStanding as sema_standing
+use Rattle.sema_core.specs.declared.calls.SemaStage.{SemaStage}
+use Rattle.sema_core.specs.declared.calls.SemaStage.TheVariants as sema_stages
+use Rattle.sema_core.specs.declared.event.SemaPlace.{SemaPlace}
+use Rattle.sema_core.specs.declared.event.SemaPlace.TheVariants as sema_place
 use Rattle.protocols.specs.declared.cond.CondStage.{CondStage}
 use Rattle.protocols.specs.declared.cond.CondStage.TheVariants as cond_stage
 use Rattle.protocols.specs.declared.mutex.MutexStage.{MutexStage}
@@ -39,6 +53,7 @@ use Rattle.protocols.specs.declared.wait_group.GroupStage.TheVariants as group_s
 use Rattle.run_record.specs.MutexKind.{mutex_stage}
 use Rattle.run_record.specs.PoolKind.{stage_of}
 use Rattle.run_record.specs.RwMutexKind.{rw_mutex_stage}
+use Rattle.run_record.specs.SemaKind.{sema_stage}
 use Rattle.run_record.specs.WaitGroupKind.{wait_group_stage}
 use Rattle.step_runner.specs.declared.turns.answer.Answer.{Answer}
 use Rattle.step_runner.specs.declared.turns.answer.Answer.TheVariants as answers
@@ -95,6 +110,26 @@ group_from call behind = wait_group_stage call
 abbrev pub returned : Unit {0} → Answer
 returned outcome = answers.Completed replies.Returned
 
+-- a call of a semaphore begins at its first stage, and an `acquire` that was granted its weight leaves. No other call waits
+abbrev pub sema_due : SemaCall → SemaPlace → Option SemaStage
+sema_due call sema_place.Out = Some (sema_stage call)
+sema_due (sema_calls.Acquire weight) sema_place.Granted = Some sema_stages.Leave
+sema_due call at = None
+
+abbrev pub sema_turn : SemaCall → sema.SemaState → ℕ → Option SemaStage
+sema_turn call s worker = sema_due call (sema.place_of s worker)
+
+-- one that waits, granted its weight or not, is to leave
+abbrev pub sema_behind : sema.SemaState → ℕ → Option SemaStage
+sema_behind s worker = if sema_standing.waits_at s worker then Some sema_stages.Leave else None
+
+abbrev pub SemaFits : SemaCall → Option SemaStage → Type 0
+SemaFits call behind = Unit {0}
+
+-- from the stage for which a caller waits, and else from the call's first one
+abbrev pub sema_from : SemaCall → Option SemaStage → SemaStage
+sema_from call behind = unwrap_or behind (sema_stage call)
+
 -- Of a cond's call, by where the worker stands at the mutex and at the cond: the stage at the cond, if there is one, and the one behind it at the mutex.
 -- One that stands at the mutex has left the cond
 abbrev pub cond_due : CondCall → MutexPlace → NotifyPlace → Option CondStage × Option MutexStage
@@ -137,6 +172,26 @@ abbrev pub ran_or : {T : Type 0} → Reply (List ℕ) → (T → Reply (List ℕ
 ran_or ran had Run = answers.Unfinished
 ran_or ran had (Already kept) = answers.Completed (had kept)
 ran_or ran had Ended = answers.Completed ran
+
+-- ---- flights
+
+-- one that is out comes for its key, one that leads a flight lands with what the function comes to, and one whose flight has landed leaves
+abbrev pub flight_due : ℕ → ℤ → FlightPlace → Option FlightStage
+flight_due key value flight_place.Out = Some (flight_stage.Join key)
+flight_due key value (flight_place.Leads own) = Some (flight_stage.Land value)
+flight_due key value (flight_place.Waits own) = None
+flight_due key value (flight_place.Landed got) = Some flight_stage.Leave
+
+-- whether the stage that is due lands
+abbrev pub lands : Option FlightStage → Bool
+lands (Some (flight_stage.Land value)) = true
+lands due = false
+
+-- the replies of the one that led the flight, which came to this, and of one that joined it. One that leads runs the function in a later turn
+abbrev pub flown : ℤ → FlightOutcome → Answer
+flown value Lead = answers.Unfinished
+flown value (Got got) = answers.Completed (replies.Flown got true)
+flown value (Landed shared) = answers.Completed (replies.Flown value shared)
 
 -- ---- pools
 

@@ -32,6 +32,12 @@ use Rattle.wait_cores.specs.OnceStanding.{runs_at}
 use Rattle.wait_cores.specs.declared.once.OnceEvent.{OnceEvent}
 use Rattle.wait_cores.specs.declared.once.OnceReply.{OnceReply}
 use Rattle.pool_core.specs.PoolMachine as pool
+use Rattle.sema_core.specs.SemaMachine as sema
+use Rattle.sema_core.specs.SemaStages.{sema_event}
+use Rattle.flight_core.specs.FlightMachine as flight
+use Rattle.flight_core.specs.FlightStages.{flight_event}
+use Rattle.flight_core.specs.declared.calls.FlightOutcome.{FlightOutcome}
+use Rattle.flight_core.specs.declared.calls.FlightOutcome.TheVariants.{Landed}
 use Rattle.protocols.specs.CondStages.{cond_event}
 use Rattle.protocols.specs.GroupStages.{group_event}
 use Rattle.protocols.specs.MutexStages as mutex_stages
@@ -46,6 +52,7 @@ use Rattle.run_record.specs.declared.entered.ObjectEvent.{ObjectEvent}
 use Rattle.run_record.specs.declared.entered.ObjectEvent.TheVariants as events
 use Rattle.run_record.specs.declared.entered.ObjectReply.{ObjectReply}
 use Rattle.run_record.specs.declared.entered.ObjectReply.TheVariants as answered
+use Rattle.workload.specs.Keys.{key_number}
 use Rattle.workload.specs.Plan.{reference_of}
 use Rattle.step_runner.specs.declared.turns.answer.Answer.{Answer}
 use Rattle.step_runner.specs.declared.turns.item.Deed.{Deed}
@@ -53,10 +60,10 @@ use Rattle.step_runner.specs.declared.turns.item.Deed.TheVariants as deeds
 use Rattle.step_runner.specs.declared.turns.item.Item.{Item}
 use Rattle.step_runner.specs.declared.turns.object_state.ObjectState.{ObjectState}
 use Rattle.step_runner.specs.declared.turns.object_state.ObjectState.TheVariants as states
-use Rattle.step_runner.specs.Due.{mutex_due, rw_due, group_due, cond_due, once_due, looks_of}
+use Rattle.step_runner.specs.Due.{mutex_due, rw_due, group_due, sema_due, cond_due, once_due, flight_due, looks_of}
 use Rattle.step_runner.specs.Objects.{kind_of}
 use Rattle.step_runner.specs.PoolTurn.{looked}
-use Rattle.step_runner.specs.TurnAtObjects.{once_made}
+use Rattle.step_runner.specs.TurnAtObjects.{once_made, flight_made}
 use Rattle.step_runner.specs.Variables.{var_reply}
 
 -- ---- of one machine
@@ -109,6 +116,7 @@ items_on (operations.Composed (IfEqual value passes)) worker moment object (stat
 items_on (operations.Mutex call) worker moment object (states.Mutex m) = stage_items events.Mutex answered.Mutex mutex.next mutex_stages.mutex_event worker moment object (mutex_due call (mutex.place_of m worker)) m
 items_on (operations.RwMutex call) worker moment object (states.RwMutex m) = stage_items events.RwMutex answered.RwMutex rw.next rw_stages.rw_event worker moment object (rw_due call (rw.place_of m worker)) m
 items_on (operations.WaitGroup call) worker moment object (states.WaitGroup g first) = stage_items events.WaitGroup answered.WaitGroup group.next group_event worker moment object (group_due call (group.place_of g worker)) g
+items_on (operations.Sema call) worker moment object (states.Sema s size) = stage_items events.Sema answered.Sema sema.next sema_event worker moment object (sema_due call (sema.place_of s worker)) s
 items_on operations.OnceFunc worker moment object (states.OnceFunc o code) = once_items events.OnceFunc answered.OnceFunc worker moment object code o
 items_on operations.OnceValue worker moment object (states.OnceValue o value) = once_items events.OnceValue answered.OnceValue worker moment object value o
 items_on (operations.Pool call) worker moment object (states.Pool p) = pool_items worker moment object call p
@@ -126,6 +134,20 @@ sum_items worker moment object other o delta number (Int64 sum) =
     add_items worker other delta number (once_made worker moment sum o).1 ++ once_items events.Once answered.Once worker moment object sum o
 sum_items worker moment object other o delta number sum = []
 
+abbrev pub flight_items : ℕ → ℕ → ℕ → ℕ → ℤ → flight.FlightState → List Item
+flight_items worker moment object key value f = stage_items events.Flight answered.Flight flight.next flight_event worker moment object (flight_due key value (flight.place_of f worker)) f
+
+-- the `add` of the function of a group of flights, where this turn lands
+abbrev pub landed_items : ℕ → ℕ → ℤ → Number → Result FlightOutcome Answer → List Item
+landed_items worker object delta number (Ok (Landed shared)) = placed_at worker object (operations.Atomic (Add (Int64 delta))) (replies.Atomic (atomic_reply (Add (Int64 delta)) number))
+landed_items worker object delta number other = []
+
+-- it comes before the landing
+abbrev pub fly_items : ℕ → ℕ → ℕ → ℕ → ℕ → flight.FlightState → ℤ → Number → Number → List Item
+fly_items key worker moment object other f delta number (Int64 sum) =
+    landed_items worker other delta number (flight_made worker moment key sum f).1 ++ flight_items worker moment object key sum f
+fly_items key worker moment object other f delta number sum = []
+
 -- at an object that refers to another one, and at that one
 abbrev pub items_on_both : Operation → ℕ → ℕ → ℕ → ℕ → ObjectState → ObjectState → List Item
 items_on_both (operations.Cond call) worker moment object other (states.Cond c place) (states.Mutex m) =
@@ -134,6 +156,8 @@ items_on_both (operations.Cond call) worker moment object other (states.Cond c p
     ++ stage_items events.Mutex answered.Mutex mutex.next mutex_stages.mutex_event worker moment other due.1 m
 items_on_both operations.Once worker moment object other (states.Once o place delta) (states.Atomic number) =
     sum_items worker moment object other o delta number (atomic_after (Add (Int64 delta)) number)
+items_on_both (operations.Fly key) worker moment object other (states.Flight f keys place delta) (states.Atomic number) =
+    fly_items (key_number keys key) worker moment object other f delta number (atomic_after (Add (Int64 delta)) number)
 items_on_both operation worker moment object other o target = []
 
 abbrev pub items_by : Option ℕ → Call → ℕ → ℕ → List ObjectState → ObjectState → List Item

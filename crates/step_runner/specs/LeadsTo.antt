@@ -19,6 +19,8 @@ use Rattle.wait_cores.specs.NotifyMachine as notify
 use Rattle.wait_cores.specs.GroupMachine as group
 use Rattle.wait_cores.specs.OnceMachine as once
 use Rattle.pool_core.specs.PoolMachine as pool
+use Rattle.sema_core.specs.SemaMachine as sema
+use Rattle.flight_core.specs.FlightMachine as flight
 use Rattle.run_record.specs.declared.entered.ObjectEvent.{ObjectEvent}
 use Rattle.run_record.specs.declared.entered.ObjectEvent.TheVariants as events
 use Rattle.run_record.specs.declared.entered.ObjectReply.{ObjectReply}
@@ -82,5 +84,7 @@ LeadsTo (states.Once m place delta) made (states.Once n other amount) = FollowsT
 LeadsTo (states.OnceFunc m code) made (states.OnceFunc n other) = FollowsTo events.OnceFunc answered.OnceFunc once.next m made n
 LeadsTo (states.OnceValue m value) made (states.OnceValue n other) = FollowsTo events.OnceValue answered.OnceValue once.next m made n
 LeadsTo (states.Pool m) made (states.Pool n) = FollowsTo events.Pool answered.Pool pool.next m made n
+LeadsTo (states.Sema m size) made (states.Sema n other) = FollowsTo events.Sema answered.Sema sema.next m made n
+LeadsTo (states.Flight m keys place delta) made (states.Flight n later other amount) = FollowsTo events.Flight answered.Flight flight.next m made n
 LeadsTo (states.Var m) made (states.Var n) = CallsTo VarGoes m made n
 LeadsTo first made last = ⊥

@@ -1,5 +1,5 @@
 -- What is left of a call to be spelt, by where its worker stands.
-use Rattle.std.specs.Prelude.{ℕ, Bool, true, false, List, Option, Some, None, slice_get}
+use Rattle.std.specs.Prelude.{ℕ, ℤ, Bool, true, false, List, Option, Some, None, slice_get}
 use Rattle.script_calls.specs.declared.call.Call.{Call}
 use Rattle.script_calls.specs.declared.call.Operation.{Operation}
 use Rattle.script_calls.specs.declared.call.Operation.TheVariants as operations
@@ -12,6 +12,7 @@ use Rattle.sync_types.specs.declared.once_call.DoReply.TheVariants as do_replies
 use Rattle.sync_types.specs.declared.wait_call.CondCall.{CondCall}
 use Rattle.sync_types.specs.declared.wait_call.CondCall.TheVariants as cond_calls
 use Rattle.sync_types.specs.declared.wait_call.WaitGroupCall.{WaitGroupCall}
+use Rattle.sync_types.specs.declared.sema_call.SemaCall.{SemaCall}
 use Rattle.mutex_core.specs.MutexMachine as mutex
 use Rattle.mutex_core.specs.declared.place.Place.{Place as MutexPlace}
 use Rattle.mutex_core.specs.declared.place.Place.TheVariants as mutex_place
@@ -20,6 +21,14 @@ use Rattle.rw_core.specs.declared.place.Place.{Place as RwPlace}
 use Rattle.rw_core.specs.declared.place.Place.TheVariants as rw_place
 use Rattle.wait_cores.specs.NotifyStanding.{has_ticket}
 use Rattle.wait_cores.specs.OnceStanding as once
+use Rattle.flight_core.specs.FlightStanding as flight
+use Rattle.flight_core.specs.declared.calls.FlightOutcome.{FlightOutcome}
+use Rattle.flight_core.specs.declared.calls.FlightOutcome.TheVariants.{Lead}
+use Rattle.flight_core.specs.declared.calls.FlightStage.{FlightStage}
+use Rattle.flight_core.specs.declared.calls.FlightStage.TheVariants as flight_stage
+use Rattle.flight_core.specs.declared.calls.FlightStand.{FlightStand}
+use Rattle.flight_core.specs.declared.calls.FlightStand.TheVariants.{Out, Leads, Waits}
+use Rattle.sema_core.specs.declared.calls.SemaStage.{SemaStage}
 use Rattle.protocols.specs.OnceStages.{once_event, once_meaning}
 use Rattle.protocols.specs.RwMutexStages.{rw_event, rw_meaning}
 use Rattle.protocols.specs.declared.cond.CondStage.TheVariants as cond_stage
@@ -34,19 +43,22 @@ use Rattle.protocols.specs.declared.wait_group.GroupStage.{GroupStage}
 use Rattle.run_record.specs.AtomicKind.{adds}
 use Rattle.run_record.specs.Calls.{call_on}
 use Rattle.run_record.specs.CondKind.{cond_part, wait_part, cond_call}
+use Rattle.run_record.specs.FlightKind.{flight_part, goes_on_flight}
 use Rattle.run_record.specs.MutexKind.{mutex_part, mutex_call}
 use Rattle.run_record.specs.Objects.{atomic_number}
 use Rattle.run_record.specs.OnceKind.{goes_on_once, once_part, failure}
 use Rattle.run_record.specs.Parts.{Part, and_then, never, read_as, returns, stages}
 use Rattle.run_record.specs.Record.{object_number}
 use Rattle.run_record.specs.RwMutexKind.{rw_mutex_call}
+use Rattle.run_record.specs.SemaKind.{sema_part}
 use Rattle.run_record.specs.WaitGroupKind.{wait_group_part}
 use Rattle.run_record.specs.declared.entered.ObjectEvent.TheVariants as events
 use Rattle.run_record.specs.declared.entered.ObjectReply.TheVariants as answered
+use Rattle.workload.specs.Keys.{keys_in, key_number}
 use Rattle.workload.specs.Plan.{Plan, reference_of}
 use Rattle.step_runner.specs.declared.turns.object_state.ObjectState.{ObjectState}
 use Rattle.step_runner.specs.declared.turns.object_state.ObjectState.TheVariants as states
-use Rattle.step_runner.specs.Due.{group_behind, group_from}
+use Rattle.step_runner.specs.Due.{group_behind, group_from, sema_behind, sema_from}
 use Rattle.step_runner.specs.Objects.{kind_of}
 
 -- ---- whether a worker is within a lock
@@ -87,6 +99,9 @@ rw_left object call (Some stage) = read_as replies.Lock (stages events.RwMutex a
 abbrev pub group_left : ℕ → WaitGroupCall → Option GroupStage → Part (Reply ℕ)
 group_left object call behind = read_as (λ done. replies.Returned) (wait_group_part object (group_from call behind))
 
+abbrev pub sema_left : ℕ → SemaCall → Option SemaStage → Part (Reply ℕ)
+sema_left object call behind = read_as replies.Lock (sema_part object (sema_from call behind))
+
 -- by whether the worker has a ticket, and whether it waits at the mutex: one with a ticket leaves and locks the mutex, and one that waits there goes on
 abbrev pub cond_left : ℕ → ℕ → CondCall → Bool → Bool → Part (Reply ℕ)
 cond_left object mutex cond_calls.Wait has true = read_as (λ locked. replies.Returned) (mutex_part mutex mutex_stage.Resume)
@@ -101,6 +116,13 @@ module _ {T : Type 0} (part : OnceStage T → Part (OnceOutcome T)) (function : 
   once_left true false = goes_on_once part function ran returned Run
   once_left false false = once_part part function ran returned
 
+module _ (part : FlightStage → Part FlightOutcome) (function : Part ℤ) (key : ℕ) where
+  -- by where the worker stands, who comes for the key of this number: one that leads a flight does what the function does and lands, and one that waits leaves
+  abbrev pub flight_left : FlightStand → Part (Reply ℕ)
+  flight_left Out = and_then (part (flight_stage.Join key)) (goes_on_flight part function)
+  flight_left Leads = goes_on_flight part function Lead
+  flight_left Waits = and_then (part flight_stage.Leave) (goes_on_flight part function)
+
 -- ---- what is left of a worker's call, who has made so many calls on maps and atomics before
 
 module _ (plan : Plan) (worker before place : ℕ) where
@@ -109,6 +131,7 @@ module _ (plan : Plan) (worker before place : ℕ) where
   left_on (operations.Mutex call) (states.Mutex m) = mutex_left (object_number place) call (mutex_waits (mutex.place_of m worker))
   left_on (operations.RwMutex call) (states.RwMutex m) = rw_left (object_number place) call (rw_waits (rw.place_of m worker))
   left_on (operations.WaitGroup call) (states.WaitGroup g first) = group_left (object_number place) call (group_behind g worker)
+  left_on (operations.Sema call) (states.Sema s size) = sema_left (object_number place) call (sema_behind s worker)
   left_on operations.OnceFunc (states.OnceFunc o code) =
       once_left (stages events.OnceFunc answered.OnceFunc once_event once_meaning (object_number place)) (returns code) (λ kept. replies.OnceFunc (failure kept)) (λ kept. replies.OnceFunc (failure kept))
       (once.runs_at o worker) (once.waits_at o worker)
@@ -123,6 +146,8 @@ module _ (plan : Plan) (worker before place : ℕ) where
   left_on_both other operations.Once (states.Once o at delta) (states.Atomic number) =
       once_left (stages events.Once answered.Once once_event once_meaning (object_number place)) (adds (atomic_number plan.objects other) delta) (λ sum. replies.Once (do_replies.Ran sum))
       (λ kept. replies.Once do_replies.Done) (once.runs_at o worker) (once.waits_at o worker)
+  left_on_both other (operations.Fly key) (states.Flight f keys at delta) (states.Atomic number) =
+      flight_left (flight_part (object_number place)) (adds (atomic_number plan.objects other) delta) (key_number (keys_in plan.scripts) key) (flight.stands_at f worker)
   left_on_both other operation o target = never
 
 module _ (plan : Plan) (worker before : ℕ) (call : Call) where

@@ -1,4 +1,4 @@
--- What the laws of the machines say, together, of where callers stand, of what they are answered, and of what the events of wait groups and onces use up.
+-- What the laws of the machines say, together, of where callers stand, of what they are answered, and of what the events of wait groups, onces, semaphores and flights use up.
 use Rattle.std.specs.Prelude.{◌≡◌, ◌≢◌, ℕ, ℤ, ◌+◌, ◌<◌, ◌≤◌, IsTrue, IsFalse}
 use Rattle.mutex_core.specs.MutexMachine as mutex
 use Rattle.mutex_core.specs.Moves as mutex_moves
@@ -23,8 +23,16 @@ use Rattle.wait_cores.specs.declared.notify.NotifyEvent.{NotifyEvent}
 use Rattle.wait_cores.specs.declared.notify.NotifyReply.TheVariants as notify_reply
 use Rattle.wait_cores.specs.declared.once.OnceEvent.{OnceEvent}
 use Rattle.wait_cores.specs.declared.once.OnceReply.TheVariants as once_reply
+use Rattle.sema_core.specs.SemaEventsLeft.{sema_left}
+use Rattle.sema_core.specs.SemaMachine as sema
+use Rattle.sema_core.specs.SemaStages.{sema_event, sema_meaning}
+use Rattle.flight_core.specs.FlightEventsLeft.{flight_left, flight_used, flight_given}
+use Rattle.flight_core.specs.FlightMachine as flight
+use Rattle.flight_core.specs.FlightStanding as flight_standing
+use Rattle.flight_core.specs.declared.event.FlightEvent.{FlightEvent}
+use Rattle.flight_core.specs.declared.event.FlightReply.TheVariants as flight_reply
 use Rattle.protocols.specs.GroupStages.{group_event, group_meaning}
-use Rattle.step_runner.specs.Due.{group_turn, group_behind, GroupFits, group_from}
+use Rattle.step_runner.specs.Due.{group_turn, group_behind, GroupFits, group_from, sema_turn, sema_behind, SemaFits, sema_from}
 use Rattle.step_runner.specs.TurnKinds.{TurnsStand}
 
 pub record MutexStands : Type 0 where
@@ -48,6 +56,9 @@ pub record CondStands : Type 0 where
 abbrev pub GroupTurns : Type 0
 GroupTurns = TurnsStand group.next group_event group_meaning group.callers_of group_turn group_behind GroupFits group_from group_left
 
+abbrev pub SemaTurns : Type 0
+SemaTurns = TurnsStand sema.next sema_event sema_meaning sema.callers_of sema_turn sema_behind SemaFits sema_from sema_left
+
 pub record OnceUses (T : Type 0) : Type 0 where
   pub answers : (o : once.OnceState T) (c : ℕ) (e : OnceEvent T) → c < once.callers_of o → IsTrue (once_standing.answers (once_standing.waits_at o c) (once_standing.runs_at o c) e (once.next o c e).1)
   pub made : (o : once.OnceState T) (c : ℕ) (e : OnceEvent T) → IsTrue (once_standing.may_make o c e) → (once.next o c e).1 ≢ once_reply.Still
@@ -60,6 +71,13 @@ pub record OnceStands (T : Type 0) : Type 0 where
   pub others_run : (o : once.OnceState T) (x by : ℕ) (e : OnceEvent T) → x ≢ by → once_standing.runs_at (once.next o by e).0 x ≡ once_standing.runs_at o x
   pub uses : OnceUses T
 
+pub record FlightStands : Type 0 where
+  pub own : (f : flight.FlightState) (x : ℕ) (e : FlightEvent) → flight_standing.stands_at (flight.next f x e).0 x ≡ flight_standing.stands_after (flight_standing.stands_at f x) (flight.next f x e).1
+  pub others : (f : flight.FlightState) (x by : ℕ) (e : FlightEvent) → x ≢ by → flight_standing.stands_at (flight.next f by e).0 x ≡ flight_standing.stands_at f x
+  pub answers : (f : flight.FlightState) (x : ℕ) (e : FlightEvent) → x < flight.callers_of f → IsTrue (flight_standing.answers (flight_standing.stands_at f x) e (flight.next f x e).1)
+  pub made : (f : flight.FlightState) (x : ℕ) (e : FlightEvent) → IsTrue (flight_standing.may_make f x e) → (flight.next f x e).1 ≢ flight_reply.Still
+  pub used : (f : flight.FlightState) (x : ℕ) (e : FlightEvent) → flight_left (flight.next f x e).0 + flight_used (flight.next f x e).1 ≤ flight_left f + flight_given (flight.next f x e).1
+
 -- all of them; a once adds amounts or gives values
 pub record MachinesStand : Type 0 where
   pub mutexes : MutexStands
@@ -68,3 +86,5 @@ pub record MachinesStand : Type 0 where
   pub groups : GroupTurns
   pub adding : OnceStands ℤ
   pub giving : OnceStands ℕ
+  pub semas : SemaTurns
+  pub flights : FlightStands

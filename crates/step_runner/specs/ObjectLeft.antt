@@ -5,6 +5,8 @@ use Rattle.rw_core.specs.EventsLeft as rw
 use Rattle.wait_cores.specs.NotifyEventsLeft.{notify_left}
 use Rattle.wait_cores.specs.GroupEventsLeft.{group_left}
 use Rattle.wait_cores.specs.OnceEventsLeft.{once_left}
+use Rattle.sema_core.specs.SemaEventsLeft.{sema_left}
+use Rattle.flight_core.specs.FlightEventsLeft.{flight_left}
 use Rattle.step_runner.specs.declared.turns.answer.Answer.{Answer}
 use Rattle.step_runner.specs.declared.turns.answer.Answer.TheVariants as answers
 use Rattle.step_runner.specs.declared.turns.object_state.ObjectState.{ObjectState}
@@ -22,6 +24,8 @@ object_left (states.Once o place delta) = once_left o
 object_left (states.OnceFunc o code) = once_left o
 object_left (states.OnceValue o value) = once_left o
 object_left (states.Pool p) = 0
+object_left (states.Sema s size) = sema_left s
+object_left (states.Flight f keys place delta) = flight_left f
 object_left (states.Var held) = 0
 
 -- what a turn's answer says of what was left and is left. No event: all is the same; an event that completes no call: less is left; one that

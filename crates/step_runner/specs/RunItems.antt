@@ -12,6 +12,7 @@ use Rattle.script_calls.specs.declared.call.Reply.TheVariants as replies
 use Rattle.workload.specs.declared.object.ObjectLine.{ObjectLine}
 use Rattle.workload.specs.declared.turn.Turn.{Turn}
 use Rattle.workload.specs.declared.turn.Turn.TheVariants as items
+use Rattle.workload.specs.Keys.{keys_in}
 use Rattle.workload.specs.Plan.{Plan}
 use Rattle.workload.specs.Puts.{puts_at}
 use Rattle.step_runner.specs.declared.turns.object_state.ObjectState.{ObjectState}
@@ -46,7 +47,7 @@ all_made plan (items.Moment moment ∷ rest) s = all_made plan rest (with_moment
 abbrev pub LeadTo : Plan → List Item → List ObjectState → Type 0
 LeadTo plan made objects =
     (place : ℕ) (line : ObjectLine) (object : ObjectState) → slice_get plan.objects place ≡ Some line → slice_get objects place ≡ Some object
-    → LeadsTo (new_object plan.workers (puts_at place plan.scripts) line.kind) (on_object place made) object
+    → LeadsTo (new_object plan.workers (puts_at place plan.scripts) (keys_in plan.scripts) line.kind) (on_object place made) object
 
 -- the worker's next turn makes its call whole, in one item whose reply is the call's
 abbrev pub IsAnswered : Plan → ℕ → Call → State → Type 0

@@ -5,6 +5,7 @@ use Rattle.script_calls.specs.declared.call.Call.{Call}
 use Rattle.script_calls.specs.declared.call.Reply.{Reply}
 use Rattle.workload.specs.Draft.{tries_of}
 use Rattle.workload.specs.declared.object.ObjectLine.{ObjectLine}
+use Rattle.workload.specs.Keys.{keys_in}
 use Rattle.workload.specs.Plan.{Plan, is_dormant, is_valid}
 use Rattle.workload.specs.Puts.{puts_at}
 use Rattle.step_runner.specs.declared.turns.object_state.ObjectState.{ObjectState}
@@ -19,10 +20,10 @@ pub record State : Type 0 where
   pub begun : List ℕ  -- for each worker, how many waits of the `waitfor` within which it stands were begun; else 0
   pub stands : List Stand  -- for each worker
 
--- the objects from a place on, each part of a pool with room for every put that the scripts make on it
+-- the objects from a place on, each part of a pool with room for every put that the scripts make on it, and each group of flights with the numbers of the workload's keys
 abbrev pub new_objects : Plan → ℕ → List ObjectLine → List ObjectState
 new_objects plan place [] = []
-new_objects plan place (line ∷ lines) = new_object plan.workers (puts_at place plan.scripts) line.kind ∷ new_objects plan (place + 1) lines
+new_objects plan place (line ∷ lines) = new_object plan.workers (puts_at place plan.scripts) (keys_in plan.scripts) line.kind ∷ new_objects plan (place + 1) lines
 
 -- how a worker stands before the first turn, by whether it waits to be started
 abbrev pub first_stand : Bool → Stand

@@ -21,6 +21,12 @@ use Rattle.wait_cores.specs.NotifyMachine as notify
 use Rattle.wait_cores.specs.GroupMachine as group
 use Rattle.wait_cores.specs.OnceMachine as once
 use Rattle.wait_cores.specs.OnceStanding.{runs_at}
+use Rattle.sema_core.specs.SemaMachine as sema
+use Rattle.sema_core.specs.SemaStages.{sema_event, sema_meaning}
+use Rattle.flight_core.specs.FlightMachine as flight
+use Rattle.flight_core.specs.FlightStages.{flight_event, flight_meaning}
+use Rattle.flight_core.specs.declared.calls.FlightOutcome.{FlightOutcome}
+use Rattle.flight_core.specs.declared.calls.FlightOutcome.TheVariants.{Landed}
 use Rattle.protocols.specs.CondStages.{cond_event, cond_meaning}
 use Rattle.protocols.specs.GroupStages.{group_event, group_meaning}
 use Rattle.protocols.specs.MutexStages.{mutex_event, mutex_meaning}
@@ -30,13 +36,14 @@ use Rattle.protocols.specs.declared.cond.CondStage.{CondStage}
 use Rattle.protocols.specs.declared.mutex.MutexStage.{MutexStage}
 use Rattle.protocols.specs.declared.once.OnceOutcome.{OnceOutcome}
 use Rattle.protocols.specs.declared.once.OnceOutcome.TheVariants.{Ended}
+use Rattle.workload.specs.Keys.{key_number}
 use Rattle.workload.specs.Plan.{reference_of}
 use Rattle.run_record.specs.OnceKind.{failure}
 use Rattle.step_runner.specs.declared.turns.answer.Answer.{Answer}
 use Rattle.step_runner.specs.declared.turns.answer.Answer.TheVariants as answers
 use Rattle.step_runner.specs.declared.turns.object_state.ObjectState.{ObjectState}
 use Rattle.step_runner.specs.declared.turns.object_state.ObjectState.TheVariants as states
-use Rattle.step_runner.specs.Due.{mutex_due, rw_due, locked, group_due, returned, cond_due, cond_answer, once_due, ran_or}
+use Rattle.step_runner.specs.Due.{mutex_due, rw_due, locked, group_due, sema_due, returned, cond_due, cond_answer, once_due, ran_or, flight_due, flown}
 use Rattle.step_runner.specs.Objects.{kind_of}
 use Rattle.step_runner.specs.PoolTurn.{pool_step}
 use Rattle.step_runner.specs.Stages.{make, answer_by}
@@ -64,6 +71,8 @@ turn_on (operations.Mutex call) worker moment (states.Mutex m) = turned states.M
 turn_on (operations.RwMutex call) worker moment (states.RwMutex m) = turned states.RwMutex locked (make rw.next rw_event rw_meaning worker moment (rw_due call (rw.place_of m worker)) m)
 turn_on (operations.WaitGroup call) worker moment (states.WaitGroup g first) =
     turned (λ g. states.WaitGroup g first) returned (make group.next group_event group_meaning worker moment (group_due call (group.place_of g worker)) g)
+turn_on (operations.Sema call) worker moment (states.Sema s size) =
+    turned (λ s. states.Sema s size) locked (make sema.next sema_event sema_meaning worker moment (sema_due call (sema.place_of s worker)) s)
 turn_on operations.OnceFunc worker moment (states.OnceFunc o code) =
     turned (λ o. states.OnceFunc o code) (ran_or (replies.OnceFunc (failure code)) (λ kept. replies.OnceFunc (failure kept))) (once_made worker moment code o)
 turn_on operations.OnceValue worker moment (states.OnceValue o value) = turned (λ o. states.OnceValue o value) (ran_or (replies.OnceValue value) replies.OnceValue) (once_made worker moment value o)
@@ -92,11 +101,31 @@ abbrev pub sum_turn : ℕ → ℕ → once.OnceState ℤ → ℕ → ℤ → Num
 sum_turn worker moment o place delta number (Int64 sum) = added place delta number sum (once_made worker moment sum o)
 sum_turn worker moment o place delta number other = ((states.Once o place delta, states.Atomic number), answers.Still)
 
+-- a group of flights whose function comes to this value, where the call's key has this number
+abbrev pub flight_made : ℕ → ℕ → ℕ → ℤ → flight.FlightState → flight.FlightState × Result FlightOutcome Answer
+flight_made worker moment key value f = make flight.next flight_event flight_meaning worker moment (flight_due key value (flight.place_of f worker)) f
+
+-- the number that the function of a group of flights changes, where this turn landed
+abbrev pub number_landed : Result FlightOutcome Answer → Number → Number → Number
+number_landed (Ok (Landed shared)) new old = new
+number_landed other new old = old
+
+-- a group of flights and its number, by what its stage came to, where the function comes to this sum
+abbrev pub flown_to : List (List ℕ) → ℕ → ℤ → Number → ℤ → flight.FlightState × Result FlightOutcome Answer → (ObjectState × ObjectState) × Answer
+flown_to keys place delta number sum made = ((states.Flight made.0 keys place delta, states.Atomic (number_landed made.1 (Int64 sum) number)), answer_by (flown sum) made.1)
+
+-- the sum is an int64, and the number to which the group refers is the sum behind the landing
+abbrev pub fly_turn : ℕ → ℕ → ℕ → flight.FlightState → List (List ℕ) → ℕ → ℤ → Number → Number → (ObjectState × ObjectState) × Answer
+fly_turn key worker moment f keys place delta number (Int64 sum) = flown_to keys place delta number sum (flight_made worker moment key sum f)
+fly_turn key worker moment f keys place delta number other = ((states.Flight f keys place delta, states.Atomic number), answers.Still)
+
 -- the turn at an object that refers to another one, and at that one
 abbrev pub turn_on_both : Operation → ℕ → ℕ → ObjectState → ObjectState → (ObjectState × ObjectState) × Answer
 turn_on_both (operations.Cond call) worker moment (states.Cond c place) (states.Mutex m) = cond_turn call worker moment place (cond_due call (mutex.place_of m worker) (notify.place_of c worker)) c m
 -- the function adds as an atomic's `add` does
 turn_on_both operations.Once worker moment (states.Once o place delta) (states.Atomic number) = sum_turn worker moment o place delta number (atomic_after (Add (Int64 delta)) number)
+turn_on_both (operations.Fly key) worker moment (states.Flight f keys place delta) (states.Atomic number) =
+    fly_turn (key_number keys key) worker moment f keys place delta number (atomic_after (Add (Int64 delta)) number)
 turn_on_both operation worker moment o target = ((o, target), answers.Still)
 
 -- it leaves every other object alone

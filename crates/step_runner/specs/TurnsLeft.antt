@@ -11,13 +11,16 @@ use Rattle.rw_core.specs.declared.place.Place.TheVariants as rw_place
 use Rattle.wait_cores.specs.NotifyStanding.{has_ticket}
 use Rattle.wait_cores.specs.OnceMachine.{OnceState}
 use Rattle.wait_cores.specs.OnceStanding as once
+use Rattle.flight_core.specs.FlightStanding as flight
+use Rattle.flight_core.specs.declared.calls.FlightStand.{FlightStand}
+use Rattle.flight_core.specs.declared.calls.FlightStand.TheVariants.{Out, Leads, Waits}
 use Rattle.workload.specs.declared.object.ObjectKind.{ObjectKind}
 use Rattle.workload.specs.Plan.{reference_of}
 use Rattle.step_runner.specs.declared.turns.answer.Answer.{Answer}
 use Rattle.step_runner.specs.declared.turns.answer.Answer.TheVariants as answers
 use Rattle.step_runner.specs.declared.turns.object_state.ObjectState.{ObjectState}
 use Rattle.step_runner.specs.declared.turns.object_state.ObjectState.TheVariants as states
-use Rattle.step_runner.specs.Due.{group_behind}
+use Rattle.step_runner.specs.Due.{group_behind, sema_behind}
 
 -- the place of the object to which the call's object refers, among objects of these kinds
 abbrev pub refers_to : List ObjectKind → Call → Option ℕ
@@ -46,6 +49,12 @@ rw_left rw_place.Admitted = 0
 abbrev pub once_left : {T : Type 0} → OnceState T → ℕ → ℕ
 once_left o worker = if once.waits_at o worker || once.runs_at o worker then 0 else 1
 
+-- one that is in no flight may come for one
+abbrev pub flight_left : FlightStand → ℕ
+flight_left Out = 1
+flight_left Leads = 0
+flight_left Waits = 0
+
 -- how many events a worker may still make at an object before the one that completes its call, but those with which it goes back to the queue
 abbrev pub left_at : ℕ → ObjectState → ℕ
 left_at worker (states.Map m) = 0
@@ -58,6 +67,8 @@ left_at worker (states.Once o place delta) = once_left o worker
 left_at worker (states.OnceFunc o code) = once_left o worker
 left_at worker (states.OnceValue o value) = once_left o worker
 left_at worker (states.Pool p) = 0
+left_at worker (states.Sema s size) = if is_some (sema_behind s worker) then 0 else 1
+left_at worker (states.Flight f keys place delta) = flight_left (flight.stands_at f worker)
 left_at worker (states.Var held) = 0
 
 abbrev pub left_in : ℕ → List ObjectState → Option ℕ → ℕ

@@ -12,12 +12,14 @@ use Rattle.rw_core.specs.RwMachine as rw
 use Rattle.wait_cores.specs.NotifyStanding.{has_ticket}
 use Rattle.wait_cores.specs.OnceMachine.{OnceState}
 use Rattle.wait_cores.specs.OnceStanding as once
+use Rattle.flight_core.specs.FlightStanding as flight
+use Rattle.flight_core.specs.declared.calls.FlightStand.TheVariants.{Out}
 use Rattle.workload.specs.Plan.{reference_of}
 use Rattle.step_runner.specs.declared.turns.answer.Answer.{Answer}
 use Rattle.step_runner.specs.declared.turns.answer.Answer.TheVariants as answers
 use Rattle.step_runner.specs.declared.turns.object_state.ObjectState.{ObjectState}
 use Rattle.step_runner.specs.declared.turns.object_state.ObjectState.TheVariants as states
-use Rattle.step_runner.specs.Due.{group_behind, GroupFits}
+use Rattle.step_runner.specs.Due.{group_behind, GroupFits, sema_behind, SemaFits}
 use Rattle.step_runner.specs.Objects.{kind_of, EachAt}
 
 -- ---- between two calls
@@ -26,13 +28,15 @@ use Rattle.step_runner.specs.Objects.{kind_of, EachAt}
 abbrev pub IsOutOfOnce : {T : Type 0} → OnceState T → ℕ → Type 0
 IsOutOfOnce o worker = (once.waits_at o worker ≡ false) × (once.runs_at o worker ≡ false)
 
--- it has no ticket of a cond, waits at no wait group and no once, and runs no function. Of locks `IsOutAt` speaks
+-- it has no ticket of a cond, waits at no wait group, no once and no semaphore, runs no function, and is in no flight. Of locks `IsOutAt` speaks
 abbrev pub IsIdle : ℕ → ObjectState → Type 0
 IsIdle worker (states.Cond c place) = has_ticket c worker ≡ false
 IsIdle worker (states.WaitGroup g first) = group_behind g worker ≡ None
 IsIdle worker (states.Once o place delta) = IsOutOfOnce o worker
 IsIdle worker (states.OnceFunc o code) = IsOutOfOnce o worker
 IsIdle worker (states.OnceValue o value) = IsOutOfOnce o worker
+IsIdle worker (states.Sema s size) = sema_behind s worker ≡ None
+IsIdle worker (states.Flight f keys place delta) = flight.stands_at f worker ≡ Out
 IsIdle worker object = Unit {0}
 
 -- ---- within a call
@@ -59,14 +63,16 @@ StandsAtOnce worker o = once.runs_at o worker ≡ true → once.waits_at o worke
 abbrev pub StandsOn : Operation → ℕ → ObjectState → Type 0
 StandsOn (operations.RwMutex call) worker (states.RwMutex m) = StandsAtRw call worker m
 StandsOn (operations.WaitGroup call) worker (states.WaitGroup g first) = GroupFits call (group_behind g worker)
+StandsOn (operations.Sema call) worker (states.Sema s size) = SemaFits call (sema_behind s worker)
 StandsOn operations.OnceFunc worker (states.OnceFunc o code) = StandsAtOnce worker o
 StandsOn operations.OnceValue worker (states.OnceValue o value) = StandsAtOnce worker o
 StandsOn operation worker o = IsIdle worker o
 
--- at the call's object and at the one to which that refers. One that has a ticket of a cond is out at its mutex
+-- at the call's object and at the one to which that refers. One that has a ticket of a cond is out at its mutex, and in a flight a caller may stand anywhere
 abbrev pub StandsOnBoth : Operation → ℕ → ObjectState → ObjectState → Type 0
 StandsOnBoth (operations.Cond cond_calls.Wait) worker (states.Cond c place) (states.Mutex m) = has_ticket c worker ≡ true → mutex.place_of m worker ≡ mutex_place.Out
 StandsOnBoth operations.Once worker (states.Once o place delta) (states.Atomic number) = StandsAtOnce worker o
+StandsOnBoth (operations.Fly key) worker (states.Flight f keys place delta) (states.Atomic number) = Unit {0}
 StandsOnBoth operation worker o target = IsIdle worker o
 
 module _ (worker : ℕ) (call : Call) where

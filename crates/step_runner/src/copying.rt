@@ -69,6 +69,8 @@ fn copied_operation(alloc: Global, operation: &Operation) -> Result<Operation, A
         Operation::Once => Ok(Operation::Once),
         Operation::OnceFunc => Ok(Operation::OnceFunc),
         Operation::OnceValue => Ok(Operation::OnceValue),
+        Operation::Sema(call) => Ok(Operation::Sema(*call)),
+        Operation::Fly(key) => Ok(Operation::Fly(copied_name(alloc, key)?)),
         Operation::Pool(call) => Ok(Operation::Pool(*call)),
         Operation::Var(call) => Ok(Operation::Var(*call)),
         Operation::Composed(call) => Ok(Operation::Composed(*call)),
@@ -113,6 +115,7 @@ pub(crate) fn copied_reply(alloc: Global, reply: &Reply<Name>) -> Result<Reply<N
         Reply::Once(reply) => Ok(Reply::Once(*reply)),
         Reply::OnceFunc(code) => Ok(Reply::OnceFunc(*code)),
         Reply::OnceValue(value) => Ok(Reply::OnceValue(*value)),
+        Reply::Flown(value, shared) => Ok(Reply::Flown(*value, *shared)),
         Reply::Pool(reply) => Ok(Reply::Pool(*reply)),
         Reply::Var(reply) => Ok(Reply::Var(*reply)),
     }

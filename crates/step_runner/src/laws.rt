@@ -229,7 +229,7 @@ pub fn objects_keep_their_kinds()
 /// At every moment, behind any turns up to the first misuse, the items that the run has made on an object lead from what it
 /// began as to what it is. Those on a map, an atomic or a plain variable are a legal history: each is a call that answers what the one-thread object
 /// answers behind the earlier ones. Those on any other object are its log: its machine gives these answers to these events of these workers, one after the other. So what the laws of `mutex_core`,
-/// `rw_core`, `wait_cores` and `pool_core` say of the state behind a log is true of it, by the run's own log. A wait group
+/// `rw_core`, `wait_cores`, `pool_core`, `sema_core` and `flight_core` say of the state behind a log is true of it, by the run's own log. A wait group
 /// begins behind the one `Add` of its line's number, and a pool's parts have room for every put that the scripts make there.
 /// The ends of a run that is Done show what stands after all items of its turns.
 pub fn objects_come_by_the_items_of_the_run()

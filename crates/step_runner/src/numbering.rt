@@ -42,6 +42,7 @@ fn number_reply(alloc: Global, keys: &Keys, reply: Reply<Name>) -> Result<Reply<
         Reply::Once(reply) => Ok(Reply::Once(reply)),
         Reply::OnceFunc(code) => Ok(Reply::OnceFunc(code)),
         Reply::OnceValue(value) => Ok(Reply::OnceValue(value)),
+        Reply::Flown(value, shared) => Ok(Reply::Flown(value, shared)),
         Reply::Pool(reply) => Ok(Reply::Pool(reply)),
         Reply::Var(reply) => Ok(Reply::Var(reply)),
     }

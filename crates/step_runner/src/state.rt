@@ -59,11 +59,10 @@ impl Model for State {
 fn new_objects(alloc: Global, workload: &Workload) -> Result<Vec<ObjectState>, AllocError>
     ensures { IfOk result (λ objects. objects.items ≡ new_objects workload.now 0 workload.now.objects) }
 {
-    let workers = workload.workers();
     let mut objects = Vec::new(alloc);
     for (place, line) in workload.objects().iter().enumerate() {
         let room = workload.puts_at(place);
-        objects.push(ObjectState::new(alloc, workers, room, line.kind)?)?;
+        objects.push(ObjectState::new(alloc, workload, room, line.kind)?)?;
     }
     Ok(objects)
 }

@@ -3,6 +3,7 @@
 
 pub mod answer;
 pub mod due;
+pub mod flight_turn;
 pub mod item;
 pub mod laws;
 pub mod lock_turn;

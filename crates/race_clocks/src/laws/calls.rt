@@ -8,6 +8,7 @@ ghost use Rattle.sync_types.specs.declared.map_object.MapCall.{MapCall};
 ghost use Rattle.sync_types.specs.declared.lock_call.LockReply.TheVariants as locks;
 ghost use Rattle.sync_types.specs.declared.lock_call.MutexCall.TheVariants as mutex_calls;
 ghost use Rattle.sync_types.specs.declared.lock_call.RwMutexCall.TheVariants as rw_calls;
+ghost use Rattle.sync_types.specs.declared.sema_call.SemaCall.TheVariants as sema_calls;
 ghost use Rattle.sync_types.specs.declared.wait_call.WaitGroupCall.TheVariants as group_calls;
 ghost use Rattle.workload.specs.Plan.{Plan};
 ghost use Rattle.step_runner.specs.Traces.{trace_of};
@@ -17,7 +18,7 @@ ghost use Rattle.step_runner.specs.declared.turns.item.Item.{Item};
 ghost use Rattle.race_clocks.specs.Deeds.{enters_atomic, finds_atomic, finds_in_map};
 ghost use Rattle.race_clocks.specs.Seen.{map_behind, enters_key};
 ghost use Rattle.race_clocks.specs.HappensBefore.{done_before, Before};
-ghost use Rattle.race_clocks.specs.Rows.{Makes, earlier_of, Completes, IsMutexUnlock, writer_unlock, reader_unlock};
+ghost use Rattle.race_clocks.specs.Rows.{Makes, earlier_of, Completes, IsMutexUnlock, writer_unlock, reader_unlock, gave_back};
 
 use script_calls::ComposedCall;
 use step_runner::laws::a_trace_tells_what_turns_made;
@@ -54,6 +55,16 @@ pub fn a_readers_unlock_is_before_each_later_completed_lock()
         → Completes (trace_of plan) j place (operations.RwMutex rw_calls.Lock) reply → Before plan (trace_of plan) i j }
     ensures try_lock { (plan : Plan) (i j place w : ℕ) (d : Deed) → i < j → Makes (trace_of plan) i place w d → d ≡ reader_unlock
         → Completes (trace_of plan) j place (operations.RwMutex rw_calls.TryLock) (replies.Lock (locks.Tried true)) → Before plan (trace_of plan) i j }
+{
+    a_trace_tells_what_turns_made();
+}
+
+/// A release of a weighted semaphore is before each later turn that completes an `acquire` of it, or a `tryacquire` that is true.
+pub fn a_release_is_before_each_later_completed_acquire()
+    ensures acquire { (plan : Plan) (i j sema w given weight : ℕ) (d : Deed) (reply : Reply (List ℕ)) → i < j → Makes (trace_of plan) i sema w d → d ≡ gave_back given
+        → Completes (trace_of plan) j sema (operations.Sema (sema_calls.Acquire weight)) reply → Before plan (trace_of plan) i j }
+    ensures try_acquire { (plan : Plan) (i j sema w given weight : ℕ) (d : Deed) → i < j → Makes (trace_of plan) i sema w d → d ≡ gave_back given
+        → Completes (trace_of plan) j sema (operations.Sema (sema_calls.TryAcquire weight)) (replies.Lock (locks.Tried true)) → Before plan (trace_of plan) i j }
 {
     a_trace_tells_what_turns_made();
 }

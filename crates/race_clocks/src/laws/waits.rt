@@ -1,5 +1,5 @@
-//! What conds, wait groups, onces and `go` order.
-ghost use Rattle.std.specs.Prelude.{◌≡◌, ◌≢◌, ℕ, negsuc, ◌<◌, ◌≤◌, true, false, All, List, [], ◌∷◌, ◌++◌, Some, slice_get};
+//! What conds, wait groups, onces, semaphores, flights and `go` order.
+ghost use Rattle.std.specs.Prelude.{◌≡◌, ◌≢◌, ℕ, ℤ, Bool, negsuc, ◌<◌, ◌≤◌, true, false, All, List, [], ◌∷◌, ◌++◌, Some, slice_get};
 ghost use Rattle.wait_cores.specs.NotifyMachine as notify;
 ghost use Rattle.workload.specs.Plan.{Plan};
 ghost use Rattle.step_runner.specs.declared.trace.TraceItem.{TraceItem};
@@ -7,7 +7,7 @@ ghost use Rattle.step_runner.specs.declared.turns.item.Deed.{Deed};
 ghost use Rattle.step_runner.specs.declared.turns.item.Item.{Item};
 ghost use Rattle.race_clocks.specs.HappensBefore.{Before};
 ghost use Rattle.race_clocks.specs.Seen.{cond_behind, notifies};
-ghost use Rattle.race_clocks.specs.Rows.{item, Makes, earlier_of, signal, broadcast, leaving, added, IsGroupReturn, IsOnceEnd, IsOnceReturn, start_of};
+ghost use Rattle.race_clocks.specs.Rows.{item, Makes, earlier_of, signal, broadcast, leaving, added, IsGroupReturn, IsOnceEnd, IsOnceReturn, gave_back, IsWeightHad, landed, IsFlightKnown, start_of};
 
 use wait_cores::NotifyPlace;
 
@@ -48,6 +48,19 @@ pub fn a_done_is_before_each_later_return()
 pub fn the_end_of_a_function_is_before_each_later_return()
     ensures { (plan : Plan) (trace : List TraceItem) (i j once w v : ℕ) (d e : Deed) → i < j
         → Makes trace i once w d → Makes trace j once v e → IsOnceEnd d → IsOnceReturn e → Before plan trace i j }
+{}
+
+/// A release of a weighted semaphore is before each later event with which a caller has its weight: an `acquire` or a `tryacquire` that is
+/// done, or the leaving of one that waited.
+pub fn a_release_is_before_each_later_weight()
+    ensures { (plan : Plan) (trace : List TraceItem) (i j sema w v weight : ℕ) (d e : Deed) → i < j
+        → Makes trace i sema w d → Makes trace j sema v e → d ≡ gave_back weight → IsWeightHad e → Before plan trace i j }
+{}
+
+/// A landing is before each later beginning of a flight of its group, and before each later leaving with what a flight came to.
+pub fn a_landing_is_before_each_later_flight_and_return()
+    ensures { (plan : Plan) (trace : List TraceItem) (i j group w v : ℕ) (value : ℤ) (shared : Bool) (d e : Deed) → i < j
+        → Makes trace i group w d → Makes trace j group v e → d ≡ landed value shared → IsFlightKnown e → Before plan trace i j }
 {}
 
 /// A `go` is before the first item of the worker that it starts.

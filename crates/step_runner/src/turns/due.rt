@@ -4,10 +4,11 @@ ghost use Rattle.std.specs.Prelude.{◌≡◌, ◌*◌, ◌<◌, ◌≤◌};
 ghost use Rattle.pool_core.specs.Looks.{look};
 ghost use Rattle.run_record.specs.OnceKind.{failure};
 ghost use Rattle.run_record.specs.PoolKind.{stage_of};
-ghost use Rattle.step_runner.specs.Due.{mutex_due, rw_due, locked, returned, cond_due, cond_answer, once_due, ran_or};
+ghost use Rattle.step_runner.specs.Due.{mutex_due, rw_due, locked, returned, cond_due, cond_answer, once_due, ran_or, flight_due, flown};
 ghost use Rattle.step_runner.specs.Stages.{answer_by};
 
 use crate::turns::answer::Answer;
+use flight_core::{FlightOutcome, FlightPlace, FlightStage};
 use mutex_core::Place as MutexPlace;
 use protocols::{CondStage, MutexStage, OnceOutcome, OnceStage, PoolStage, RwMutexStage};
 use rw_core::Place as RwPlace;
@@ -52,7 +53,7 @@ pub(crate) fn rw_due(call: RwMutexCall, place: RwPlace) -> Option<RwMutexStage>
     }
 }
 
-/// The reply of a mutex and of a reader/writer mutex.
+/// The reply of a mutex, of a reader/writer mutex and of a semaphore.
 pub(crate) fn locked(made: Result<LockReply, Answer>) -> Answer
     ensures { result ≡ answer_by locked made }
 {
@@ -179,6 +180,31 @@ pub(crate) fn value_returned(value: u64, made: Result<OnceOutcome<u64>, Answer>)
         Ok(OnceOutcome::Run) => Answer::Unfinished,
         Ok(OnceOutcome::Already(kept)) => Answer::Completed(Reply::OnceValue(kept)),
         Ok(OnceOutcome::Ended) => Answer::Completed(Reply::OnceValue(value)),
+        Err(answer) => answer,
+    }
+}
+
+/// Of a call of flights, whose key has this number: one that is out comes for the key, and one that leads a flight lands with what the
+/// function comes to. One whose flight has landed leaves.
+pub(crate) fn flight_due(key: u32, value: i64, place: FlightPlace) -> Option<FlightStage>
+    ensures { result ≡ flight_due key value place }
+{
+    match place {
+        FlightPlace::Out => Some(FlightStage::Join(key)),
+        FlightPlace::Leads(_) => Some(FlightStage::Land(value)),
+        FlightPlace::Waits(_) => None,
+        FlightPlace::Landed(_) => Some(FlightStage::Leave),
+    }
+}
+
+/// What a call of flights answers, whose function comes to this value in the turn that lands.
+pub(crate) fn flown(value: i64, made: Result<FlightOutcome, Answer>) -> Answer
+    ensures { result ≡ answer_by (flown value) made }
+{
+    match made {
+        Ok(FlightOutcome::Lead) => Answer::Unfinished,
+        Ok(FlightOutcome::Got(got)) => Answer::Completed(Reply::Flown(got, true)),
+        Ok(FlightOutcome::Landed(shared)) => Answer::Completed(Reply::Flown(value, shared)),
         Err(answer) => answer,
     }
 }

@@ -9,6 +9,7 @@ ghost use Rattle.pool_core.specs.declared.pool_event.PoolEvent.{PoolEvent};
 ghost use Rattle.pool_core.specs.declared.pool_event.PoolReply.{PoolReply};
 ghost use Rattle.workload.specs.declared.object.ObjectKind.{ObjectKind};
 ghost use Rattle.workload.specs.Draft.{keys_of, distinct_count};
+ghost use Rattle.workload.specs.Keys.{with_names};
 ghost use Rattle.step_runner.specs.MachinesStand.{MachinesStand};
 ghost use Rattle.step_runner.specs.declared.turns.object_state.ObjectState.{ObjectState};
 ghost use Rattle.step_runner.specs.declared.turns.object_state.ObjectState.TheVariants as states;
@@ -35,6 +36,7 @@ pub mod within;
 
 use crate::turns::turn_kind::TurnKind;
 use script_calls::laws::replies_have_their_form;
+use sema_core::SemaCore;
 use sync_types::Name;
 use sync_types::laws::atomics::calls_keep_the_type;
 use wait_cores::GroupCore;
@@ -42,7 +44,7 @@ use wait_cores::GroupCore;
 /// An object begins as one of its kind, with a machine that is ready for the workers' turns. A turn keeps
 /// the kind of each object, and leaves each machine ready; so whoever is ready for a call is ready behind it.
 pub fn turns_keep_kinds_and_machines()
-    ensures begins { (workers room : ℕ) (kind : ObjectKind) → (kind_of (new_object workers room kind) ≡ kind) × IsMachineOf workers (new_object workers room kind) }
+    ensures begins { (workers room : ℕ) (keys : List (List ℕ)) (kind : ObjectKind) → (kind_of (new_object workers room keys kind) ≡ kind) × IsMachineOf workers (new_object workers room keys kind) }
     ensures kinds { (workers worker moment : ℕ) (call : Call) (objects : List ObjectState) → IsReady workers worker call objects → map kind_of (turn_at call worker moment objects).0 ≡ map kind_of objects }
     ensures machines { (workers worker moment : ℕ) (call : Call) (objects : List ObjectState) → IsReady workers worker call objects → EachAt (λ place. IsMachineOf workers) objects
         → EachAt (λ place. IsMachineOf workers) (turn_at call worker moment objects).0 }
@@ -55,11 +57,13 @@ pub fn turns_keep_kinds_and_machines()
     wait_cores::laws::group::knows_where_it_stands();
     wait_cores::laws::once::knows_where_it_stands::<i64>();
     wait_cores::laws::once::knows_where_it_stands::<u64>();
+    sema_core::laws::knows_where_it_stands();
+    flight_core::laws::knows_where_it_stands();
     pool_core::laws::keeps_its_parts();
 }
 
-/// What the laws of the machines say of where callers stand, what they are answered, and what the events of wait groups and
-/// onces use up: `MachinesStand` has them together.
+/// What the laws of the machines say of where callers stand, what they are answered, and what the events of wait groups,
+/// onces, semaphores and flights use up: `MachinesStand` has them together.
 pub fn machines_tell_where_callers_stand()
     ensures { MachinesStand }
 {
@@ -78,6 +82,10 @@ pub fn machines_tell_where_callers_stand()
     wait_cores::laws::once::knows_where_it_stands::<u64>();
     wait_cores::laws::once::still::<u64>();
     wait_cores::laws::once::events_are_used_up::<u64>();
+    SemaCore::turn_laws();
+    flight_core::laws::knows_where_it_stands();
+    flight_core::laws::still();
+    flight_core::laws::events_are_used_up();
 }
 
 /// A turn without an event changes no object. One that completes its call raises what is left to do at the
@@ -102,7 +110,7 @@ pub fn some_calls_take_one_turn()
 /// any turn leaves it, its own and another's. A call that is completed waits nowhere. And the reply by which a turn completes
 /// its call has the form of that call's replies.
 pub fn workers_stand_in_their_calls()
-    ensures begins { (worker workers room : ℕ) (kind : ObjectKind) → IsOutAt worker (new_object workers room kind) }
+    ensures begins { (worker workers room : ℕ) (keys : List (List ℕ)) (kind : ObjectKind) → IsOutAt worker (new_object workers room keys kind) }
     ensures own { (workers worker moment : ℕ) (call : Call) (objects : List ObjectState) → IsReady workers worker call objects → IsOutBut (waits_at (map kind_of objects) call) worker objects
         → IsOutBut (waits_behind (turn_at call worker moment objects).1 (waits_at (map kind_of objects) call)) worker (turn_at call worker moment objects).0 }
     ensures others { (workers worker other moment : ℕ) (call : Call) (but : Option ℕ) (objects : List ObjectState) → IsReady workers other call objects → worker ≢ other → IsOutBut but worker objects
@@ -116,17 +124,17 @@ pub fn workers_stand_in_their_calls()
 
 /// An atomic begins in the range of its type, and a turn leaves each atomic in it.
 pub fn numbers_stay_in_range()
-    ensures begins { (workers room : ℕ) (kind : ObjectKind) → IsInRange (new_object workers room kind) }
+    ensures begins { (workers room : ℕ) (keys : List (List ℕ)) (kind : ObjectKind) → IsInRange (new_object workers room keys kind) }
     ensures goes_on { (workers worker moment : ℕ) (call : Call) (objects : List ObjectState) → IsReady workers worker call objects → EachAt (λ place. IsInRange) objects
         → EachAt (λ place. IsInRange) (turn_at call worker moment objects).0 }
 {
     calls_keep_the_type();
 }
 
-/// A map begins with no key. Where the keys of maps and of the call are among some names, so they are behind
-/// the turn; and its reply shows no more pairs than there are different names.
+/// A map begins with no key, and a group of flights with the numbers of some names. Where the keys of maps and of the call are among these names,
+/// so they are behind the turn, and its reply shows no more pairs than there are different names; and each group keeps its numbers.
 pub fn maps_keep_to_the_keys_of_calls()
-    ensures begins { (names : List (List ℕ)) (workers room : ℕ) (kind : ObjectKind) → HasObjectKeysIn names (new_object workers room kind) }
+    ensures begins { (names : List (List ℕ)) (workers room : ℕ) (kind : ObjectKind) → HasObjectKeysIn names (new_object workers room (with_names [] names) kind) }
     ensures goes_on { (names : List (List ℕ)) (most worker moment : ℕ) (call : Call) (objects : List ObjectState) → AreAmong names (keys_of call) → distinct_count names ≤ most
         → EachAt (λ place. HasObjectKeysIn names) objects → EachAt (λ place. HasObjectKeysIn names) (turn_at call worker moment objects).0 × ShowsTo most (turn_at call worker moment objects).1 }
 {}
@@ -134,7 +142,7 @@ pub fn maps_keep_to_the_keys_of_calls()
 /// A pool begins with room for as many puts as its parts have. A turn leaves each pool room for the puts that
 /// are left to make on it, and a put for which there is room is kept.
 pub fn pools_have_room()
-    ensures begins { (workers room : ℕ) (kind : ObjectKind) → HasRoomFor room (new_object workers room kind) }
+    ensures begins { (workers room : ℕ) (keys : List (List ℕ)) (kind : ObjectKind) → HasRoomFor room (new_object workers room keys kind) }
     ensures goes_on { (worker moment : ℕ) (left : ℕ → ℕ) (call : Call) (objects : List ObjectState) → put_of call.object call ≤ left call.object → EachAt (λ place. HasRoomFor (left place)) objects
         → EachAt (λ place. HasRoomFor (left_behind (turn_at call worker moment objects).1 (put_of place call) (left place))) (turn_at call worker moment objects).0 }
     ensures kept { (worker item left : ℕ) (p : pool.PoolState ℕ) → worker < pool.callers_of p → 1 ≤ left → HasRoomFor left (states.Pool p) → (pool.next p worker (PoolEvent.Put item)).1 ≡ PoolReply.Kept }

@@ -13,12 +13,14 @@ ghost use Rattle.wait_cores.specs.declared.once.OnceReply.{OnceReply};
 use crate::copying::{copied_map_call, copied_pairs};
 use crate::notes::Notes;
 use crate::turns::item::{Deed, Item};
+use flight_core::{FlightCore, FlightEvent, FlightReply};
 use mutex_core::{MutexCore, MutexEvent, MutexReply};
 use pool_core::{PoolCore, PoolEvent, PoolReply};
 use protocols::Protocol;
 use run_record::{ObjectEvent, ObjectReply};
 use rw_core::{RwCore, RwEvent, RwReply};
 use script_calls::{Operation, Reply, VarCall, VarReply};
+use sema_core::{SemaCore, SemaEvent, SemaReply};
 use std::alloc::{AllocError, Global};
 use sync_types::{AtomicCall, AtomicReply, MapCall, MapReply, Name, Seq};
 use wait_cores::{
@@ -93,6 +95,34 @@ impl Entered for GroupCore {
 
     fn reply_word(reply: GroupReply) -> ObjectReply {
         ObjectReply::WaitGroup(reply)
+    }
+}
+
+impl Entered for SemaCore {
+    ghost event_word = { ObjectEvent.Sema };
+
+    ghost reply_word = { ObjectReply.Sema };
+
+    fn event_word(event: SemaEvent) -> ObjectEvent {
+        ObjectEvent::Sema(event)
+    }
+
+    fn reply_word(reply: SemaReply) -> ObjectReply {
+        ObjectReply::Sema(reply)
+    }
+}
+
+impl Entered for FlightCore {
+    ghost event_word = { ObjectEvent.Flight };
+
+    ghost reply_word = { ObjectReply.Flight };
+
+    fn event_word(event: FlightEvent) -> ObjectEvent {
+        ObjectEvent::Flight(event)
+    }
+
+    fn reply_word(reply: FlightReply) -> ObjectReply {
+        ObjectReply::Flight(reply)
     }
 }
 

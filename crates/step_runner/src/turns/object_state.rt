@@ -1,16 +1,19 @@
 //! The objects of a run.
 ghost use Rattle.std.specs.Prelude.{◌≡◌, ◌≤◌, pos, IfOk};
+ghost use Rattle.workload.specs.Keys.{keys_in};
 ghost use Rattle.wait_cores.specs.GroupMachine as group_machine;
 ghost use Rattle.workload.specs.Plan.{reference_of};
 ghost use Rattle.step_runner.specs.Objects.{new_object, kind_of};
 
+use flight_core::FlightCore;
 use mutex_core::MutexCore;
 use pool_core::PoolCore;
 use rw_core::RwCore;
+use sema_core::SemaCore;
 use std::alloc::{AllocError, Global};
 use sync_types::{ByName, Number};
 use wait_cores::{GroupCore, GroupEvent, NotifyCore, OnceCore};
-use workload::ObjectKind;
+use workload::{Keys, ObjectKind, Workload};
 
 /// What an object holds between two turns, by its kind. The callers of a machine are the workers.
 #[derive(Drop)]
@@ -52,6 +55,19 @@ pub enum ObjectState {
     },
     /// The machine of a pool.
     Pool(PoolCore),
+    /// The machine of a weighted semaphore of this size.
+    Sema {
+        sema: SemaCore,
+        size: u64,
+    },
+    /// The machine of a group of flights, whose function adds this amount to the int64 at this place among the
+    /// objects, and comes to the sum. A key is its number among the workload's keys.
+    Flight {
+        flight: FlightCore,
+        keys: Keys,
+        atomic: usize,
+        delta: i64,
+    },
     /// The value of a plain variable.
     Var(u64),
 }
@@ -71,13 +87,16 @@ fn new_group(alloc: Global, workers: u32, start: u32) -> Result<GroupCore, Alloc
 }
 
 impl ObjectState {
-    /// An object as a run of so many workers begins with it. Where it is a pool, each part has this much
-    /// room.
-    pub fn new(alloc: Global, workers: u32, room: u32, kind: ObjectKind) -> Result<Self, AllocError>
-        requires some { 1 ≤ workers }
-        requires few { workers ≤ 64 }
-        ensures { IfOk result (λ object. object ≡ new_object workers room kind) }
+    /// An object as a run of a workload begins with it. Where it is a pool, each part has this much room.
+    pub fn new(
+        alloc: Global,
+        workload: &Workload,
+        room: u32,
+        kind: ObjectKind,
+    ) -> Result<Self, AllocError>
+        ensures { IfOk result (λ object. object ≡ new_object workload.now.workers room (keys_in workload.now.scripts) kind) }
     {
+        let workers = workload.workers();
         match kind {
             ObjectKind::Map => Ok(ObjectState::Map(ByName::new(alloc))),
             ObjectKind::Atomic(kind) => Ok(ObjectState::Atomic(kind.zero())),
@@ -108,6 +127,20 @@ impl ObjectState {
                 Ok(ObjectState::OnceValue { once, value })
             }
             ObjectKind::Pool => Ok(ObjectState::Pool(PoolCore::new(alloc, workers, room)?)),
+            ObjectKind::Sema { size } => {
+                let sema = SemaCore::new(alloc, workers, size)?;
+                Ok(ObjectState::Sema { sema, size })
+            }
+            ObjectKind::Flight { atomic, delta } => {
+                let flight = FlightCore::new(alloc, workers)?;
+                let keys = workload.copied_keys(alloc)?;
+                Ok(ObjectState::Flight {
+                    flight,
+                    keys,
+                    atomic,
+                    delta,
+                })
+            }
             ObjectKind::Var => Ok(ObjectState::Var(0)),
         }
     }
@@ -119,6 +152,7 @@ impl ObjectState {
         match self {
             ObjectState::Cond { mutex, .. } => Some(*mutex),
             ObjectState::Once { atomic, .. } => Some(*atomic),
+            ObjectState::Flight { atomic, .. } => Some(*atomic),
             _ => None,
         }
     }

@@ -11,6 +11,7 @@ ghost use Rattle.step_runner.specs.TurnWithin.{wait_on, on_group};
 
 use crate::notes::Notes;
 use crate::turns::answer::Answer;
+use crate::turns::flight_turn::take_fly_turn;
 use crate::turns::item::Item;
 use crate::turns::laws::turns_keep_kinds_and_machines;
 use crate::turns::lock_turn::{take_mutex_turn, take_rw_mutex_turn};
@@ -21,7 +22,7 @@ use crate::turns::plain_turn::{
 };
 use crate::turns::pool_turn::take_pool_turn;
 use crate::turns::stages::{Places, Taker};
-use crate::turns::wait_turn::{take_cond_turn, take_wait_group_turn};
+use crate::turns::wait_turn::{take_cond_turn, take_sema_turn, take_wait_group_turn};
 use script_calls::{Call, Operation};
 use std::alloc::{AllocError, Global};
 use std::mem;
@@ -52,12 +53,13 @@ fn take_turn_on(
         Operation::Mutex(call) => take_mutex_turn(object, place, *call, taker, notes),
         Operation::RwMutex(call) => take_rw_mutex_turn(object, place, *call, taker, notes),
         Operation::WaitGroup(call) => take_wait_group_turn(object, place, *call, taker, notes),
+        Operation::Sema(call) => take_sema_turn(object, place, *call, taker, notes),
         Operation::OnceFunc => take_once_func_turn(object, place, taker, notes),
         Operation::OnceValue => take_once_value_turn(object, place, taker, notes),
         Operation::Pool(call) => take_pool_turn(object, place, *call, taker, notes),
         Operation::Var(call) => take_var_turn(object, place, *call, taker, notes),
         Operation::Composed(call) => take_composed_turn(object, place, *call, taker, notes),
-        Operation::Cond(_) | Operation::Once => Ok(Answer::Still),
+        Operation::Cond(_) | Operation::Once | Operation::Fly(_) => Ok(Answer::Still),
     }
 }
 
@@ -79,6 +81,7 @@ fn take_turn_on_both(
     match operation {
         Operation::Cond(call) => take_cond_turn(object, target, at, *call, taker, notes),
         Operation::Once => take_once_turn(object, target, at, taker, notes),
+        Operation::Fly(key) => take_fly_turn(object, target, at, key, taker, notes),
         _ => Ok(Answer::Still),
     }
 }

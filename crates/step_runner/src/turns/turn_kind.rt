@@ -4,7 +4,8 @@ ghost use Rattle.std.specs.Prelude.{◌≡◌, ℕ, ◌<◌, Option};
 ghost use Rattle.step_runner.specs.TurnKinds.{TurnsStand};
 
 use protocols::{GroupStage, Protocol};
-use sync_types::WaitGroupCall;
+use sema_core::{SemaCore, SemaPlace, SemaStage, laws as sema_laws};
+use sync_types::{SemaCall, WaitGroupCall};
 use wait_cores::laws::group::{events_are_used_up, knows_where_it_stands, still};
 use wait_cores::{GroupCore, GroupPlace};
 
@@ -80,5 +81,41 @@ impl TurnKind for GroupCore {
         events_are_used_up();
         knows_where_it_stands();
         still();
+    }
+}
+
+impl TurnKind for SemaCore {
+    ghost use Rattle.sema_core.specs.SemaMachine.{callers_of};
+    ghost use Rattle.sema_core.specs.SemaEventsLeft.{sema_left};
+    ghost use Rattle.step_runner.specs.Due.{sema_turn, sema_behind, SemaFits, sema_from};
+
+    type Call = SemaCall;
+
+    ghost callers_of = { callers_of };
+
+    ghost due = { sema_turn };
+
+    ghost behind = { sema_behind };
+
+    ghost fits = { SemaFits };
+
+    ghost left_from = { sema_from };
+
+    ghost undone = { sema_left };
+
+    fn due(call: SemaCall, sema: &SemaCore, caller: u32) -> Option<SemaStage> {
+        match (call, sema.place(caller)) {
+            (SemaCall::Acquire(weight), SemaPlace::Out) => Some(SemaStage::Acquire(weight)),
+            (SemaCall::TryAcquire(weight), SemaPlace::Out) => Some(SemaStage::Try(weight)),
+            (SemaCall::Release(weight), SemaPlace::Out) => Some(SemaStage::Release(weight)),
+            (SemaCall::Acquire(_), SemaPlace::Granted) => Some(SemaStage::Leave),
+            _ => None,
+        }
+    }
+
+    fn turn_laws() {
+        sema_laws::events_are_used_up();
+        sema_laws::knows_where_it_stands();
+        sema_laws::still();
     }
 }

@@ -1,9 +1,10 @@
-//! The turns of a worker that stands before a call of a wait group or of a cond.
+//! The turns of a worker that stands before a call of a wait group, of a semaphore or of a cond.
 ghost use Rattle.std.specs.Prelude.{◌≡◌, ℕ, ◌<◌, IfOk, OnOk};
 ghost use Rattle.mutex_core.specs.MutexMachine as mutex_machine;
 ghost use Rattle.script_calls.specs.declared.call.Operation.TheVariants as operations;
 ghost use Rattle.wait_cores.specs.GroupMachine as group_machine;
 ghost use Rattle.wait_cores.specs.NotifyMachine as notify_machine;
+ghost use Rattle.sema_core.specs.SemaMachine as sema_machine;
 ghost use Rattle.step_runner.specs.declared.turns.object_state.ObjectState.TheVariants as states;
 ghost use Rattle.step_runner.specs.Items.{items_on, items_on_both};
 ghost use Rattle.step_runner.specs.Noted.{noted};
@@ -11,15 +12,16 @@ ghost use Rattle.step_runner.specs.TurnAtObjects.{turn_on, turn_on_both};
 
 use crate::notes::Notes;
 use crate::turns::answer::Answer;
-use crate::turns::due::{cond_answer, cond_due, returned};
+use crate::turns::due::{cond_answer, cond_due, locked, returned};
 use crate::turns::item::Item;
 use crate::turns::object_state::ObjectState;
 use crate::turns::stages::{Places, Taker, make};
 use crate::turns::turn_kind::TurnKind;
 use mutex_core::MutexCore;
 use script_calls::Reply;
+use sema_core::SemaCore;
 use std::alloc::AllocError;
-use sync_types::{CondCall, WaitGroupCall};
+use sync_types::{CondCall, SemaCall, WaitGroupCall};
 use wait_cores::{GroupCore, NotifyCore};
 
 /// Takes a turn before a call of a wait group.
@@ -38,6 +40,27 @@ pub(crate) fn take_wait_group_turn(
         ObjectState::WaitGroup { group, .. } => {
             let due = GroupCore::due(call, group, taker.worker);
             Ok(returned(make::<GroupCore>(due, group, place, taker, notes)?))
+        }
+        _ => Ok(Answer::Still),
+    }
+}
+
+/// Takes a turn before a call of a semaphore.
+pub(crate) fn take_sema_turn(
+    object: &mut ObjectState,
+    place: usize,
+    call: SemaCall,
+    taker: Taker,
+    notes: &mut Notes<Item>,
+) -> Result<Answer, AllocError>
+    requires { (s : sema_machine.SemaState) (size : ℕ) → object.old ≡ states.Sema s size → taker.worker < sema_machine.callers_of s }
+    ensures turn { IfOk result (λ answer. turn_on (operations.Sema call) taker.worker taker.moment object.old ≡ (object.new, answer)) }
+    ensures noted { OnOk result (notes.new ≡ noted (items_on (operations.Sema call) taker.worker taker.moment place object.old) notes.old) }
+{
+    match object {
+        ObjectState::Sema { sema, .. } => {
+            let due = SemaCore::due(call, sema, taker.worker);
+            Ok(locked(make::<SemaCore>(due, sema, place, taker, notes)?))
         }
         _ => Ok(Answer::Still),
     }

@@ -11,7 +11,8 @@ use Rattle.scheduled_record.proofs.text_laws.the_text_of_a_run_tells_its_record.
 
 pub returns : goal.returns
 returns c plan left readable plain is =
-    let in_range = c.the_items_of_a_run_are_in_range.ensures plan true left readable plain is in
+    let variables = ((c.records_tell_of_all_but_variables_semaphores_and_flights.ensures plan).0 plain).0 in
+    let in_range = c.the_items_of_a_run_are_in_range.ensures plan true left readable variables is in
     let items = told_items plan in
     let report = done_report plan left in
     let few = and_true (nat_le (length items) MAX_ITEMS) _ is.limits in

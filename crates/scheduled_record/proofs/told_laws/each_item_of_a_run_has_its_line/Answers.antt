@@ -20,5 +20,5 @@ returns-clause-lines c plan left worker list readable plain is at =
     ∙ lines_are worker (told_of plan worker) (each_place (HasLine worker) (told_of plan worker) line_of) ∙ ap (map Some) (sym (c.the_items_of_a_run_are_lines_of_its_record.ensures.lines plan worker)) where
       line_of : (i : ℕ) (t : ToldAct) → slice_get (told_of plan worker) i ≡ Some t → HasLine worker t
       line_of i t there =
-          let (line, has) = c.each_item_of_a_run_has_a_line.ensures plan true left worker i t readable plain is there in
+          let (line, has) = c.each_item_of_a_run_has_a_line.ensures plan true left worker i t readable ((c.records_tell_of_all_but_variables_semaphores_and_flights.ensures plan).0 plain).0 is there in
           (line, has, c.the_items_of_a_run_are_lines_of_its_record.ensures.own plan worker i t there)

@@ -17,9 +17,10 @@ use Rattle.scheduled_record.proofs.told_laws.what_is_told_of_a_run_holds.Goals a
 pub returns : goal.returns
 returns c plan left readable plain done =
     let valid = readable.valid in
+    let variables = ((c.records_tell_of_all_but_variables_semaphores_and_flights.ensures plan).0 plain).0 in
     let claim : Claim = claim_of plan left in
     let explained : Explains plan (outcomes.Done left) (record_of claim (run_account plan left [])) =
-    subst (Explains plan (outcomes.Done left)) (sym (record_is plan left [])) (c.a_record_explains_every_scheduled_run_that_is_done.ensures.explains plan readable plain left done) in
+    subst (Explains plan (outcomes.Done left)) (sym (record_is plan left [])) (c.a_record_explains_every_scheduled_run_that_is_done.ensures.explains plan readable variables left done) in
     let lines : List Line = explained.lines in
     let account : Account = run_account plan left lines in
     let items : (worker : ℕ) (line : Line) → slice_get lines worker ≡ Some line → items_of line ≡ list_of (scheduled_record plan) worker = λ worker line at.
@@ -27,7 +28,7 @@ returns c plan left readable plain done =
     sym (get_or_from_slice_get (record_of claim account).lists worker (items_of line) [] there) ∙ ap (λ (r : Record). list_of r worker) (record_is plan left lines)) in
     let calls : (worker : ℕ) (list : List ToldItem) (line : Line) → IsOwn plan left worker list → slice_get lines worker ≡ Some line → calls_told list ≡ calls_along line = λ worker list line own at.
     ap calls_told (sym own.1) ∙ (c.no_item_of_a_run_is_a_halt.ensures.told plan worker valid
-    ∙ c.each_item_of_a_run_is_told_its_call.ensures plan left worker line readable plain done own.0 (explained.are.each worker line at) (explained.are.runs worker line at) (items worker line at)) in (
+    ∙ c.each_item_of_a_run_is_told_its_call.ensures plan left worker line readable variables done own.0 (explained.are.each worker line at) (explained.are.runs worker line at) (items worker line at)) in (
       account,
       record_is plan left lines,
       refl,

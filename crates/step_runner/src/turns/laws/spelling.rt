@@ -49,7 +49,7 @@ pub fn turns_spell_their_calls()
 /// spell what is left, spell the call. What is left of any other
 /// call than a read or a write of a plain variable can always be spelt.
 pub fn calls_are_entered_whole()
-    ensures begins { (worker workers room : ℕ) (kind : ObjectKind) → IsIdle worker (new_object workers room kind) }
+    ensures begins { (worker workers room : ℕ) (keys : List (List ℕ)) (kind : ObjectKind) → IsIdle worker (new_object workers room keys kind) }
     ensures enters { (plan : Plan) (worker before : ℕ) (call : Call) (objects : List ObjectState) → IsReady plan.workers worker call objects → map kind_of objects ≡ map (λ line. line.kind) plan.objects
         → EachAt (λ place. IsIdle worker) objects → IsOutBut None worker objects
         → IsWithin worker call objects × ((items : List Made) (answer : CallAnswer (Reply ℕ)) → left_at plan worker before call objects items answer → SpellsCall plan worker before call items answer) }
@@ -60,6 +60,8 @@ pub fn calls_are_entered_whole()
     wait_cores::laws::group::knows_where_it_stands();
     wait_cores::laws::once::knows_where_it_stands::<i64>();
     wait_cores::laws::once::knows_where_it_stands::<u64>();
+    sema_core::laws::knows_where_it_stands();
+    flight_core::laws::knows_where_it_stands();
 }
 
 /// All items of a turn are its worker's.

@@ -35,4 +35,12 @@ returns c = record {
     others_run = λ o x by e apart. c.knows_where_it_stands-3.ensures.others_run o x by e apart;
     uses = record { answers = c.knows_where_it_stands-3.ensures.answers; made = c.still-4.ensures.made; used = c.events_are_used_up-2.ensures };
   };
+  semas = c.turn_laws-2.ensures;
+  flights = record {
+    own = c.knows_where_it_stands-4.ensures.own;
+    others = λ f x by e apart. c.knows_where_it_stands-4.ensures.others f x by e apart;
+    answers = λ f x e below. c.knows_where_it_stands-4.ensures.answers f x e below;
+    made = c.still-5.ensures.made;
+    used = c.events_are_used_up-3.ensures;
+  };
 }

@@ -12,13 +12,15 @@ laws c = record {
   groups = c.knows_where_it_stands.ensures.callers;
   adding = c.knows_where_it_stands-2.ensures.callers;
   giving = c.knows_where_it_stands-3.ensures.callers;
+  semas = c.knows_where_it_stands-4.ensures.callers;
+  flights = c.knows_where_it_stands-5.ensures.callers;
   pools = c.keeps_its_parts.ensures;
 }
 
 pub returns-clause-begins : goal.returns-clause-begins
-returns-clause-begins c workers room kind = (
-  new_kind workers room kind,
-  new_machine (record { mutexes = c.validity.ensures.begins; rw_mutexes = c.validity-2.ensures.begins; groups = c.knows_where_it_stands.ensures.callers }) workers room kind,
+returns-clause-begins c workers room keys kind = (
+  new_kind workers room keys kind,
+  new_machine (record { mutexes = c.validity.ensures.begins; rw_mutexes = c.validity-2.ensures.begins; groups = c.knows_where_it_stands.ensures.callers }) workers room keys kind,
 )
 
 pub returns-clause-kinds : goal.returns-clause-kinds

@@ -10,6 +10,8 @@ uses c = record {
   groups = c.machines_tell_where_callers_stand.ensures.groups;
   adding = c.machines_tell_where_callers_stand.ensures.adding.uses;
   giving = c.machines_tell_where_callers_stand.ensures.giving.uses;
+  semas = c.machines_tell_where_callers_stand.ensures.semas;
+  flights = c.machines_tell_where_callers_stand.ensures.flights;
 }
 
 pub returns : goal.returns

@@ -15,7 +15,7 @@ stands c = record {
 }
 
 pub returns-clause-begins : goal.returns-clause-begins
-returns-clause-begins c worker workers room kind = new_out worker workers room kind
+returns-clause-begins c worker workers room keys kind = new_out worker workers room keys kind
 
 pub returns-clause-own : goal.returns-clause-own
 returns-clause-own c workers worker moment call objects ready out = (at_own (stands c) workers worker call moment objects ready out).1
