@@ -3,10 +3,12 @@ pub mod ColumnLists
 pub mod Declared
 pub mod DeclaredJournals
 pub mod DormantCount
+pub mod FlightParts
 pub mod GroupStart
 pub mod Histories
 pub mod KindsFit
 pub mod MadeOn
+pub mod NoValue
 pub mod OnceParts
 pub mod RowSteps
 pub mod SameKinds

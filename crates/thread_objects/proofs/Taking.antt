@@ -25,6 +25,8 @@ use Rattle.thread_objects.specs.WaitGroupKind.{wait_group}
 use Rattle.thread_objects.specs.OnceKind.{once}
 use Rattle.thread_objects.specs.OnceFuncKind.{once_func}
 use Rattle.thread_objects.specs.OnceValueKind.{once_value}
+use Rattle.thread_objects.specs.SemaKind.{sema}
+use Rattle.thread_objects.specs.FlightKind.{flight}
 use Rattle.thread_objects.specs.PoolPartKind.{pool_part}
 use Rattle.thread_objects.specs.StartsKind.{starts}
 use Rattle.thread_objects.proofs.ColumnLists.{in_front, last_at}
@@ -123,6 +125,8 @@ module _ {N H : Type 0} (at : H → N → Type 0) (home : H) (workers count : �
   deals (objects.Once o) (columns.Once ps) = each once o ps
   deals (objects.OnceFunc o) (columns.OnceFunc ps) = each once_func o ps
   deals (objects.OnceValue o) (columns.OnceValue ps) = each once_value o ps
+  deals (objects.Sema o) (columns.Sema ps) = each sema o ps
+  deals (objects.Flight o) (columns.Flight ps) = each flight o ps
   deals (objects.PoolPart o) (columns.PoolPart ps) = each pool_part o ps
   deals (objects.Starts o) (columns.Starts ps) = each starts o ps
   deals object old = (λ new pass is takes. absurd is, λ pass below few is seat. absurd is, λ new pass is seat adds. absurd is)

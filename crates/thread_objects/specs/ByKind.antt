@@ -14,12 +14,14 @@ use Rattle.thread_objects.specs.declared.parts.stop.NoEvent.{NoEvent}
 use Rattle.thread_objects.specs.declared.parts.stop.StopCore.{StopCore}
 use Rattle.thread_objects.specs.CondKind.{cond}
 use Rattle.thread_objects.specs.EachKind.{Kind, own_in}
+use Rattle.thread_objects.specs.FlightKind.{flight}
 use Rattle.thread_objects.specs.MutexKind.{mutex}
 use Rattle.thread_objects.specs.OnceFuncKind.{once_func}
 use Rattle.thread_objects.specs.OnceKind.{once}
 use Rattle.thread_objects.specs.OnceValueKind.{once_value}
 use Rattle.thread_objects.specs.PoolPartKind.{pool_part}
 use Rattle.thread_objects.specs.RwMutexKind.{rw_mutex}
+use Rattle.thread_objects.specs.SemaKind.{sema}
 use Rattle.thread_objects.specs.StartsKind.{starts}
 use Rattle.thread_objects.specs.StopKind.{stop}
 use Rattle.thread_objects.specs.WaitGroupKind.{wait_group}
@@ -41,6 +43,8 @@ of_object fact (objects.WaitGroup o) = fact.each wait_group o
 of_object fact (objects.Once o) = fact.each once o
 of_object fact (objects.OnceFunc o) = fact.each once_func o
 of_object fact (objects.OnceValue o) = fact.each once_value o
+of_object fact (objects.Sema o) = fact.each sema o
+of_object fact (objects.Flight o) = fact.each flight o
 of_object fact (objects.PoolPart o) = fact.each pool_part o
 of_object fact (objects.Starts o) = fact.each starts o
 
@@ -55,6 +59,8 @@ own_of (passes.WaitGroup p) = own_in wait_group p
 own_of (passes.Once p) = own_in once p
 own_of (passes.OnceFunc p) = own_in once_func p
 own_of (passes.OnceValue p) = own_in once_value p
+own_of (passes.Sema p) = own_in sema p
+own_of (passes.Flight p) = own_in flight p
 own_of (passes.PoolPart p) = own_in pool_part p
 own_of (passes.Starts p) = own_in starts p
 
@@ -69,6 +75,8 @@ passes_in (columns.WaitGroup ps) = map passes.WaitGroup ps.items
 passes_in (columns.Once ps) = map passes.Once ps.items
 passes_in (columns.OnceFunc ps) = map passes.OnceFunc ps.items
 passes_in (columns.OnceValue ps) = map passes.OnceValue ps.items
+passes_in (columns.Sema ps) = map passes.Sema ps.items
+passes_in (columns.Flight ps) = map passes.Flight ps.items
 passes_in (columns.PoolPart ps) = map passes.PoolPart ps.items
 passes_in (columns.Starts ps) = map passes.Starts ps.items
 
@@ -88,5 +96,7 @@ of_column fact (columns.WaitGroup ps) = fact.each wait_group ps
 of_column fact (columns.Once ps) = fact.each once ps
 of_column fact (columns.OnceFunc ps) = fact.each once_func ps
 of_column fact (columns.OnceValue ps) = fact.each once_value ps
+of_column fact (columns.Sema ps) = fact.each sema ps
+of_column fact (columns.Flight ps) = fact.each flight ps
 of_column fact (columns.PoolPart ps) = fact.each pool_part ps
 of_column fact (columns.Starts ps) = fact.each starts ps

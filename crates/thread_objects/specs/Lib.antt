@@ -6,6 +6,7 @@ pub mod CondKind
 pub mod Dealing
 pub mod Desks
 pub mod EachKind
+pub mod FlightKind
 pub mod Halting
 pub mod Kinds
 pub mod MutexKind
@@ -17,6 +18,7 @@ pub mod Passes
 pub mod PoolPartKind
 pub mod Rows
 pub mod RwMutexKind
+pub mod SemaKind
 pub mod StartsKind
 pub mod StopKind
 pub mod WaitGroupKind

@@ -3,7 +3,7 @@
 /// The one list of the kinds that a workload declares: it is put before what the named macro is called with.
 macro_rules! with_kinds {
     ($then:ident, $($all:tt)*) => {
-        $then!([Mutex RwMutex Cond WaitGroup Once OnceFunc OnceValue] $($all)*)
+        $then!([Mutex RwMutex Cond WaitGroup Once OnceFunc OnceValue Sema Flight] $($all)*)
     };
 }
 

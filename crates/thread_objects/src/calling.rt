@@ -1,6 +1,7 @@
 //! Calls on one object of whatever kind.
 ghost use Rattle.std.specs.Prelude.{◌≡◌, ℕ, true, IfSome, IfNone};
 ghost use Rattle.sync_model.specs.Shared.{IsCallerAt, items_of};
+ghost use Rattle.workload.specs.Keys.{keys_in, operation_number};
 ghost use Rattle.workload.specs.Plan.{refers};
 ghost use Rattle.run_record.specs.Calls.{call_on};
 ghost use Rattle.run_record.specs.Record.{object_number};
@@ -24,8 +25,8 @@ use sync_model::{Caller, Shared};
 use sync_outside::Clock;
 use workload::ObjectKind;
 
-/// Makes a call on an object that is declared so, and on no other one but maps and atomics. It may wait for other workers. `None`,
-/// where it gives the call up, since it has seen what can't be.
+/// Makes a call on an object that is declared so, and on no other one but maps and atomics; `key` is the number of its key. It may
+/// wait for other workers. `None`, where it gives the call up, since it has seen what can't be.
 pub fn call_any<S: Shared, C: Clock, R: Wait>(
     rt: &R,
     worker: &Worker<S::Mark, C>,
@@ -35,8 +36,10 @@ pub fn call_any<S: Shared, C: Clock, R: Wait>(
     pass: &mut AnyPass<S::Mark>,
     declared: ObjectKind,
     operation: &Operation,
+    key: u32,
 ) -> Option<CallAnswer>
     requires alone { IsCallAlone declared operation.now }
+    requires key { key ≡ operation_number (keys_in catalog.now.workload.now.scripts) operation.now }
     requires kind { IsOfKind declared object.now }
     requires reference { refers catalog.now.workload.now.objects declared ≡ true }
     requires atomics { HasAtomics catalog.now.workload.now (S.kinds catalog.now.shared.now) catalog.now.numbers.now }
@@ -54,7 +57,7 @@ pub fn call_any<S: Shared, C: Clock, R: Wait>(
         object,
         pass,
         |object, pass| DeclaredKind::call(
-            rt, worker, catalog, caller, object, pass, declared, operation
+            rt, worker, catalog, caller, object, pass, declared, operation, key
         )
     )
 }

@@ -1,9 +1,11 @@
 //! All passes of one object of a run, in order of worker.
 use crate::parts::StopCore;
+use flight_core::FlightCore;
 use mutex_core::MutexCore;
 use pool_core::PartCore;
 use ruled_object::PassOf;
 use rw_core::RwCore;
+use sema_core::SemaCore;
 use starts_core::StartsCore;
 use wait_cores::{GroupCore, NotifyCore, OnceCore};
 
@@ -21,6 +23,8 @@ pub enum AnyColumn<N> {
     Once(Vec<PassOf<OnceCore<i64>, N>>),
     OnceFunc(Vec<PassOf<OnceCore<u32>, N>>),
     OnceValue(Vec<PassOf<OnceCore<u64>, N>>),
+    Sema(Vec<PassOf<SemaCore, N>>),
+    Flight(Vec<PassOf<FlightCore, N>>),
     PoolPart(Vec<PassOf<PartCore, N>>),
     Starts(Vec<PassOf<StartsCore, N>>),
 }

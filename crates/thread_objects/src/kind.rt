@@ -1,6 +1,7 @@
 //! What the code of a kind is.
 ghost use Rattle.std.specs.Prelude.{◌≡◌, ℕ, ◌<◌, ◌≤◌, true, Some, IfOk, IfSome, IfNone};
 ghost use Rattle.workload.specs.Draft.{is_kind};
+ghost use Rattle.workload.specs.Keys.{keys_in, operation_number};
 ghost use Rattle.workload.specs.Plan.{refers, word_of};
 ghost use Rattle.sync_model.specs.Shared.{IsCallerAt, items_of};
 ghost use Rattle.run_record.specs.Calls.{call_on};
@@ -38,8 +39,8 @@ pub(crate) trait DeclaredKind: Protocol + Worded {
         ensures starts { IfOk result (λ start. kind.starts workers declared ≡ Some start) }
         ensures begins { IfOk result (λ start. Self.begins workers start) };
 
-    /// Makes a call on an object that is declared so, which has it. It may be on maps and atomics too, and may wait. `None`, where it
-    /// gives the call up, since it has seen what can't be.
+    /// Makes a call on an object that is declared so, which has it; `key` is the number of its key. It may be on maps and atomics too,
+    /// and may wait. `None`, where it gives the call up, since it has seen what can't be.
     fn call<S: Shared, C: Clock, R: Wait>(
         rt: &R,
         worker: &Worker<S::Mark, C>,
@@ -49,8 +50,10 @@ pub(crate) trait DeclaredKind: Protocol + Worded {
         pass: &mut PassOf<Self, S::Mark>,
         declared: ObjectKind,
         operation: &Operation,
+        key: u32,
     ) -> Option<CallAnswer>
         requires alone { IsCallAlone declared operation.now }
+        requires key { key ≡ operation_number (keys_in catalog.now.workload.now.scripts) operation.now }
         requires word { kind.word ≡ Some (word_of declared) }
         requires reference { refers catalog.now.workload.now.objects declared ≡ true }
         requires atomics { HasAtomics catalog.now.workload.now (S.kinds catalog.now.shared.now) catalog.now.numbers.now }

@@ -1,9 +1,11 @@
 //! The objects of a run.
 use crate::parts::StopCore;
+use flight_core::FlightCore;
 use mutex_core::MutexCore;
 use pool_core::PartCore;
 use ruled_object::Object;
 use rw_core::RwCore;
+use sema_core::SemaCore;
 use starts_core::StartsCore;
 use sync_model::Note;
 use wait_cores::{GroupCore, NotifyCore, OnceCore};
@@ -21,6 +23,8 @@ pub enum AnyObject<N: Note> {
     Once(Object<OnceCore<i64>, N>),
     OnceFunc(Object<OnceCore<u32>, N>),
     OnceValue(Object<OnceCore<u64>, N>),
+    Sema(Object<SemaCore, N>),
+    Flight(Object<FlightCore, N>),
     /// One part of a pool, which is an object of its own.
     PoolPart(Object<PartCore, N>),
     /// On which workers are started. No workload declares it.

@@ -1,9 +1,11 @@
 //! The passes of one worker.
 use crate::parts::StopCore;
+use flight_core::FlightCore;
 use mutex_core::MutexCore;
 use pool_core::PartCore;
 use ruled_object::PassOf;
 use rw_core::RwCore;
+use sema_core::SemaCore;
 use starts_core::StartsCore;
 use wait_cores::{GroupCore, NotifyCore, OnceCore};
 
@@ -20,6 +22,8 @@ pub enum AnyPass<N> {
     Once(PassOf<OnceCore<i64>, N>),
     OnceFunc(PassOf<OnceCore<u32>, N>),
     OnceValue(PassOf<OnceCore<u64>, N>),
+    Sema(PassOf<SemaCore, N>),
+    Flight(PassOf<FlightCore, N>),
     PoolPart(PassOf<PartCore, N>),
     Starts(PassOf<StartsCore, N>),
 }

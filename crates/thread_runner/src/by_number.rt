@@ -3,6 +3,7 @@ ghost use Rattle.std.specs.Prelude.{◌≡◌, ℕ, ◌+◌, ◌<◌, true, leng
 ghost use Rattle.sync_model.specs.Shared.{IsCallerAt, items_of};
 ghost use Rattle.protocols.specs.declared.wait_group.GroupStage.TheVariants as stages;
 ghost use Rattle.workload.specs.declared.object.ObjectWord.TheVariants as words;
+ghost use Rattle.workload.specs.Keys.{keys_in, operation_number};
 ghost use Rattle.workload.specs.Plan.{refers};
 ghost use Rattle.ruled_object.specs.Growth.{KeepsNote};
 ghost use Rattle.run_record.specs.Calls.{call_on};
@@ -30,7 +31,7 @@ use thread_objects::{AnyObject, AnyPass, CallAnswer, Catalog, Worker, call_any};
 use workload::ObjectKind;
 
 /// Makes a call on the object at a place among the workload's objects, which is of this kind, and on no other one but maps and
-/// atomics. `None`, where it gives the call up, since it has seen what can't be.
+/// atomics; `key` is the number of its key. `None`, where it gives the call up, since it has seen what can't be.
 pub(crate) fn object_at<S: Shared, C: Clock, R: Wait>(
     rt: &R,
     worker: &Worker<S::Mark, C>,
@@ -41,8 +42,10 @@ pub(crate) fn object_at<S: Shared, C: Clock, R: Wait>(
     place: usize,
     kind: ObjectKind,
     operation: &Operation,
+    key: u32,
 ) -> Option<CallAnswer>
     requires alone { IsCallAlone kind operation.now }
+    requires key { key ≡ operation_number (keys_in catalog.now.workload.now.scripts) operation.now }
     requires kind { IsObjectAt (IsOfKind kind) objects.now (object_number place) }
     requires room { place + 1 < length objects.now }
     requires reference { refers catalog.now.workload.now.objects kind ≡ true }
@@ -60,7 +63,9 @@ pub(crate) fn object_at<S: Shared, C: Clock, R: Wait>(
     let number = place + 1;
     let object = &objects[number];
     let pass = &mut passes[number];
-    call_any(rt, worker, catalog, caller, object, pass, kind, operation)
+    call_any(
+        rt, worker, catalog, caller, object, pass, kind, operation, key,
+    )
 }
 
 /// Waits on the cond at a place, whose mutex is at that one.

@@ -3,11 +3,16 @@ ghost use Rattle.std.specs.Prelude.{◌≡◌, ℕ, ◌+◌, ◌<◌, ◌≤◌,
 ghost use Rattle.std.specs.Option.{ForSome};
 ghost use Rattle.sync_model.specs.Note.{SameHome};
 ghost use Rattle.sync_model.specs.Shared.{IsCallerAt, items_of};
-ghost use Rattle.workload.specs.declared.object.ObjectKind.TheVariants.{Pool};
+ghost use Rattle.workload.specs.declared.object.ObjectKind.TheVariants.{Cond, Mutex, Pool};
 ghost use Rattle.workload.specs.Keys.{keys_in, call_number, operation_number};
+ghost use Rattle.ruled_object.specs.Growth.{KeepsNote};
 ghost use Rattle.run_record.specs.Calls.{SpellsCall, call_on};
+ghost use Rattle.run_record.specs.CondKind.{wait_part};
 ghost use Rattle.run_record.specs.Limits.{IsCallOf};
 ghost use Rattle.run_record.specs.Objects.{first_part, object_count};
+ghost use Rattle.run_record.specs.PoolKind.{pool_call};
+ghost use Rattle.run_record.specs.Record.{object_number};
+ghost use Rattle.thread_objects.specs.AsDeclared.{AreDeclared};
 ghost use Rattle.thread_objects.specs.Desks.{AreSeats};
 ghost use Rattle.thread_objects.specs.GivenUp.{GaveUp, MakesOnly};
 ghost use Rattle.thread_objects.specs.Passes.{owns_of};
@@ -26,7 +31,7 @@ use script_calls::{Call, Operation};
 use std::sync::Wait;
 use sync_model::{Caller, Shared};
 use sync_outside::Clock;
-use sync_types::{BoundedSeq, CondCall};
+use sync_types::{BoundedSeq, CondCall, PoolCall};
 use thread_objects::laws::objects_are_of_their_kinds;
 use thread_objects::{AnyPass, CallAnswer, Worker, atomic_at};
 use workload::laws::only_variables_are_read_and_written;
@@ -73,6 +78,53 @@ fn first_part_of<S: Shared>(site: &Site<S>, place: usize) -> usize
     part_behind(lines.len(), pools, workers)
 }
 
+// Waits on the cond at a place, whose mutex is at that one.
+fn wait_on<S: Shared, C: Clock, R: Wait>(
+    rt: &R,
+    site: &Site<S>,
+    worker: &Worker<S::Mark, C>,
+    passes: &mut [AnyPass<S::Mark>],
+    note: &mut S::Mark,
+    place: usize,
+    mutex: usize,
+) -> CallAnswer
+    requires declared { AreDeclared S.Mark.at worker.now.at.home.now site.now.catalog.workload.now site.now.objects.now }
+    requires cond { IsAt site.now.catalog.workload.now place (Cond mutex) }
+    requires mutex { IsAt site.now.catalog.workload.now mutex Mutex }
+    requires seats { AreSeats S.Mark.at worker.now.at.home.now worker.now.workers worker.now.number site.now.objects.now passes.old }
+    requires note { S.Mark.at worker.now.at.home.now note.old }
+    ensures seats { AreSeats S.Mark.at worker.now.at.home.now worker.now.workers worker.now.number site.now.objects.now passes.new }
+    ensures note { KeepsNote S.Mark.at S.Mark.own S.Mark.front note.old note.new }
+    ensures works { Works (wait_part (object_number place) (object_number mutex)) (desk_with S.Mark.own S.Mark.front (owns_of passes.old) note.old) result (desk_with S.Mark.own S.Mark.front (owns_of passes.new) note.new) }
+{
+    objects_are_of_their_kinds::<S::Mark>();
+    wait_at(rt, worker, site.objects, passes, note, place, mutex)
+}
+
+// Makes a call on the pool at a place.
+fn pool_at<S: Shared, C: Clock, R: Wait>(
+    rt: &R,
+    site: &Site<S>,
+    worker: &Worker<S::Mark, C>,
+    passes: &mut [AnyPass<S::Mark>],
+    note: &mut S::Mark,
+    place: usize,
+    call: PoolCall,
+) -> CallAnswer
+    requires site { IsWorkerAt S.Mark.at worker.now.at.home.now (S.home_of site.now.catalog.shared.now) site.now.catalog.workload.now (S.maps site.now.catalog.shared.now) (S.kinds site.now.catalog.shared.now) (S.takes site.now.catalog.shared.now) site.now.objects.now site.now.catalog.numbers.now worker.now.workers }
+    requires own { worker.now.number < worker.now.workers }
+    requires place { IsAt site.now.catalog.workload.now place Pool }
+    requires seats { AreSeats S.Mark.at worker.now.at.home.now worker.now.workers worker.now.number site.now.objects.now passes.old }
+    requires note { S.Mark.at worker.now.at.home.now note.old }
+    ensures seats { AreSeats S.Mark.at worker.now.at.home.now worker.now.workers worker.now.number site.now.objects.now passes.new }
+    ensures note { KeepsNote S.Mark.at S.Mark.own S.Mark.front note.old note.new }
+    ensures works { Works (pool_call worker.now.workers worker.now.number (first_part site.now.catalog.workload.now place) call) (desk_with S.Mark.own S.Mark.front (owns_of passes.old) note.old) result (desk_with S.Mark.own S.Mark.front (owns_of passes.new) note.new) }
+{
+    objects_are_of_their_kinds::<S::Mark>();
+    let first = first_part_of(site, place);
+    call_pool(rt, worker, site.objects, passes, note, first, call)
+}
+
 // Makes a call on the object at a place, which is of this kind and has the call. The number is that of the call's key.
 fn call_at<S: Shared, C: Clock, R: Wait>(
     rt: &R,
@@ -114,10 +166,10 @@ fn call_at<S: Shared, C: Clock, R: Wait>(
         )),
         Operation::Range => range_at(rt, site, caller, place, take_room(rooms)),
         Operation::Cond(CondCall::Wait) => match kind {
-            ObjectKind::Cond { mutex } => Some(wait_at(
+            ObjectKind::Cond { mutex } => Some(wait_on(
                 rt,
+                site,
                 worker,
-                site.objects,
                 passes,
                 &mut caller.note,
                 place,
@@ -129,13 +181,13 @@ fn call_at<S: Shared, C: Clock, R: Wait>(
             only_variables_are_read_and_written();
             unreachable!()
         }
-        Operation::Pool(call) => Some(call_pool(
+        Operation::Pool(call) => Some(pool_at(
             rt,
+            site,
             worker,
-            site.objects,
             passes,
             &mut caller.note,
-            first_part_of(site, place),
+            place,
             *call,
         )),
         _ => object_at(
@@ -148,6 +200,7 @@ fn call_at<S: Shared, C: Clock, R: Wait>(
             place,
             kind,
             operation,
+            number,
         ),
     }
 }

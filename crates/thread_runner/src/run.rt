@@ -21,7 +21,7 @@ use run_record::laws::endings::stop_says_how_a_run_ended;
 use run_record::laws::limits::{a_range_shows_no_key_but_the_workloads, an_int64_answers_an_int64};
 use run_record::laws::order::numbers_that_rise_item_by_item_rise;
 use script_calls::{Outcome, Report};
-use std::alloc::Global;
+use std::alloc::{AllocError, Global};
 use std::sync::Wait;
 use std::thread::Threads;
 use sync_model::laws::shared_steps::one_more_call_keeps_the_law;
@@ -139,6 +139,26 @@ where
     }
 }
 
+// Deals the workers their passes to all objects, in order of number, and makes room for what the workers leave.
+fn deal_all<S: Shared>(
+    alloc: Global,
+    crew: &Crew<S::Mark>,
+    objects: &[AnyObject<S::Mark>],
+    columns: &mut [AnyColumn<S::Mark>],
+) -> Result<(Vec<Vec<AnyPass<S::Mark>>>, Left<S::Mark>), AllocError>
+    requires columns { AreColumns S.Mark.at crew.now.home.now crew.now.workers crew.now.workers objects.now columns.old }
+    requires nothing { MadeNothingFrom 0 columns.old }
+    ensures rows { IfOk result (λ dealt. AreRows S.Mark.at crew.now.home.now crew.now.workers objects.now (map (λ row. row.items) dealt.0.items)) }
+    ensures columns { IfOk result (λ dealt. AreColumns S.Mark.at crew.now.home.now crew.now.workers 0 objects.now columns.new) }
+    ensures nothing { IfOk result (λ dealt. MadeNothingFrom crew.now.workers columns.new) }
+    ensures empty { IfOk result (λ dealt. (dealt.1.callers.items ≡ []) × (dealt.1.passes.items ≡ []) × (dealt.1.replies.items ≡ [])) }
+    ensures room { IfOk result (λ dealt. (crew.now.workers ≤ vec_capacity dealt.1.callers) × (crew.now.workers ≤ vec_capacity dealt.1.passes) × (crew.now.workers ≤ dealt.1.replies.room)) }
+{
+    let rows = deal(alloc, crew, objects, columns)?;
+    let left = Left::with_room(alloc, crew.workers as usize)?;
+    Ok((rows, left))
+}
+
 // Runs a workload on its objects, to which no pass was dealt yet.
 fn run_on<S: Shared + Sync, C: Clock + Sync, P: Spawner, G: Gate + Sync, R: Threads + Wait + Sync>(
     rt: &R,
@@ -174,8 +194,7 @@ where
     ensures rounds { P.rounds spawner.new ≤ P.rounds spawner.old + 1 }
     ensures unstarted { IfErr result (λ fault. (P.ran spawner.new ≡ P.ran spawner.old) × (P.rounds spawner.new ≡ P.rounds spawner.old)) }
 {
-    let rows = deal(alloc, crew, objects, columns)?;
-    let mut left = Left::with_room(alloc, crew.workers as usize)?;
+    let (rows, mut left) = deal_all::<S>(alloc, crew, objects, columns)?;
     work_all(
         rt, alloc, workload, shared, objects, numbers, clock, spawner, gate, callers, rows,
         &mut left,

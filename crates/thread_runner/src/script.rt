@@ -1,9 +1,13 @@
 //! A worker's script, call by call, and what is done before and behind it.
 ghost use Rattle.std.specs.Prelude.{◌≡◌, [], ◌⊎◌, get_or, IfSome, IfNone};
 ghost use Rattle.sync_model.specs.Shared.{items_of};
+ghost use Rattle.ruled_object.specs.Growth.{KeepsNote};
 ghost use Rattle.run_record.specs.Lines.{Line};
+ghost use Rattle.thread_objects.specs.AsDeclared.{AreDeclared};
+ghost use Rattle.thread_objects.specs.Desks.{AreSeats};
 ghost use Rattle.thread_objects.specs.GivenUp.{GaveUp};
 ghost use Rattle.thread_objects.specs.Passes.{owns_of};
+ghost use Rattle.thread_runner.specs.Halting.{HaltsAll};
 ghost use Rattle.thread_runner.specs.Jobs.{IsBetween, MayCall};
 ghost use Rattle.thread_runner.specs.Replies.{is_through, misuse_in};
 ghost use Rattle.thread_runner.specs.Sites.{IsWorkerAt};
@@ -117,6 +121,27 @@ fn go_through<S: Shared, C: Clock, G: Gate, R: Wait>(
     Some(closes(rt, site, worker, passes, &mut caller.note))
 }
 
+// Halts the run by a misuse.
+fn halt_run<S: Shared, C: Clock, R: Wait>(
+    rt: &R,
+    site: &Site<S>,
+    worker: &Worker<S::Mark, C>,
+    passes: &mut [AnyPass<S::Mark>],
+    note: &mut S::Mark,
+    misuse: Misuse,
+)
+    requires declared { AreDeclared S.Mark.at worker.now.at.home.now site.now.catalog.workload.now site.now.objects.now }
+    requires workers { site.now.catalog.workload.now.workers ≡ worker.now.workers }
+    requires seats { AreSeats S.Mark.at worker.now.at.home.now worker.now.workers worker.now.number site.now.objects.now passes.old }
+    requires note { S.Mark.at worker.now.at.home.now note.old }
+    ensures seats { AreSeats S.Mark.at worker.now.at.home.now worker.now.workers worker.now.number site.now.objects.now passes.new }
+    ensures note { KeepsNote S.Mark.at S.Mark.own S.Mark.front note.old note.new }
+    ensures halted { HaltsAll site.now.catalog.workload.now misuse (desk_with S.Mark.own S.Mark.front (owns_of passes.old) note.old) (desk_with S.Mark.own S.Mark.front (owns_of passes.new) note.new) }
+{
+    let workload = site.catalog.workload;
+    halt_all(rt, worker, workload, site.objects, passes, note, misuse)
+}
+
 /// Makes the calls of a worker's script in order, but those that a reply passes over, with the gate before and behind each. Where some
 /// workers wait to be started, one that does comes to its script once it was started, and makes the `done` on the group of its `go`
 /// behind it; and each that comes to its end says so. A misuse halts Stop, and then every object, and ends the worker, as a halt does
@@ -147,14 +172,6 @@ pub(crate) fn run_script<S: Shared, C: Clock, G: Gate, R: Wait>(
     let went = go_through(rt, site, worker, gate, caller, passes, replies, rooms);
     match misuse_in(&went) {
         None => {}
-        Some(misuse) => halt_all(
-            rt,
-            worker,
-            site.catalog.workload,
-            site.objects,
-            passes,
-            &mut caller.note,
-            misuse,
-        ),
+        Some(misuse) => halt_run(rt, site, worker, passes, &mut caller.note, misuse),
     }
 }

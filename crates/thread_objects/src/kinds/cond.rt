@@ -34,6 +34,7 @@ impl DeclaredKind for NotifyCore {
         pass: &mut PassOf<NotifyCore, S::Mark>,
         declared: ObjectKind,
         operation: &Operation,
+        _key: u32,
     ) -> Option<CallAnswer> {
         let note = &mut caller.note;
         match (declared, operation) {

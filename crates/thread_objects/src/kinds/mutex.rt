@@ -50,6 +50,7 @@ impl DeclaredKind for MutexCore {
         pass: &mut PassOf<MutexCore, S::Mark>,
         declared: ObjectKind,
         operation: &Operation,
+        _key: u32,
     ) -> Option<CallAnswer> {
         match (declared, operation) {
             (ObjectKind::Mutex, Operation::Mutex(call)) => {

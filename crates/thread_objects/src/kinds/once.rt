@@ -112,6 +112,7 @@ impl DeclaredKind for OnceCore<i64> {
         pass: &mut PassOf<OnceCore<i64>, S::Mark>,
         declared: ObjectKind,
         operation: &Operation,
+        _key: u32,
     ) -> Option<CallAnswer> {
         match (declared, operation) {
             (ObjectKind::Once { atomic, delta }, Operation::Once) => do_on(

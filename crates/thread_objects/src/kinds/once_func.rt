@@ -58,6 +58,7 @@ impl DeclaredKind for OnceCore<u32> {
         pass: &mut PassOf<OnceCore<u32>, S::Mark>,
         declared: ObjectKind,
         operation: &Operation,
+        _key: u32,
     ) -> Option<CallAnswer> {
         match (declared, operation) {
             (ObjectKind::OnceFunc { code }, Operation::OnceFunc) => {

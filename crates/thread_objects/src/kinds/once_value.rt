@@ -50,6 +50,7 @@ impl DeclaredKind for OnceCore<u64> {
         pass: &mut PassOf<OnceCore<u64>, S::Mark>,
         declared: ObjectKind,
         operation: &Operation,
+        _key: u32,
     ) -> Option<CallAnswer> {
         match (declared, operation) {
             (ObjectKind::OnceValue { value }, Operation::OnceValue) => {

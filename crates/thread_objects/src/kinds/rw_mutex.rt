@@ -53,6 +53,7 @@ impl DeclaredKind for RwCore {
         pass: &mut PassOf<RwCore, S::Mark>,
         declared: ObjectKind,
         operation: &Operation,
+        _key: u32,
     ) -> Option<CallAnswer> {
         match (declared, operation) {
             (ObjectKind::RwMutex, Operation::RwMutex(call)) => {

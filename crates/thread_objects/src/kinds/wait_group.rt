@@ -61,6 +61,7 @@ impl DeclaredKind for GroupCore {
         pass: &mut PassOf<GroupCore, S::Mark>,
         declared: ObjectKind,
         operation: &Operation,
+        _key: u32,
     ) -> Option<CallAnswer> {
         match (declared, operation) {
             (ObjectKind::WaitGroup { .. }, Operation::WaitGroup(call)) => {

@@ -1,29 +1,24 @@
 use Rattle.std.proofs.lemmas.Option.{IfSome_then}
-use Rattle.workload.specs.declared.object.ObjectKind.TheVariants as kinds
 use Rattle.thread_objects.specs.Passes.{owns_of}
 use Rattle.thread_runner.proofs.ByKind.{of_pool, on_map, on_atomic, on_composed, on_pool, on_range}
 use Rattle.thread_runner.proofs.ScriptCalls.{key_among}
 use Rattle.thread_runner.proofs.Sites.{has_atomics, mutex_of}
-use Rattle.std.proofs.Common.{ℕ, ◌-◌, length, sym, subst, arith}
+use Rattle.std.proofs.Common.{length, refl, subst}
 use Rattle.sync_model.specs.Shared.{items_of}
 use Rattle.script_calls.specs.declared.call.Operation.{Operation}
 use Rattle.workload.specs.declared.object.ObjectKind.{ObjectKind}
 use Rattle.thread_objects.specs.Catalog.{IsAt}
-use Rattle.thread_runner.specs.PoolParts.{ArePartsAt}
 use Rattle.thread_runner.specs.Sites.{HasCallAt}
 use Rattle.thread_runner.proofs.dispatch.call_at.Goals as goal
 
 pub map_at-requires-clause-key : goal.map_at-requires-clause-key
 map_at-requires-clause-key g c = λ name at. c.requires.call.keys name (key_among c.args.operation.now c.in-Map.call name c.in-Map.is at)
 
-pub wait_at-requires-clause-cond : goal.wait_at-requires-clause-cond
-wait_at-requires-clause-cond g c = c.objects_are_of_their_kinds.ensures.kind c.args.worker.now.at.home.now c.args.site.now.catalog.workload.now c.args.site.now.objects.now c.args.place (kinds.Cond c.in-Cond.mutex) c.requires.site.site.declared (subst (λ (k : ObjectKind). IsAt c.args.site.now.catalog.workload.now c.args.place k) c.in-Cond.is c.requires.call.there)
+pub wait_on-requires-clause-cond : goal.wait_on-requires-clause-cond
+wait_on-requires-clause-cond g c = subst (λ (k : ObjectKind). IsAt c.args.site.now.catalog.workload.now c.args.place k) c.in-Cond.is c.requires.call.there
 
-pub wait_at-requires-clause-mutex : goal.wait_at-requires-clause-mutex
-wait_at-requires-clause-mutex g c = c.objects_are_of_their_kinds.ensures.kind c.args.worker.now.at.home.now c.args.site.now.catalog.workload.now c.args.site.now.objects.now c.in-Cond.mutex kinds.Mutex c.requires.site.site.declared (mutex_of c.args.site.now.catalog.workload.now c.args.kind c.in-Cond.mutex c.in-Cond.is c.requires.call.reference)
-
-pub wait_at-requires-clause-room : goal.wait_at-requires-clause-room
-wait_at-requires-clause-room g c = (c.objects_are_of_their_kinds.ensures.there c.args.worker.now.at.home.now c.args.site.now.catalog.workload.now c.args.site.now.objects.now c.args.place c.args.kind c.requires.site.site.declared c.requires.call.there, c.objects_are_of_their_kinds.ensures.there c.args.worker.now.at.home.now c.args.site.now.catalog.workload.now c.args.site.now.objects.now c.in-Cond.mutex kinds.Mutex c.requires.site.site.declared (mutex_of c.args.site.now.catalog.workload.now c.args.kind c.in-Cond.mutex c.in-Cond.is c.requires.call.reference))
+pub wait_on-requires-clause-mutex : goal.wait_on-requires-clause-mutex
+wait_on-requires-clause-mutex g c = mutex_of c.args.site.now.catalog.workload.now c.args.kind c.in-Cond.mutex c.in-Cond.is c.requires.call.reference
 
 pub object_at-requires-clause-kind : goal.object_at-requires-clause-kind
 object_at-requires-clause-kind g c = c.objects_are_of_their_kinds.ensures.kind c.args.worker.now.at.home.now c.args.site.now.catalog.workload.now c.args.site.now.objects.now c.args.place c.args.kind c.requires.site.site.declared c.requires.call.there
@@ -52,30 +47,11 @@ returns-in-Range-clause-works g c = IfSome_then c.range_at.result c.range_at.ens
 pub returns-in-Range-clause-rooms : goal.returns-in-Range-clause-rooms
 returns-in-Range-clause-rooms g c = c.take_room.ensures.rooms _ c.requires.rooms
 
-pub first_part_of-requires-clause-room : goal.first_part_of-requires-clause-room
-first_part_of-requires-clause-room g c = omega (arith, c.requires.site.site.declared.count)
-
-pub first_part_of-requires-clause-place : goal.first_part_of-requires-clause-place
-first_part_of-requires-clause-place g c = subst (λ (k : ObjectKind). IsAt c.args.site.now.catalog.workload.now c.args.place k) (of_pool c.args.site.now.catalog.workload.now c.args.kind c.args.operation.now c.in-Pool.call c.requires.call.has c.in-Pool.is) c.requires.call.there
-
-pub call_pool-requires-clause-parts : goal.call_pool-requires-clause-parts
-call_pool-requires-clause-parts g c =
-    let plan = c.args.site.now.catalog.workload.now in
-    let objects = c.args.site.now.objects.now in
-    let is = subst (λ (k : ObjectKind). IsAt plan c.args.place k) (of_pool c.args.site.now.catalog.workload.now c.args.kind c.args.operation.now c.in-Pool.call c.requires.call.has c.in-Pool.is) c.requires.call.there in
-    subst (λ (first : ℕ). ArePartsAt objects first c.args.worker.now.workers) (sym c.first_part_of.ensures)
-    (λ part below. (c.objects_are_of_their_kinds.ensures.parts c.args.worker.now.at.home.now plan objects c.args.place part c.requires.site.site.declared is (omega (arith, below, c.requires.site.counted))).1)
-
-pub call_pool-requires-clause-room : goal.call_pool-requires-clause-room
-call_pool-requires-clause-room g c =
-    let plan = c.args.site.now.catalog.workload.now in
-    let objects = c.args.site.now.objects.now in
-    let is = subst (λ (k : ObjectKind). IsAt plan c.args.place k) (of_pool c.args.site.now.catalog.workload.now c.args.kind c.args.operation.now c.in-Pool.call c.requires.call.has c.in-Pool.is) c.requires.call.there in
-    let last = (c.objects_are_of_their_kinds.ensures.parts c.args.worker.now.at.home.now plan objects c.args.place (plan.workers - 1) c.requires.site.site.declared is (omega (arith, c.requires.own, c.requires.site.counted))).0 in
-    omega (arith, last, c.first_part_of.ensures, c.requires.own, c.requires.site.counted)
+pub pool_at-requires-clause-place : goal.pool_at-requires-clause-place
+pool_at-requires-clause-place g c = subst (λ (k : ObjectKind). IsAt c.args.site.now.catalog.workload.now c.args.place k) (of_pool c.args.site.now.catalog.workload.now c.args.kind c.args.operation.now c.in-Pool.call c.requires.call.has c.in-Pool.is) c.requires.call.there
 
 pub returns-in-Pool-clause-works : goal.returns-in-Pool-clause-works
-returns-in-Pool-clause-works g c = on_pool c.args.site.now.catalog.workload.now c.args.worker.now.number _ c.args.place _ _ _ c.args.kind c.args.operation.now c.requires.call.has c.in-Pool.call c.args.worker.now.workers c.first_part_of.result c.requires.site.counted c.first_part_of.ensures c.in-Pool.is c.call_pool.ensures.works
+returns-in-Pool-clause-works g c = on_pool c.args.site.now.catalog.workload.now c.args.worker.now.number _ c.args.place _ _ _ c.args.kind c.args.operation.now c.requires.call.has c.in-Pool.call c.args.worker.now.workers _ c.requires.site.counted refl c.in-Pool.is c.pool_at.ensures.works
 
 pub composed_at-requires-clause-call : goal.composed_at-requires-clause-call
 composed_at-requires-clause-call g c = subst (λ (o : Operation). HasCallAt c.args.site.now.catalog.workload.now c.args.place c.args.kind o) c.in-Composed.is c.requires.call

@@ -56,7 +56,7 @@ returns-in-Some-clause-between g c =
     let number = c.args.worker.now.number in
     let went = c.go_through-went in
     let first = c.args.caller.now.note in
-    by_note mark.at mark.own mark.front home plan objects workers number went.new.caller _ c.halt_all.new.passes c.halt_all.ensures.seats c.halt_all.ensures.note first went.new.passes (since mark.at mark.own mark.front home plan objects workers number first c.opens-opened.new.note c.opens-opened.ensures.note.kept went.new.passes went.new.caller went.ensures.between)
+    by_note mark.at mark.own mark.front home plan objects workers number went.new.caller _ c.halt_run.new.passes c.halt_run.ensures.seats c.halt_run.ensures.note first went.new.passes (since mark.at mark.own mark.front home plan objects workers number first c.opens-opened.new.note c.opens-opened.ensures.note.kept went.new.passes went.new.caller went.ensures.between)
 
 pub returns-in-None-clause-line : goal.returns-in-None-clause-line
 returns-in-None-clause-line g c =
@@ -82,5 +82,5 @@ returns-in-Some-clause-line g c =
     let now = desk_with mark.own mark.front (owns_of c.go_through-went.new.passes) c.go_through-went.new.caller.note in
     let replies = c.go_through-went.new.replies.items in
     let opens = told_to_come plan number start old c.opens-opened.result (sym c.has_come.ensures ∙ c.if-not-has_come.false) c.opens-opened.ensures.works in
-    let last = desk_with mark.own mark.front (owns_of c.halt_all.new.passes) c.halt_all.new.note in
-    inl (line_told plan number script replies c.moves.ensures.joined start old now opens c.in-Some.misuse last c.go_through-went.result (sym c.misuse_in.ensures ∙ c.in-Some.is) c.go_through-went.ensures.went c.halt_all.ensures.halted)
+    let last = desk_with mark.own mark.front (owns_of c.halt_run.new.passes) c.halt_run.new.note in
+    inl (line_told plan number script replies c.moves.ensures.joined start old now opens c.in-Some.misuse last c.go_through-went.result (sym c.misuse_in.ensures ∙ c.in-Some.is) c.go_through-went.ensures.went c.halt_run.ensures.halted)

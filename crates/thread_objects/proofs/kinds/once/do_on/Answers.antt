@@ -1,6 +1,5 @@
-use Rattle.std.proofs.Common.{◌≡◌, ℕ, ℤ, Option, None, Ok, inr, subst, sym, ap, ◌∙◌, to_z, of_z, rules}
+use Rattle.std.proofs.Common.{◌≡◌, ℕ, ℤ, Option, Ok, inr, subst, sym, ap, ◌∙◌, to_z, of_z, rules}
 use Rattle.std.specs.Int.{w64}
-use Rattle.std.specs.Prelude.{IfNone}
 use Rattle.sync_model.specs.declared.answer.Answer.TheVariants.{Done}
 use Rattle.sync_model.specs.Note.{Holding}
 use Rattle.sync_model.specs.Shared.{items_of}
@@ -20,11 +19,9 @@ use Rattle.thread_objects.specs.OnceKind.{ran}
 use Rattle.thread_objects.specs.Own.{own_as}
 use Rattle.thread_objects.proofs.OnceParts.{stopped, had}
 use Rattle.thread_objects.proofs.OnceParts as once
+use Rattle.thread_objects.proofs.NoValue.{none_of}
 use Rattle.thread_objects.proofs.Working.{answers_as, part_as}
 use Rattle.thread_objects.proofs.kinds.once.do_on.Goals as goal
-
-none_of : {X : Type 0} (o : Option X) {P : Type 0} → o ≡ None → IfNone o P → P
-none_of {X} o {P} is holds = subst (λ (r : Option X). IfNone r P) is holds
 
 abbrev found : ℤ → Reply ℕ
 found kept = replies.Once do_replies.Done
