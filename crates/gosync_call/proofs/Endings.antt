@@ -9,7 +9,7 @@ use Rattle.script_calls.specs.declared.outcome.Outcome.TheVariants as outcomes
 use Rattle.script_calls.specs.declared.outcome.Report.{Report}
 use Rattle.sync_types.specs.Misuse.{text_of}
 use Rattle.sync_types.specs.declared.misuse.Misuse.{Misuse}
-use Rattle.sync_types.specs.declared.misuse.Misuse.TheVariants.{UnlockOfUnlockedMutex, RUnlockOfUnlockedRwMutex, UnlockOfUnlockedRwMutex, NegativeWaitGroupCounter, WaitGroupReused}
+use Rattle.sync_types.specs.declared.misuse.Misuse.TheVariants.{UnlockOfUnlockedMutex, RUnlockOfUnlockedRwMutex, UnlockOfUnlockedRwMutex, NegativeWaitGroupCounter, WaitGroupReused, SemaphoreOverReleased}
 use Rattle.workload.specs.Plan.{Plan}
 use Rattle.run_report.specs.Told.{ReportTellsWhatIsLeft}
 use Rattle.gosync_call.specs.Messages.{ending_line, ending_of}
@@ -35,26 +35,37 @@ misuse_apart UnlockOfUnlockedMutex RUnlockOfUnlockedRwMutex e = absurd (by_lengt
 misuse_apart UnlockOfUnlockedMutex UnlockOfUnlockedRwMutex e = absurd (by_length (text_of UnlockOfUnlockedMutex) (text_of UnlockOfUnlockedRwMutex) refl e)
 misuse_apart UnlockOfUnlockedMutex NegativeWaitGroupCounter e = absurd (by_length (text_of UnlockOfUnlockedMutex) (text_of NegativeWaitGroupCounter) refl e)
 misuse_apart UnlockOfUnlockedMutex WaitGroupReused e = absurd (by_length (text_of UnlockOfUnlockedMutex) (text_of WaitGroupReused) refl e)
+misuse_apart UnlockOfUnlockedMutex SemaphoreOverReleased e = absurd (by_length (text_of UnlockOfUnlockedMutex) (text_of SemaphoreOverReleased) refl e)
 misuse_apart RUnlockOfUnlockedRwMutex UnlockOfUnlockedMutex e = absurd (by_length (text_of RUnlockOfUnlockedRwMutex) (text_of UnlockOfUnlockedMutex) refl e)
 misuse_apart RUnlockOfUnlockedRwMutex RUnlockOfUnlockedRwMutex e = refl
 misuse_apart RUnlockOfUnlockedRwMutex UnlockOfUnlockedRwMutex e = absurd (by_length (text_of RUnlockOfUnlockedRwMutex) (text_of UnlockOfUnlockedRwMutex) refl e)
 misuse_apart RUnlockOfUnlockedRwMutex NegativeWaitGroupCounter e = absurd (by_length (text_of RUnlockOfUnlockedRwMutex) (text_of NegativeWaitGroupCounter) refl e)
 misuse_apart RUnlockOfUnlockedRwMutex WaitGroupReused e = absurd (by_length (text_of RUnlockOfUnlockedRwMutex) (text_of WaitGroupReused) refl e)
+misuse_apart RUnlockOfUnlockedRwMutex SemaphoreOverReleased e = absurd (by_length (text_of RUnlockOfUnlockedRwMutex) (text_of SemaphoreOverReleased) refl e)
 misuse_apart UnlockOfUnlockedRwMutex UnlockOfUnlockedMutex e = absurd (by_length (text_of UnlockOfUnlockedRwMutex) (text_of UnlockOfUnlockedMutex) refl e)
 misuse_apart UnlockOfUnlockedRwMutex RUnlockOfUnlockedRwMutex e = absurd (by_length (text_of UnlockOfUnlockedRwMutex) (text_of RUnlockOfUnlockedRwMutex) refl e)
 misuse_apart UnlockOfUnlockedRwMutex UnlockOfUnlockedRwMutex e = refl
 misuse_apart UnlockOfUnlockedRwMutex NegativeWaitGroupCounter e = absurd (by_length (text_of UnlockOfUnlockedRwMutex) (text_of NegativeWaitGroupCounter) refl e)
 misuse_apart UnlockOfUnlockedRwMutex WaitGroupReused e = absurd (by_length (text_of UnlockOfUnlockedRwMutex) (text_of WaitGroupReused) refl e)
+misuse_apart UnlockOfUnlockedRwMutex SemaphoreOverReleased e = absurd (by_length (text_of UnlockOfUnlockedRwMutex) (text_of SemaphoreOverReleased) refl e)
 misuse_apart NegativeWaitGroupCounter UnlockOfUnlockedMutex e = absurd (by_length (text_of NegativeWaitGroupCounter) (text_of UnlockOfUnlockedMutex) refl e)
 misuse_apart NegativeWaitGroupCounter RUnlockOfUnlockedRwMutex e = absurd (by_length (text_of NegativeWaitGroupCounter) (text_of RUnlockOfUnlockedRwMutex) refl e)
 misuse_apart NegativeWaitGroupCounter UnlockOfUnlockedRwMutex e = absurd (by_length (text_of NegativeWaitGroupCounter) (text_of UnlockOfUnlockedRwMutex) refl e)
 misuse_apart NegativeWaitGroupCounter NegativeWaitGroupCounter e = refl
 misuse_apart NegativeWaitGroupCounter WaitGroupReused e = absurd (by_length (text_of NegativeWaitGroupCounter) (text_of WaitGroupReused) refl e)
+misuse_apart NegativeWaitGroupCounter SemaphoreOverReleased e = absurd (by_length (text_of NegativeWaitGroupCounter) (text_of SemaphoreOverReleased) refl e)
 misuse_apart WaitGroupReused UnlockOfUnlockedMutex e = absurd (by_length (text_of WaitGroupReused) (text_of UnlockOfUnlockedMutex) refl e)
 misuse_apart WaitGroupReused RUnlockOfUnlockedRwMutex e = absurd (by_length (text_of WaitGroupReused) (text_of RUnlockOfUnlockedRwMutex) refl e)
 misuse_apart WaitGroupReused UnlockOfUnlockedRwMutex e = absurd (by_length (text_of WaitGroupReused) (text_of UnlockOfUnlockedRwMutex) refl e)
 misuse_apart WaitGroupReused NegativeWaitGroupCounter e = absurd (by_length (text_of WaitGroupReused) (text_of NegativeWaitGroupCounter) refl e)
 misuse_apart WaitGroupReused WaitGroupReused e = refl
+misuse_apart WaitGroupReused SemaphoreOverReleased e = absurd (by_length (text_of WaitGroupReused) (text_of SemaphoreOverReleased) refl e)
+misuse_apart SemaphoreOverReleased UnlockOfUnlockedMutex e = absurd (by_length (text_of SemaphoreOverReleased) (text_of UnlockOfUnlockedMutex) refl e)
+misuse_apart SemaphoreOverReleased RUnlockOfUnlockedRwMutex e = absurd (by_length (text_of SemaphoreOverReleased) (text_of RUnlockOfUnlockedRwMutex) refl e)
+misuse_apart SemaphoreOverReleased UnlockOfUnlockedRwMutex e = absurd (by_length (text_of SemaphoreOverReleased) (text_of UnlockOfUnlockedRwMutex) refl e)
+misuse_apart SemaphoreOverReleased NegativeWaitGroupCounter e = absurd (by_length (text_of SemaphoreOverReleased) (text_of NegativeWaitGroupCounter) refl e)
+misuse_apart SemaphoreOverReleased WaitGroupReused e = absurd (by_length (text_of SemaphoreOverReleased) (text_of WaitGroupReused) refl e)
+misuse_apart SemaphoreOverReleased SemaphoreOverReleased e = refl
 
 no_deadlock : (misuse : Misuse) → ending_line (endings.Misused misuse) ≡ ending_line endings.Deadlocked → ⊥
 no_deadlock UnlockOfUnlockedMutex e = by_length (ending_line (endings.Misused UnlockOfUnlockedMutex)) (ending_line endings.Deadlocked) refl e
@@ -62,6 +73,7 @@ no_deadlock RUnlockOfUnlockedRwMutex e = by_length (ending_line (endings.Misused
 no_deadlock UnlockOfUnlockedRwMutex e = by_length (ending_line (endings.Misused UnlockOfUnlockedRwMutex)) (ending_line endings.Deadlocked) refl e
 no_deadlock NegativeWaitGroupCounter e = by_length (ending_line (endings.Misused NegativeWaitGroupCounter)) (ending_line endings.Deadlocked) refl e
 no_deadlock WaitGroupReused e = by_length (ending_line (endings.Misused WaitGroupReused)) (ending_line endings.Deadlocked) refl e
+no_deadlock SemaphoreOverReleased e = by_length (ending_line (endings.Misused SemaphoreOverReleased)) (ending_line endings.Deadlocked) refl e
 
 -- and the three endings are told apart
 outcome_apart : (one other : Outcome) → left_by one ≡ left_by other → ending_line (ending_of one) ≡ ending_line (ending_of other) → one ≡ other

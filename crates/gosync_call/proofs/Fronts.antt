@@ -3,8 +3,9 @@ use Rattle.std.proofs.Common.{◌≡◌, ◌⊎◌, inl, inr, ℕ, List, Option,
 use Rattle.std.specs.Prelude.{◌≢◌, option_and_then}
 use Rattle.script_calls.specs.declared.outcome.Outcome.{Outcome}
 use Rattle.workload.specs.Plan.{Plan}
-use Rattle.workload.specs.Reads.{Reads, ReadsIn}
+use Rattle.workload.specs.Reads.{ReadsIn}
 use Rattle.workload.specs.declared.keyword.Dialect.{Dialect}
+use Rattle.workload.specs.declared.keyword.Dialect.TheVariants.{Runs}
 use Rattle.command_line.specs.Command.{matched}
 use Rattle.command_line.specs.Seed.{seed_of}
 use Rattle.command_line.specs.declared.definition.Subcommand.{Subcommand}
@@ -37,10 +38,10 @@ pub left_of_ended : (Whole : Type 0) (front : Front) (status : Status) → front
 left_of_ended Whole front status is whole left = whole (subst (λ (f : Front). IsLeftOfAllBytes f) is left)
 
 -- a workload that is left to be run was read
-pub run_is_read : (told : Option (List ℕ)) (bytes : List ℕ) (plan : Plan) → IsFrontOfRun told (fronts.Run plan) → told ≡ Some bytes → ((p : Plan) → Reads bytes p → ⊥) → ⊥
+pub run_is_read : (told : Option (List ℕ)) (bytes : List ℕ) (plan : Plan) → IsFrontOfRun told (fronts.Run plan) → told ≡ Some bytes → ((p : Plan) → ReadsIn Runs bytes p → ⊥) → ⊥
 run_is_read told bytes plan front is none =
     let read = is_read told plan front in
-    none plan (subst (λ (b : List ℕ). Reads b plan) (told_so bytes read.0 told is read.1) read.2)
+    none plan (subst (λ (b : List ℕ). ReadsIn Runs b plan) (told_so bytes read.0 told is read.1) read.2)
 
 same_status : (x y : Status) → fronts.Ended x ≡ fronts.Ended y → x ≡ y
 same_status x y is = cc

@@ -9,7 +9,7 @@ use Rattle.workload.specs.declared.reason.Reason.{Reason}
 use Rattle.workload.specs.Plan.{Plan, is_valid}
 use Rattle.workload.specs.Reads.{ReadsIn, IsRefusedIn}
 use Rattle.workload.specs.declared.keyword.Dialect.{Dialect}
-use Rattle.workload.specs.declared.keyword.Dialect.TheVariants.{Plain, Races}
+use Rattle.workload.specs.declared.keyword.Dialect.TheVariants.{Plain, Runs, Races}
 use Rattle.gosync_call.specs.declared.status.Unread.TheVariants.{NotAccepted}
 use Rattle.gosync_call.specs.Input.{IsInput, IsInputTo}
 use Rattle.gosync_call.specs.ComesTo.{IsReadIn, IsUnreadIn}
@@ -65,9 +65,10 @@ module _ (limit : ℕ) where
 abbrev pub ReadOrRefused : Dialect → Type 0
 ReadOrRefused dialect = (bytes : List ℕ) (plan : Plan) (line : ℕ) (reason : Reason) → ReadsIn dialect bytes plan → IsRefusedIn dialect bytes line reason → ⊥
 
-pub read_or_refused : (dialect : Dialect) → ReadOrRefused Plain → ReadOrRefused Races → ReadOrRefused dialect
-read_or_refused Plain plain races = plain
-read_or_refused Races plain races = races
+pub read_or_refused : (dialect : Dialect) → ReadOrRefused Plain → ReadOrRefused Runs → ReadOrRefused Races → ReadOrRefused dialect
+read_or_refused Plain plain runs races = plain
+read_or_refused Runs plain runs races = runs
+read_or_refused Races plain runs races = races
 
 module _ (dialect : Dialect) where
   pub whole_read : (told : Option (List ℕ)) (bytes : List ℕ) (plan : Plan) → IsInput told bytes → ReadsIn dialect bytes plan → is_valid plan ≡ true → IsReadIn dialect told plan

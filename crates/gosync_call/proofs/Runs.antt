@@ -8,7 +8,7 @@ use Rattle.script_calls.specs.declared.outcome.Report.{Report}
 use Rattle.workload.specs.Plan.{Plan}
 use Rattle.workload.specs.Reads.{ReadsIn}
 use Rattle.workload.specs.declared.keyword.Dialect.{Dialect}
-use Rattle.workload.specs.declared.keyword.Dialect.TheVariants.{Plain, Races}
+use Rattle.workload.specs.declared.keyword.Dialect.TheVariants.{Plain, Runs, Races}
 use Rattle.run_record.specs.Explains.{Explains}
 use Rattle.run_record.specs.InOneOrder.{InOneOrder}
 use Rattle.run_record.specs.Record.{Record}
@@ -177,12 +177,12 @@ record_of_run plan old new status (inl (inr memory)) = inr memory
 record_of_run plan old new status (inr long) = inl (outcomes.Done long.1.0.0, long.1.0.1.done, inr (refl, long.0))
 
 module _ (old new : Option (List ℕ)) (bytes : List ℕ) (plan : Plan) (told : Option (List ℕ)) (Read Write Start : Type 0) where
-  pub completes_report : (Comes : Plan → Outcome → Type 0) → OneReading Plain → (status : Status) → ComesTo Comes told old new status → told ≡ Some bytes → ReadsIn Plain bytes plan
+  pub completes_report : (Comes : Plan → Outcome → Type 0) → OneReading Runs → (status : Status) → ComesTo Comes told old new status → told ≡ Some bytes → ReadsIn Runs bytes plan
       → (status ≡ statuses.Unread unreads.CannotRead → Read) → (status ≡ statuses.Failed faults.CannotWrite → Write) → (status ≡ statuses.Failed faults.CannotStart → Start)
       → (Read → ⊥) → (Write → ⊥) → (Start → ⊥) → ((outcome : Outcome) × Comes plan outcome × (status ≡ statuses.Ended (ending_of outcome))) ⊎ IsOutOfMemory status
   completes_report Comes one status comes is reads read write start no_read no_write no_start =
       outcome_of_run Comes plan old new status
-      (whole _ _ status (completes Plain (λ p ending. EndsWithReport Comes p old new ending) (λ p fault. Fails Comes p old new fault) told old new bytes plan Read Write Start one status comes is reads read write start no_read no_write no_start) (λ long. absurd long))
+      (whole _ _ status (completes Runs (λ p ending. EndsWithReport Comes p old new ending) (λ p fault. Fails Comes p old new fault) told old new bytes plan Read Write Start one status comes is reads read write start no_read no_write no_start) (λ long. absurd long))
 
   pub completes_races : OneReading Races → (status : Status) → RacesTo told old new status → told ≡ Some bytes → ReadsIn Races bytes plan
       → (status ≡ statuses.Unread unreads.CannotRead → Read) → (status ≡ statuses.Failed faults.CannotWrite → Write) → (status ≡ statuses.Failed faults.CannotStart → Start)

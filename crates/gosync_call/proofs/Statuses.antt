@@ -5,7 +5,7 @@ use Rattle.sync_outside.specs.Faults.{RoseBy}
 use Rattle.script_calls.specs.declared.outcome.Outcome.{Outcome}
 use Rattle.workload.specs.Plan.{Plan}
 use Rattle.workload.specs.declared.keyword.Dialect.{Dialect}
-use Rattle.workload.specs.declared.keyword.Dialect.TheVariants.{Plain}
+use Rattle.workload.specs.declared.keyword.Dialect.TheVariants.{Runs}
 use Rattle.workload.specs.declared.limits.TheConstants.{MAX_INPUT}
 use Rattle.made_workload.specs.Summary.{summary, summary_text}
 use Rattle.gosync_call.specs.ComesTo.{ComesBy, ComesTo, EndsWithReport, Fails}
@@ -57,7 +57,7 @@ module _ (dialect : Dialect) (Ends : Plan → Ending → Type 0) (Stops : Plan �
 -- what is told of a report
 pub unwritten_report : (Comes : Plan → Outcome → Type 0) (told old new : Option (List ℕ)) (status : Status) → ComesTo Comes told old new status → IsUnstarted status → new ≡ old
 unwritten_report Comes told old new status comes unstarted =
-    unwritten Plain (λ plan ending. EndsWithReport Comes plan old new ending) (λ plan fault. Fails Comes plan old new fault) told old new (λ plan same. same) (λ plan same. same) (λ plan never. absurd never) status comes unstarted
+    unwritten Runs (λ plan ending. EndsWithReport Comes plan old new ending) (λ plan fault. Fails Comes plan old new fault) told old new (λ plan same. same) (λ plan same. same) (λ plan never. absurd never) status comes unstarted
 
 module _ (seed ran ran_now : ℕ) (old new : Option (List ℕ)) where
   pub unmade : (status : Status) → MakesTo seed ran ran_now old new status → IsUnstarted status → new ≡ old

@@ -6,7 +6,7 @@ use Rattle.script_calls.specs.declared.outcome.Outcome.{Outcome}
 use Rattle.workload.specs.Plan.{Plan, is_valid}
 use Rattle.workload.specs.Reads.{ReadsIn, IsRefusedIn}
 use Rattle.workload.specs.declared.keyword.Dialect.{Dialect}
-use Rattle.workload.specs.declared.keyword.Dialect.TheVariants.{Plain}
+use Rattle.workload.specs.declared.keyword.Dialect.TheVariants.{Runs}
 use Rattle.gosync_call.specs.declared.status.Status.{Status}
 use Rattle.gosync_call.specs.declared.status.Status.TheVariants as statuses
 use Rattle.gosync_call.specs.declared.status.Ending.{Ending}
@@ -22,9 +22,9 @@ use Rattle.run_report.specs.ReportText.{report_text}
 abbrev pub IsReadIn : Dialect → Option (List ℕ) → Plan → Type 0
 IsReadIn dialect told plan = (bytes : List ℕ) × AreBytesOf told bytes × ReadsIn dialect bytes plan × (is_valid plan ≡ true)
 
--- as a plain text
+-- as a text that is run, and of whose run a report is told
 abbrev pub IsReadFromFile : Option (List ℕ) → Plan → Type 0
-IsReadFromFile told plan = IsReadIn Plain told plan
+IsReadFromFile told plan = IsReadIn Runs told plan
 
 -- why no workload is read in this dialect from a file: its text is refused, it can't be read, or memory is out
 abbrev pub IsUnreadIn : Dialect → Option (List ℕ) → Unread → Type 0
@@ -33,9 +33,9 @@ IsUnreadIn dialect told (unreads.NoRecord line reason) = ⊥
 IsUnreadIn dialect told unreads.CannotRead = Unit {0}
 IsUnreadIn dialect told unreads.Memory = Unit {0}
 
--- as a plain text
+-- as such a text
 abbrev pub IsUnread : Option (List ℕ) → Unread → Type 0
-IsUnread told why = IsUnreadIn Plain told why
+IsUnread told why = IsUnreadIn Runs told why
 
 -- the workload's run came to an outcome that ends so, and its report was written
 abbrev pub EndsWithReport : (Plan → Outcome → Type 0) → Plan → Option (List ℕ) → Option (List ℕ) → Ending → Type 0
@@ -57,6 +57,6 @@ ComesBy dialect Ends Stops told old new (statuses.Unread why) = IsUnreadIn diale
 ComesBy dialect Ends Stops told old new (statuses.Failed fault) = (plan : Plan) × IsReadIn dialect told plan × Stops plan fault
 ComesBy dialect Ends Stops told old new statuses.Usage = ⊥
 
--- what those of a plain text come to, of whose run a report is written
+-- what those of such a text come to
 abbrev pub ComesTo : (Plan → Outcome → Type 0) → Option (List ℕ) → Option (List ℕ) → Option (List ℕ) → Status → Type 0
-ComesTo Comes told old new status = ComesBy Plain (λ plan ending. EndsWithReport Comes plan old new ending) (λ plan fault. Fails Comes plan old new fault) told old new status
+ComesTo Comes told old new status = ComesBy Runs (λ plan ending. EndsWithReport Comes plan old new ending) (λ plan fault. Fails Comes plan old new fault) told old new status

@@ -2,7 +2,7 @@
 use Rattle.std.specs.Prelude.{ℕ, List, Option}
 use Rattle.workload.specs.Plan.{Plan}
 use Rattle.workload.specs.declared.keyword.Dialect.{Dialect}
-use Rattle.workload.specs.declared.keyword.Dialect.TheVariants.{Plain, Races}
+use Rattle.workload.specs.declared.keyword.Dialect.TheVariants.{Plain, Runs, Races}
 use Rattle.step_runner.specs.Outcomes.{StepsTo}
 use Rattle.gosync_call.specs.ComesTo.{ComesBy, EndsWithReport, Fails}
 use Rattle.gosync_call.specs.Headline.{RunsTo}
@@ -14,10 +14,10 @@ use Rattle.gosync_call.specs.declared.status.Status.{Status}
 use Rattle.gosync_call.specs.declared.words.Mode.{Mode}
 use Rattle.gosync_call.specs.declared.words.Mode.TheVariants as modes
 
--- which words its text may have: those of plain variables only where races are asked for
+-- which words its text may have: those of plain variables only where races are asked for, those of semaphores and flights only where a report is all that is told
 abbrev pub dialect_of : Mode → Dialect
-dialect_of modes.Step = Plain
-dialect_of modes.Run = Plain
+dialect_of modes.Step = Runs
+dialect_of modes.Run = Runs
 dialect_of modes.Race = Races
 dialect_of modes.Trace = Plain
 

@@ -3,7 +3,7 @@ use Rattle.std.specs.Prelude.{◌≡◌, ℕ, true, false, List, Option}
 use Rattle.sync_outside.specs.Bytes.{Appends, AppendsFront}
 use Rattle.script_calls.specs.declared.outcome.Outcome.TheVariants as outcomes
 use Rattle.script_calls.specs.declared.outcome.Report.{Report}
-use Rattle.workload.specs.Dialect.{has_variables}
+use Rattle.workload.specs.Dialect.{has_unrecorded}
 use Rattle.workload.specs.Plan.{Plan}
 use Rattle.workload.specs.Readable.{IsReadable}
 use Rattle.workload.specs.declared.keyword.Dialect.TheVariants.{Plain}
@@ -18,7 +18,7 @@ use Rattle.gosync_call.specs.declared.status.Status.{Status}
 
 -- the workload has a plain text, and its run by schedule is done, with a record within the limits
 abbrev pub IsTraced : Plan → Report → Type 0
-IsTraced plan left = IsReadable plan × (has_variables plan ≡ false) × IsDoneWithin plan true left
+IsTraced plan left = IsReadable plan × (has_unrecorded plan ≡ false) × IsDoneWithin plan true left
 
 -- the run is done, and the text of its record was written; or it ended otherwise, and nothing was
 abbrev pub EndsWithRecord : Plan → Option (List ℕ) → Option (List ℕ) → Ending → Type 0

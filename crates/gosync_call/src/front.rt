@@ -89,7 +89,7 @@ pub fn front<S: Sources, O: Sink, E: Sink>(
 {
     match asked(alloc, words) {
         Ok(Request::File(Mode::Run, file)) => {
-            match read_workload(alloc, Dialect::Plain, file, src) {
+            match read_workload(alloc, Dialect::Runs, file, src) {
                 Ok(workload) => Front::Run(workload),
                 Err(why) => ended(err, file, Status::Unread(why)),
             }

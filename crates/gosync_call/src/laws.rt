@@ -10,7 +10,8 @@ ghost use Rattle.std.specs.Prelude.{◌≡◌, ◌⊎◌, ◌<◌, ◌≤◌, �
 ghost use Rattle.sync_outside.specs.Bytes.{Appends, AppendsFront};
 ghost use Rattle.sync_outside.specs.Faults.{Rose, RoseBy};
 ghost use Rattle.workload.specs.Plan.{Plan};
-ghost use Rattle.workload.specs.Reads.{Reads};
+ghost use Rattle.workload.specs.Reads.{ReadsIn};
+ghost use Rattle.workload.specs.declared.keyword.Dialect.TheVariants.{Runs};
 ghost use Rattle.step_runner.specs.Computed.{turns};
 ghost use Rattle.step_runner.specs.Outcomes.{StepsTo};
 ghost use Rattle.gosync_call.specs.Messages.{ending_of};
@@ -38,7 +39,7 @@ use run_record::laws::endings::{
 use run_record::laws::runs::replies_tell_which_calls_were_made;
 use run_record::laws::starts::nobody_who_was_not_started_makes_a_call;
 use step_runner::laws::each_run_has_one_outcome;
-use workload::laws::one_reading;
+use workload::laws::run_texts_are_read_or_refused;
 
 /// What a file comes to by schedule is computed: the end, the report, and what a failed write leaves of it, are those of
 /// `turns`. Where the bytes are told, this is so of the workload that they are read as.
@@ -47,11 +48,11 @@ pub fn a_run_by_schedule_is_computed()
         → (plan : Plan) × IsReadFromFile told plan × (ending ≡ ending_of (turns plan)) × Appends old new (report_text plan (turns plan)) }
     ensures failed { (told old new : Option (List ℕ)) → ComesTo StepsTo told old new (statuses.Failed faults.CannotWrite)
         → (plan : Plan) × IsReadFromFile told plan × AppendsFront old new (report_text plan (turns plan)) }
-    ensures told { (bytes : List ℕ) (plan : Plan) (old new : Option (List ℕ)) (ending : Ending) → Reads bytes plan → ComesTo StepsTo (Some bytes) old new (statuses.Ended ending)
+    ensures told { (bytes : List ℕ) (plan : Plan) (old new : Option (List ℕ)) (ending : Ending) → ReadsIn Runs bytes plan → ComesTo StepsTo (Some bytes) old new (statuses.Ended ending)
         → (ending ≡ ending_of (turns plan)) × Appends old new (report_text plan (turns plan)) }
 {
     each_run_has_one_outcome();
-    one_reading();
+    run_texts_are_read_or_refused();
 }
 
 /// What the headline says in short, where all is written. In a run with threads that ends done every worker that was live has ended:
@@ -64,17 +65,17 @@ pub fn a_run_with_threads_is_explained()
     ensures misused { (told old new : Option (List ℕ)) (misuse : Misuse) → Headline told old new (statuses.Ended (endings.Misused misuse))
         → (plan : Plan) × (left : Report) × (r : Record) × IsReadFromFile told plan × HasMet plan (outcomes.Misused left misuse) r misuse × InOneOrder r × Appends old new (report_text plan (outcomes.Misused left misuse)) }
     ensures never_deadlocked { (told old new : Option (List ℕ)) → Headline told old new (statuses.Ended endings.Deadlocked) → ⊥ }
-    ensures told { (bytes : List ℕ) (plan : Plan) (old new : Option (List ℕ)) (ending : Ending) → Reads bytes plan → Headline (Some bytes) old new (statuses.Ended ending)
+    ensures told { (bytes : List ℕ) (plan : Plan) (old new : Option (List ℕ)) (ending : Ending) → ReadsIn Runs bytes plan → Headline (Some bytes) old new (statuses.Ended ending)
         → EndsWithReport RunsTo plan old new ending }
     ensures replies { (plan : Plan) (outcome : Outcome) → RunsTo plan outcome → AreReplies plan.scripts (left_by outcome).replies }
-    ensures failed { (bytes : List ℕ) (plan : Plan) (old new : Option (List ℕ)) → Reads bytes plan → Headline (Some bytes) old new (statuses.Failed faults.CannotWrite)
+    ensures failed { (bytes : List ℕ) (plan : Plan) (old new : Option (List ℕ)) → ReadsIn Runs bytes plan → Headline (Some bytes) old new (statuses.Failed faults.CannotWrite)
         → (outcome : Outcome) × (r : Record) × Explains plan outcome r × InOneOrder r × AppendsFront old new (report_text plan outcome) }
 {
     a_run_is_done_unless_it_was_misused();
     a_run_that_is_done_answers_each_call();
     replies_tell_which_calls_were_made();
     nobody_who_was_not_started_makes_a_call();
-    one_reading();
+    run_texts_are_read_or_refused();
 }
 
 /// A count that rose, by one or by some number, isn't where it was before, nor short of that number more: else it stands at its last value.

@@ -1,7 +1,7 @@
 //! The run of a file on one thread.
 ghost use Rattle.std.specs.Prelude.{◌≡◌, ◌≢◌, ℕ, List, ◌+◌, ◌≤◌, false, Err, IfErr, MatchResult};
 ghost use Rattle.sync_outside.specs.Faults.{Rose};
-ghost use Rattle.workload.specs.Dialect.{has_variables};
+ghost use Rattle.workload.specs.Dialect.{has_unrecorded};
 ghost use Rattle.workload.specs.declared.limits.TheConstants.{MAX_INPUT};
 ghost use Rattle.gosync_call.specs.Front.{IsOfAllBytes};
 ghost use Rattle.gosync_call.specs.Input.{IsWhollyRead, ReadFailed};
@@ -29,7 +29,7 @@ fn run_in<O: Sink>(
     out: &mut O,
 ) -> Result<Ending, Fault>
     requires mode { mode ≢ modes.Run }
-    requires plain { mode ≡ modes.Trace → has_variables workload.now ≡ false }
+    requires plain { mode ≡ modes.Trace → has_unrecorded workload.now ≡ false }
     ensures ran { MatchResult result (EndsBy mode workload.now (O.contents out.old) (O.contents out.new)) (StopsBy mode workload.now (O.contents out.old) (O.contents out.new)) }
     ensures started { result ≡ Err faults.CannotStart → ⊥ }
     ensures cannot_write { IfErr result (λ fault. fault ≡ faults.CannotWrite → Rose (O.faults out.old) (O.faults out.new)) }

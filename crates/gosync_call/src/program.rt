@@ -22,7 +22,7 @@ ghost use Rattle.gosync_call.specs.Modes.{dialect_of};
 ghost use Rattle.gosync_call.specs.Races.{ending_with, HasRaces, RacesTo};
 ghost use Rattle.gosync_call.specs.Traces.{TracesTo};
 ghost use Rattle.race_clocks.specs.declared.race.Race.{Race};
-ghost use Rattle.workload.specs.declared.keyword.Dialect.TheVariants.{Races};
+ghost use Rattle.workload.specs.declared.keyword.Dialect.TheVariants.{Runs, Races};
 ghost use Rattle.gosync_call.specs.declared.status.Ending.TheVariants as endings;
 ghost use Rattle.gosync_call.specs.declared.status.Status.TheVariants as statuses;
 ghost use Rattle.gosync_call.specs.declared.status.Unread.TheVariants as unreads;
@@ -40,7 +40,7 @@ use std::alloc::Global;
 use std::sync::Wait;
 use std::thread::Threads;
 use sync_outside::{Clock, Gate, Sink, Sources, Spawner};
-use workload::laws::{one_reading, race_texts_are_read_or_refused};
+use workload::laws::{one_reading, race_texts_are_read_or_refused, run_texts_are_read_or_refused};
 
 /// The program `gosync`, on the words of its command line, of which the first is its own name.
 ///
@@ -112,10 +112,10 @@ pub fn gosync<
 
     // Without a fault, a text that is read is run, with the status of an outcome that its run comes to, and one that
     // isn't read is refused, unless memory is out.
-    ensures steps { (file bytes : List ℕ) (plan : Plan) → AskFor (map string_bytes words.now) modes.Step file → S.contents src.old file ≡ Some bytes → Reads bytes plan
+    ensures steps { (file bytes : List ℕ) (plan : Plan) → AskFor (map string_bytes words.now) modes.Step file → S.contents src.old file ≡ Some bytes → ReadsIn Runs bytes plan
         → NoReadFailed (S.open_faults src.old file) (S.open_faults src.new file) (S.read_faults src.old) (S.read_faults src.new) → NoWriteFailed (O.faults out.old) (O.faults out.new)
         → ((outcome : Outcome) × StepsTo plan outcome × (result ≡ statuses.Ended (ending_of outcome))) ⊎ IsOutOfMemory result }
-    ensures runs { (file bytes : List ℕ) (plan : Plan) → AskFor (map string_bytes words.now) modes.Run file → S.contents src.old file ≡ Some bytes → Reads bytes plan
+    ensures runs { (file bytes : List ℕ) (plan : Plan) → AskFor (map string_bytes words.now) modes.Run file → S.contents src.old file ≡ Some bytes → ReadsIn Runs bytes plan
         → NoReadFailed (S.open_faults src.old file) (S.open_faults src.new file) (S.read_faults src.old) (S.read_faults src.new) → NoWriteFailed (O.faults out.old) (O.faults out.new)
         → ¬ Rose (P.faults spawner.old) (P.faults spawner.new)
         → ((outcome : Outcome) × RunsTo plan outcome × (result ≡ statuses.Ended (ending_of outcome))) ⊎ IsOutOfMemory result }
@@ -149,6 +149,7 @@ pub fn gosync<
     ensures start_faults { P.faults spawner.old ≤ P.faults spawner.new }
 {
     one_reading();
+    run_texts_are_read_or_refused();
     race_texts_are_read_or_refused();
     a_text_comes_to_one_verdict();
     match front(alloc, words, src, out, err) {

@@ -1,7 +1,7 @@
 //! The run of a workload by its schedule whose record is told.
 ghost use Rattle.std.specs.Prelude.{◌≡◌, ◌≤◌, false, Err, IfErr, MatchResult};
 ghost use Rattle.sync_outside.specs.Faults.{Rose};
-ghost use Rattle.workload.specs.Dialect.{has_variables};
+ghost use Rattle.workload.specs.Dialect.{has_unrecorded};
 ghost use Rattle.gosync_call.specs.Traces.{EndsWithRecord, FailsWithRecord};
 ghost use Rattle.gosync_call.specs.declared.status.Fault.TheVariants as faults;
 
@@ -17,7 +17,7 @@ pub fn run_with_record<O: Sink>(
     workload: &Workload,
     out: &mut O,
 ) -> Result<Ending, Fault>
-    requires { has_variables workload.now ≡ false }
+    requires { has_unrecorded workload.now ≡ false }
     ensures ran { MatchResult result (EndsWithRecord workload.now (O.contents out.old) (O.contents out.new)) (FailsWithRecord workload.now (O.contents out.old) (O.contents out.new)) }
     ensures started { result ≡ Err faults.CannotStart → ⊥ }
     ensures cannot_write { IfErr result (λ fault. fault ≡ faults.CannotWrite → Rose (O.faults out.old) (O.faults out.new)) }

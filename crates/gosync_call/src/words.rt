@@ -27,8 +27,9 @@ impl Mode {
         ensures { result ≡ dialect_of self }
     {
         match self {
-            Mode::Step | Mode::Run | Mode::Trace => Dialect::Plain,
+            Mode::Step | Mode::Run => Dialect::Runs,
             Mode::Race => Dialect::Races,
+            Mode::Trace => Dialect::Plain,
         }
     }
 }

@@ -30,6 +30,7 @@ fn told_reply(alloc: Global, reply: &Reply<u32>) -> Result<String, AllocError> {
         Reply::Pool(PoolCallReply::Put(item)) => format!(in alloc; "Pool(Put({item}))"),
         Reply::Pool(PoolCallReply::Done) => String::from_str(alloc, "Pool(Done)"),
         Reply::Pool(PoolCallReply::New) => String::from_str(alloc, "Pool(New)"),
+        Reply::Flown(value, shared) => format!(in alloc; "Flown({value}, {shared})"),
         Reply::Var(VarReply::Held(value)) => format!(in alloc; "Var(Held({value}))"),
         Reply::Var(VarReply::Done) => String::from_str(alloc, "Var(Done)"),
     }

@@ -1,7 +1,7 @@
 //! That the record of a run by schedule explains the run, in the words of `trace` and `check`.
 ghost use Rattle.std.specs.Prelude.{◌≡◌, ℕ, true, false, List, [], Option, Some};
 ghost use Rattle.script_calls.specs.declared.outcome.Report.{Report};
-ghost use Rattle.workload.specs.Dialect.{has_variables};
+ghost use Rattle.workload.specs.Dialect.{has_unrecorded};
 ghost use Rattle.workload.specs.Plan.{Plan};
 ghost use Rattle.workload.specs.Readable.{IsReadable};
 ghost use Rattle.record_clauses.specs.declared.clause.Verdict.{Verdict};
@@ -22,9 +22,9 @@ use scheduled_record::told_laws::{each_item_of_a_run_has_its_line, what_is_told_
 /// `check` says yes to what `trace` writes of a workload whose run is done: that text is one of a record, it is never refused, and it is
 /// never told to fail at a clause.
 pub fn check_says_yes_to_what_trace_writes()
-    ensures yes { (plan : Plan) (left : Report) → IsReadable plan → has_variables plan ≡ false → IsDoneWithin plan true left → IsJudged (Some (done_text plan left)) verdicts.Yes }
-    ensures one { (plan : Plan) (left : Report) (verdict : Verdict) → IsReadable plan → has_variables plan ≡ false → IsDoneWithin plan true left → IsJudged (Some (done_text plan left)) verdict → verdict ≡ verdicts.Yes }
-    ensures accepted { (plan : Plan) (left : Report) (line : ℕ) (reason : CheckReason) → IsReadable plan → has_variables plan ≡ false → IsDoneWithin plan true left → IsNoRecord (Some (done_text plan left)) (unreads.NoRecord line reason) → ⊥ }
+    ensures yes { (plan : Plan) (left : Report) → IsReadable plan → has_unrecorded plan ≡ false → IsDoneWithin plan true left → IsJudged (Some (done_text plan left)) verdicts.Yes }
+    ensures one { (plan : Plan) (left : Report) (verdict : Verdict) → IsReadable plan → has_unrecorded plan ≡ false → IsDoneWithin plan true left → IsJudged (Some (done_text plan left)) verdict → verdict ≡ verdicts.Yes }
+    ensures accepted { (plan : Plan) (left : Report) (line : ℕ) (reason : CheckReason) → IsReadable plan → has_unrecorded plan ≡ false → IsDoneWithin plan true left → IsNoRecord (Some (done_text plan left)) (unreads.NoRecord line reason) → ⊥ }
     ensures traced { (told : Option (List ℕ)) (bytes : List ℕ) → TracesTo told (Some []) (Some bytes) (statuses.Ended endings.Done) → IsJudged (Some bytes) verdicts.Yes }
 {
     a_text_comes_to_one_verdict();

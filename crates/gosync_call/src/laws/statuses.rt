@@ -3,8 +3,8 @@ ghost use Rattle.std.specs.Prelude.{◌≡◌, ◌⊎◌, ◌+◌, ◌-◌, ◌^
 ghost use Rattle.sync_outside.specs.Bytes.{Appends};
 ghost use Rattle.sync_outside.specs.Faults.{RoseBy};
 ghost use Rattle.workload.specs.Plan.{Plan};
-ghost use Rattle.workload.specs.Reads.{IsRefused, IsRefusedIn, Reads};
-ghost use Rattle.workload.specs.declared.keyword.Dialect.TheVariants.{Races};
+ghost use Rattle.workload.specs.Reads.{IsRefusedIn, ReadsIn};
+ghost use Rattle.workload.specs.declared.keyword.Dialect.TheVariants.{Runs, Races};
 ghost use Rattle.workload.specs.declared.limits.TheConstants.{MAX_INPUT};
 ghost use Rattle.workload.specs.declared.reason.Reason.{Reason};
 ghost use Rattle.made_workload.specs.Summary.{summary, summary_text};
@@ -25,7 +25,7 @@ ghost use Rattle.gosync_call.specs.declared.status.Status.{Status};
 ghost use Rattle.gosync_call.specs.declared.status.Status.TheVariants as statuses;
 ghost use Rattle.gosync_call.specs.declared.status.Unread.TheVariants as unreads;
 
-use workload::laws::one_reading;
+use workload::laws::run_texts_are_read_or_refused;
 
 /// Workers make calls only where a run ended, or where its report couldn't be written. Of any other status it is said that it
 /// is `IsUnstarted`.
@@ -51,9 +51,9 @@ pub fn a_line_is_written_whole_without_a_fault()
 /// A text that is refused is told with the line and the reason of its first fault: a race text with that of the grammar of race texts.
 pub fn a_refusal_tells_the_first_fault()
     ensures with_threads { (bytes : List ℕ) (old new : Option (List ℕ)) (line : ℕ) (reason : Reason)
-        → Headline (Some bytes) old new (statuses.Unread (unreads.NotAccepted line reason)) → IsRefused bytes line reason }
+        → Headline (Some bytes) old new (statuses.Unread (unreads.NotAccepted line reason)) → IsRefusedIn Runs bytes line reason }
     ensures by_schedule { (bytes : List ℕ) (old new : Option (List ℕ)) (line : ℕ) (reason : Reason)
-        → ComesTo StepsTo (Some bytes) old new (statuses.Unread (unreads.NotAccepted line reason)) → IsRefused bytes line reason }
+        → ComesTo StepsTo (Some bytes) old new (statuses.Unread (unreads.NotAccepted line reason)) → IsRefusedIn Runs bytes line reason }
     ensures with_races { (bytes : List ℕ) (old new : Option (List ℕ)) (line : ℕ) (reason : Reason)
         → RacesTo (Some bytes) old new (statuses.Unread (unreads.NotAccepted line reason)) → IsRefusedIn Races bytes line reason }
 {}
@@ -68,12 +68,12 @@ pub fn a_file_is_read_to_its_end()
 /// A run with threads whose report is written, or was begun, comes from a job for each worker of the workload that the file is
 /// read as.
 pub fn a_run_with_threads_has_a_job_for_each_worker()
-    ensures ended { (bytes : List ℕ) (plan : Plan) (ran ran_now : ℕ) (old new : Option (List ℕ)) (ending : Ending) → Reads bytes plan
+    ensures ended { (bytes : List ℕ) (plan : Plan) (ran ran_now : ℕ) (old new : Option (List ℕ)) (ending : Ending) → ReadsIn Runs bytes plan
         → ComesTo (RunsInJobs ran ran_now) (Some bytes) old new (statuses.Ended ending) → RoseBy plan.workers ran ran_now }
-    ensures begun { (bytes : List ℕ) (plan : Plan) (ran ran_now : ℕ) (old new : Option (List ℕ)) → Reads bytes plan
+    ensures begun { (bytes : List ℕ) (plan : Plan) (ran ran_now : ℕ) (old new : Option (List ℕ)) → ReadsIn Runs bytes plan
         → ComesTo (RunsInJobs ran ran_now) (Some bytes) old new (statuses.Failed faults.CannotWrite) → RoseBy plan.workers ran ran_now }
 {
-    one_reading();
+    run_texts_are_read_or_refused();
 }
 
 /// A made workload is always run to its end, unless a fault comes: its five lines are written, or a first part of them where a

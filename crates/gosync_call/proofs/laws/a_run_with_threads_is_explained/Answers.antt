@@ -3,7 +3,7 @@ use Rattle.sync_outside.specs.Bytes.{AppendsFront}
 use Rattle.script_calls.specs.declared.outcome.Outcome.{Outcome}
 use Rattle.script_calls.specs.declared.outcome.Outcome.TheVariants as outcomes
 use Rattle.workload.specs.Plan.{Plan}
-use Rattle.workload.specs.declared.keyword.Dialect.TheVariants.{Plain}
+use Rattle.workload.specs.declared.keyword.Dialect.TheVariants.{Runs}
 use Rattle.run_record.specs.Explains.{Explains}
 use Rattle.run_record.specs.InOneOrder.{InOneOrder}
 use Rattle.run_record.specs.Lines.{never}
@@ -16,7 +16,7 @@ use Rattle.gosync_call.proofs.Runs.{done_left, misused_left, plan_is}
 use Rattle.gosync_call.proofs.laws.a_run_with_threads_is_explained.Goals as goal
 
 pub returns-clause-told : goal.returns-clause-told
-returns-clause-told c bytes plan old new ending reads comes = subst (λ (p : Plan). EndsWithReport RunsTo p old new ending) (plan_is Plain bytes plan (Some bytes) c.one_reading.ensures comes.0 refl reads comes.1) comes.2
+returns-clause-told c bytes plan old new ending reads comes = subst (λ (p : Plan). EndsWithReport RunsTo p old new ending) (plan_is Runs bytes plan (Some bytes) c.run_texts_are_read_or_refused.ensures.one comes.0 refl reads comes.1) comes.2
 
 pub returns-clause-done : goal.returns-clause-done
 returns-clause-done c told old new comes =
@@ -43,4 +43,4 @@ pub returns-clause-failed : goal.returns-clause-failed
 returns-clause-failed c bytes plan old new reads comes =
     let failed = comes.2 in
     subst (λ (p : Plan). (outcome : Outcome) × (r : Record) × Explains p outcome r × InOneOrder r × AppendsFront old new (report_text p outcome))
-    (plan_is Plain bytes plan (Some bytes) c.one_reading.ensures comes.0 refl reads comes.1) (failed.0, failed.1.0, failed.1.1, failed.1.2, failed.2)
+    (plan_is Runs bytes plan (Some bytes) c.run_texts_are_read_or_refused.ensures.one comes.0 refl reads comes.1) (failed.0, failed.1.0, failed.1.1, failed.1.2, failed.2)

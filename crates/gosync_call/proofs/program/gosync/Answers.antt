@@ -32,7 +32,7 @@ returns-in-Ended-clause-steps g c file bytes plan asks is reads no_read no_write
     completes_report old new bytes plan told
     (ReadFailed (g.S.Sources.open_faults c.args.src.now file) (g.S.Sources.open_faults c.front.new.src file) (g.S.Sources.read_faults c.args.src.now) (g.S.Sources.read_faults c.front.new.src))
     (Rose (g.O.Sink.faults c.args.out.now) (g.O.Sink.faults c.front.new.out)) ⊥
-    StepsTo c.one_reading.ensures c.in-Ended.status (mode_comes modes.Step told old new c.in-Ended.status (c.in-Ended.ensures.one_thread modes.Step file asks (λ e. cc))) is reads
+    StepsTo c.run_texts_are_read_or_refused.ensures.one c.in-Ended.status (mode_comes modes.Step told old new c.in-Ended.status (c.in-Ended.ensures.one_thread modes.Step file asks (λ e. cc))) is reads
     (λ e. c.in-Ended.ensures.cannot_read modes.Step file asks (ap (λ (s : Status). fronts.Ended s) e))
     (λ e. c.in-Ended.ensures.cannot_write (ap (λ (s : Status). fronts.Ended s) e))
     (λ e. c.in-Ended.ensures.started (ap (λ (s : Status). fronts.Ended s) e))
@@ -101,7 +101,7 @@ returns-in-Ended-clause-runs g c file bytes plan asks is reads no_read no_write 
     completes_report old new bytes plan told
     (ReadFailed (g.S.Sources.open_faults c.args.src.now file) (g.S.Sources.open_faults c.front.new.src file) (g.S.Sources.read_faults c.args.src.now) (g.S.Sources.read_faults c.front.new.src))
     (Rose (g.O.Sink.faults c.args.out.now) (g.O.Sink.faults c.front.new.out)) ⊥
-    RunsTo c.one_reading.ensures c.in-Ended.status
+    RunsTo c.run_texts_are_read_or_refused.ensures.one c.in-Ended.status
     (front_comes RunsTo told old new c.in-Ended.status (c.in-Ended.ensures.run file asks) (c.in-Ended.ensures.unwritten (λ mode other also. same_mode (map string_bytes c.args.words.now) modes.Run mode file other asks also) (λ name also. no_run_to_check (map string_bytes c.args.words.now) modes.Run file name asks also)).0)
     is reads
     (λ e. c.in-Ended.ensures.cannot_read modes.Run file asks (ap (λ (s : Status). fronts.Ended s) e))
@@ -139,7 +139,7 @@ returns-in-Ok-clause-runs g c file bytes plan asks is reads no_read no_write no_
     let comes = ended_run RunsTo told old mid new c.in-Run.workload c.in-Ok.ending c.say_run.result c.say_run.ensures.status (is_read told c.in-Run.workload (c.in-Run.ensures.run file asks))
     (c.in-Run.ensures.unwritten (λ mode other also. same_mode (map string_bytes c.args.words.now) modes.Run mode file other asks also) (λ name also. no_run_to_check (map string_bytes c.args.words.now) modes.Run file name asks also)).0
     (ends_by_record c.in-Run.workload mid new (g.P.Spawner.ran c.args.spawner.now) (g.P.Spawner.ran c.run_by_threads.new.spawner) c.in-Ok.ending c.in-Ok.ensures.ran) in
-    completes_report old new bytes plan told ⊥ ⊥ ⊥ RunsTo c.one_reading.ensures c.say_run.result comes is reads
+    completes_report old new bytes plan told ⊥ ⊥ ⊥ RunsTo c.run_texts_are_read_or_refused.ensures.one c.say_run.result comes is reads
     (λ e. ended_no_unread c.in-Ok.ending unreads.CannotRead (sym c.say_run.ensures.status ∙ e))
     (λ e. ended_no_failed c.in-Ok.ending faults.CannotWrite (sym c.say_run.ensures.status ∙ e))
     (λ e. ended_no_failed c.in-Ok.ending faults.CannotStart (sym c.say_run.ensures.status ∙ e))
@@ -176,7 +176,7 @@ returns-in-Run-clause-runs g c file bytes plan asks is reads no_read no_write no
     let comes = failed_run RunsTo told old mid new c.in-Run.workload c.in-Err.fault c.say_run-in-Err.result c.say_run-in-Err.ensures.status (is_read told c.in-Run.workload (c.in-Run.ensures.run file asks)) silent.0
     (fails_by_record c.in-Run.workload mid new (g.P.Spawner.ran c.args.spawner.now) (g.P.Spawner.ran c.run_by_threads.new.spawner) c.in-Err.fault c.in-Err.ensures.ran) in
     completes_report old new bytes plan told ⊥ (Rose (g.O.Sink.faults c.args.out.now) (g.O.Sink.faults c.run_by_threads.new.out)) (Rose (g.P.Spawner.faults c.args.spawner.now) (g.P.Spawner.faults c.run_by_threads.new.spawner))
-    RunsTo c.one_reading.ensures c.say_run-in-Err.result comes is reads
+    RunsTo c.run_texts_are_read_or_refused.ensures.one c.say_run-in-Err.result comes is reads
     (λ e. failed_no_unread c.in-Err.fault unreads.CannotRead (status ∙ e))
     (λ e. subst (λ (n : ℕ). Rose n (g.O.Sink.faults c.run_by_threads.new.out)) silent.1 (c.in-Err.ensures.cannot_write (ap err_of (same_fault c.in-Err.fault faults.CannotWrite (status ∙ e)))))
     (λ e. c.in-Err.ensures.cannot_start (ap err_of (same_fault c.in-Err.fault faults.CannotStart (status ∙ e))))

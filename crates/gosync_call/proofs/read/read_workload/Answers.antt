@@ -14,4 +14,4 @@ returns-in-Err-Refused-clause-read g c =
     let dialect = c.args.dialect in
     let fault = subst (IsFaultIn dialect c.deref.result.now) c.in-Err-Refused.field-0-is c.in-Err-Refused.ensures.refused in
     let refused = subst (λ (b : List ℕ). IsRefusedIn dialect b c.in-Err-Refused.line c.in-Err-Refused.reason) c.deref.ensures.value fault in
-    whole_refused dialect _ c.in-Ok.bytes.items _ _ (read_or_refused dialect c.read_or_refused.ensures c.race_texts_are_read_or_refused.ensures.apart) c.in-Ok.ensures.bytes refused
+    whole_refused dialect _ c.in-Ok.bytes.items _ _ (read_or_refused dialect c.read_or_refused.ensures c.run_texts_are_read_or_refused.ensures.apart c.race_texts_are_read_or_refused.ensures.apart) c.in-Ok.ensures.bytes refused

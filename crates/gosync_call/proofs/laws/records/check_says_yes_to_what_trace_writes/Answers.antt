@@ -2,7 +2,7 @@ use Rattle.std.proofs.Common.{◌≡◌, ℕ, true, false, List, Some, refl, sym
 use Rattle.std.proofs.lemmas.Option.{same_Some}
 use Rattle.script_calls.specs.declared.outcome.Outcome.TheVariants as outcomes
 use Rattle.script_calls.specs.declared.outcome.Report.{Report}
-use Rattle.workload.specs.Dialect.{has_variables}
+use Rattle.workload.specs.Dialect.{has_unrecorded}
 use Rattle.workload.specs.Plan.{Plan}
 use Rattle.workload.specs.Readable.{IsReadable}
 use Rattle.record_clauses.specs.declared.clause.Verdict.TheVariants.{Yes}
@@ -15,7 +15,7 @@ use Rattle.gosync_call.specs.Checks.{IsJudged}
 use Rattle.gosync_call.proofs.ReportEnded.{report_joined}
 use Rattle.gosync_call.proofs.laws.records.check_says_yes_to_what_trace_writes.Goals as goal
 
-module _ (c : goal.After-the_text_of_a_run_tells_its_record) (plan : Plan) (left : Report) (readable : IsReadable plan) (plain : has_variables plan ≡ false) (is : IsDoneWithin plan true left) where
+module _ (c : goal.After-the_text_of_a_run_tells_its_record) (plan : Plan) (left : Report) (readable : IsReadable plan) (plain : has_unrecorded plan ≡ false) (is : IsDoneWithin plan true left) where
   told : IsTold (done_text plan left) (told_done plan left)
   told = c.the_text_of_a_run_tells_its_record.ensures plan left readable plain is
 
